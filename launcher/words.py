@@ -24,11 +24,12 @@ COMMANDS: dict[str, tuple[list[str], dict[str, tuple[int, int] | None]]] = {
     "route": (["MACHINE", "SRC", "DST"], {"reply": None, "explain": None}),
     "channels": (["MACHINE"], {"explain": None}),
     "check": (["REPORT"], {"explain": None}),
-    "network": (["NETWORK"], {"explain": None}),
+    "network": (["NETWORK"], {"run": None, "replay": WORD, "depth": (1, 8), "explain": None}),
     "linearize": (["TRACE"], {"configurations": (1, 4294967295), "report": None, "explain": None}),
     "model": (["LOG"], {"model": WORD, "order": None, "explain": None}),
 }
 REQUIRED = {"draw": ["seed"]}  # the options that have to be given
+APART = {"network": {"run", "replay"}}  # the options that don't stand beside each other
 TILES = (0, 4294967295)
 FILES = ("MACHINE", "SCRIPT", "STEPS", "REPORT", "NETWORK", "TRACE", "LOG")
 TRY = "\n\nFor more information, try '--help'.\n"
@@ -204,6 +205,8 @@ def command(name: str, rest: list[str]) -> Answer | Job:
         if needed[len(found)] not in FILES:
             number(word, f"<{needed[len(found)]}>", TILES)
         found.append(at - 1)
+    if name in APART and APART[name] <= set(given):
+        raise Unclear
     missing = [f"--{it} <{it}>" for it in REQUIRED.get(name, []) if it not in given]
     missing += [f"<{it}>" for it in needed[len(found) :]]
     if missing:

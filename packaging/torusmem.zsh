@@ -32,11 +32,12 @@ _torusmem() {
   run) options=(--workers --turns) ;;
   route) options=(--reply) ;;
   linearize) options=(--configurations --report) ;;
+  network) options=(--run --replay --depth) ;;
   model) options=(--model --order) ;;
   esac
   case $words[CURRENT-1] in
   --model) compadd -- coherent fenced pso tso sc; return ;;
-  --rounds | --workers | --turns | --configurations | --seed | --steps) return ;;
+  --rounds | --workers | --turns | --configurations | --seed | --steps | --depth) return ;;
   esac
   if [[ $words[CURRENT] == -* ]]; then
     compadd -- $options --explain --help

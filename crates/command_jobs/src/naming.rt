@@ -37,11 +37,13 @@ pub fn names<'a>(job: &Job<'a>) -> Names<'a> {
             script,
             ..
         } => (machine, Some(script), None),
+        Job::Replay { network, run, .. } => (network, Some(run), None),
         Job::Live { machine: name }
         | Job::Route { machine: name, .. }
         | Job::Channels { machine: name }
         | Job::Check { report: name }
         | Job::Network { network: name }
+        | Job::LockUp { network: name, .. }
         | Job::Linearize { trace: name, .. }
         | Job::Report { trace: name, .. }
         | Job::Model { log: name, .. } => (name, None, None),

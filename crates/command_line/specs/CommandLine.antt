@@ -70,6 +70,15 @@ steps_option = long_number (codes "steps")
 abbrev pub word_option : Text → Text → Rule
 word_option name usual = record (new_rule name) { long = Some name; defaults = usual ∷ [] }
 
+-- the option of this name, any word; it has no default
+abbrev pub word_without_usual : Text → Rule
+word_without_usual name = record (new_rule name) { long = Some name }
+
+-- the option for how many flits a channel of a run holds, a number from 1 to 8, which is 1 where it
+-- isn't given
+abbrev pub depth_option : Rule
+depth_option = count (codes "depth") (up_to (pos 8)) (codes "1")
+
 -- the option to say more of what is wrong, of each subcommand
 abbrev pub explain : Rule
 explain = flag_option (codes "explain")
@@ -118,9 +127,11 @@ channels_app = with_rule (with_rule (new_app (codes "channels")) (needed (codes 
 abbrev pub check_app : App
 check_app = with_rule (with_rule (new_app (codes "check")) (needed (codes "REPORT"))) explain
 
--- `network NETWORK [--explain]`
+-- `network NETWORK [--run] [--replay RUN] [--depth D] [--explain]`
 abbrev pub network_app : App
-network_app = with_rule (with_rule (new_app (codes "network")) (needed (codes "NETWORK"))) explain
+network_app = with_rule (with_rule (with_rule (with_rule (with_rule (new_app (codes "network"))
+    (needed (codes "NETWORK"))) (flag_option (codes "run")))
+    (word_without_usual (codes "replay"))) depth_option) explain
 
 -- `linearize TRACE [--configurations N] [--report] [--explain]`
 abbrev pub linearize_app : App

@@ -1,5 +1,5 @@
 -- What a job says of the values that the words of its subcommand give (this project's own format).
-use Rattle.std.specs.Prelude.{◌≡◌, ℕ, ◌≤◌, Bool, true, false, List, Option, Some, codes, option_map}
+use Rattle.std.specs.Prelude.{◌≡◌, ℕ, ◌≤◌, Bool, true, false, List, Option, Some, None, codes, option_map}
 use Rattle.std.specs.Str.Parse.{digits_value, without_leading_plus}
 use Rattle.clap.specs.Words.{Row, Text, first_of, one_of}
 use Rattle.torus.specs.declared.shape.Class.{Class}
@@ -7,7 +7,8 @@ use Rattle.torus.specs.declared.shape.Class.TheVariants.{Request, Reply}
 use Rattle.command_line.specs.declared.command.Job.{Job}
 use Rattle.command_line.specs.declared.command.Job.TheVariants.{Steps, Round, Run, Live, Route}
 use Rattle.command_line.specs.declared.command.Job.TheVariants.{Channels, Check}
-use Rattle.command_line.specs.declared.command.Job.TheVariants.{Network, Linearize, Report, Model}
+use Rattle.command_line.specs.declared.command.Job.TheVariants.{Network, LockUp, Replay}
+use Rattle.command_line.specs.declared.command.Job.TheVariants.{Linearize, Report, Model}
 use Rattle.command_line.specs.declared.command.Job.TheVariants.{Schedule, Draw, Moves}
 
 -- the values of a subcommand's arguments
@@ -30,7 +31,7 @@ class_word Request = flag_text false
 class_word Reply = flag_text true
 
 -- the subcommand of a job: `steps` both of the report of a run, and of its moves; `linearize` both
--- of the lines of an order, and of its report
+-- of the lines of an order, and of its report; `network` of a verdict, a run and a replay
 abbrev pub name_of : Job → Text
 name_of (Steps machine script steps) = codes "steps"
 name_of (Round machine script rounds) = codes "round"
@@ -40,6 +41,8 @@ name_of (Route machine src dst class) = codes "route"
 name_of (Channels machine) = codes "channels"
 name_of (Check report) = codes "check"
 name_of (Network network) = codes "network"
+name_of (LockUp network depth) = codes "network"
+name_of (Replay network run depth) = codes "network"
 name_of (Linearize trace configurations) = codes "linearize"
 name_of (Report trace configurations) = codes "linearize"
 name_of (Model log model order) = codes "model"
@@ -70,7 +73,14 @@ AreOf (Route machine src dst class) rows = (first_of (codes "MACHINE") rows ≡ 
     × (one_of (codes "reply") rows ≡ Some (class_word class))
 AreOf (Channels machine) rows = first_of (codes "MACHINE") rows ≡ Some machine.now
 AreOf (Check report) rows = first_of (codes "REPORT") rows ≡ Some report.now
-AreOf (Network network) rows = first_of (codes "NETWORK") rows ≡ Some network.now
+AreOf (Network network) rows = (first_of (codes "NETWORK") rows ≡ Some network.now)
+    × IsFlag (codes "run") false rows × (first_of (codes "replay") rows ≡ None)
+AreOf (LockUp network depth) rows = (first_of (codes "NETWORK") rows ≡ Some network.now)
+    × IsFlag (codes "run") true rows × (first_of (codes "replay") rows ≡ None)
+    × (number_in (codes "depth") rows ≡ Some depth)
+AreOf (Replay network run depth) rows = (first_of (codes "NETWORK") rows ≡ Some network.now)
+    × IsFlag (codes "run") false rows × (first_of (codes "replay") rows ≡ Some run.now)
+    × (number_in (codes "depth") rows ≡ Some depth)
 AreOf (Linearize trace configurations) rows =
     (first_of (codes "TRACE") rows ≡ Some trace.now)
     × (number_in (codes "configurations") rows ≡ Some configurations)
@@ -94,11 +104,13 @@ AreOf (Moves machine script steps) rows = (first_of (codes "MACHINE") rows ≡ S
     × IsFlag (codes "moves") true rows
 
 -- the numbers of a job are within their limits: 1 to 1000000 rounds, 1 to 16 workers, 1 to
--- 1000000000 turns, at least one configuration
+-- 1000000000 turns, a depth of 1 to 8, at least one configuration
 abbrev pub AreJobLimits : Job → Type 0
 AreJobLimits (Round machine script rounds) = (1 ≤ rounds) × (rounds ≤ 1000000)
 AreJobLimits (Run machine script workers turns) =
     ((1 ≤ workers) × (workers ≤ 16)) × ((1 ≤ turns) × (turns ≤ 1000000000))
+AreJobLimits (LockUp network depth) = (1 ≤ depth) × (depth ≤ 8)
+AreJobLimits (Replay network run depth) = (1 ≤ depth) × (depth ≤ 8)
 AreJobLimits (Linearize trace configurations) = 1 ≤ configurations
 AreJobLimits (Report trace configurations) = 1 ≤ configurations
 AreJobLimits (Schedule machine script rounds) = (1 ≤ rounds) × (rounds ≤ 1000000)

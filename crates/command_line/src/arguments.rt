@@ -2,7 +2,7 @@
 ghost use Rattle.std.specs.Prelude.{◌≡◌, false};
 ghost use Rattle.clap.specs.Words.{rule_of};
 ghost use Rattle.command_line.specs.CommandLine.{count, flag_option, long_number, needed, seed, tile};
-ghost use Rattle.command_line.specs.CommandLine.{word_option};
+ghost use Rattle.command_line.specs.CommandLine.{word_option, word_without_usual};
 
 use clap::builder::ValueParser;
 use clap::{Arg, ArgAction};
@@ -81,6 +81,14 @@ pub(crate) fn word_option<'a>(
         .long(name)
         .default_value(usual)
         .help(help)
+}
+
+/// An option of this name, any word.
+pub(crate) fn word_if_given<'a>(alloc: Global, name: &'a str, help: &'a str) -> Arg<'a>
+    ensures rule { rule_of result ≡ word_without_usual name.entry.now }
+    ensures local { result.global ≡ false }
+{
+    Arg::new(alloc, name).long(name).help(help)
 }
 
 /// The option for the seed of a drawn schedule, which has to be given.

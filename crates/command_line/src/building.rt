@@ -3,7 +3,9 @@ ghost use Rattle.command_line.specs.CommandLine.{routing_app, running_app, torus
 ghost use Rattle.command_line.specs.Making.{IsCommand};
 
 use crate::making::{Making, program, with_subcommand};
-use crate::subcommands::{draw, in_rounds, linearize, model, of_one_file, route, run, steps};
+use crate::subcommands::{
+    draw, in_rounds, linearize, model, network, of_one_file, route, run, steps,
+};
 use std::alloc::Global;
 
 /// The program with the subcommands that run scripts and print reports.
@@ -43,15 +45,7 @@ pub(crate) fn command<'a>(alloc: Global) -> Making<'a>
     let about = "Checks a report";
     let check = of_one_file(alloc, "check", about, "REPORT", "The file with the report");
     let command = with_subcommand(command, check);
-    let about = "Judges a network: rising channel numbers, a pair without a route, or a cycle";
-    let network = of_one_file(
-        alloc,
-        "network",
-        about,
-        "NETWORK",
-        "The file with the network",
-    );
-    let command = with_subcommand(command, network);
+    let command = with_subcommand(command, network(alloc));
     let command = with_subcommand(command, linearize(alloc));
     with_subcommand(command, model(alloc))
 }

@@ -60,6 +60,17 @@ pub enum Job<'a> {
     Network {
         network: &'a str,
     },
+    /// Print the run by which a network locks up whose channels hold so many flits.
+    LockUp {
+        network: &'a str,
+        depth: u32,
+    },
+    /// Replay a run over a network whose channels hold so many flits.
+    Replay {
+        network: &'a str,
+        run: &'a str,
+        depth: u32,
+    },
     /// Find the one order of a trace, with so many configurations of a word at once at most, and
     /// print it.
     Linearize {
@@ -138,9 +149,11 @@ pub fn read_request<'a, S: AsStr>(alloc: Global, words: &'a [S]) -> Result<Reque
     }
 }
 
-/// The error of a value that is missing; or that memory ran out.
+/// The error of options that exclude one another, or of a value that is missing; or that memory ran
+/// out.
 fn missing(command: &mut Command<'_>) -> Error {
-    match command.error(ErrorKind::InvalidValue, "a value is missing") {
+    let text = "--run stands beside --replay, or a value is missing";
+    match command.error(ErrorKind::InvalidValue, text) {
         Ok(error) => error,
         Err(refused) => Error::from(refused),
     }

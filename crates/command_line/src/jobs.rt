@@ -108,12 +108,23 @@ pub(crate) fn check_job<'a>(given: &ArgMatches<'a>) -> Option<Job<'a>>
     })
 }
 
+/// The network of `network`, of which the verdict or a run is asked for, or over which a run is
+/// replayed; none where both are asked for.
 pub(crate) fn network_job<'a>(given: &ArgMatches<'a>) -> Option<Job<'a>>
     ensures { IfSome result (NamesJob (codes "network") (rows_of (found_of given.now))) }
 {
-    Some(Job::Network {
-        network: word(given, "NETWORK")?,
-    })
+    let network = word(given, "NETWORK")?;
+    let depth = number_within(given, "depth", 8)?;
+    match (flag_of(given, "run")?, word(given, "replay")) {
+        (true, Some(_)) => None,
+        (true, None) => Some(Job::LockUp { network, depth }),
+        (false, Some(run)) => Some(Job::Replay {
+            network,
+            run,
+            depth,
+        }),
+        (false, None) => Some(Job::Network { network }),
+    }
 }
 
 /// The trace of `linearize`, of which the lines of an order or its report are asked for.

@@ -7,7 +7,7 @@ ghost use Rattle.command_line.specs.CommandLine.{round_app, rounds, route_app, r
 ghost use Rattle.command_line.specs.CommandLine.{schedule_app, steps_app};
 ghost use Rattle.command_line.specs.Making.{IsCommand};
 
-use crate::arguments::{count, file, flag, long_number, seed, tile, word_option};
+use crate::arguments::{count, file, flag, long_number, seed, tile, word_if_given, word_option};
 use crate::making::{Making, loading, named, with_argument, with_explain};
 use clap::builder::ValueParser;
 use std::alloc::Global;
@@ -86,6 +86,22 @@ pub(crate) fn of_one_file<'a>(
 {
     let command = named(alloc, name, about);
     let command = with_argument(command, file(alloc, id, help));
+    with_explain(alloc, command)
+}
+
+pub(crate) fn network<'a>(alloc: Global) -> Making<'a>
+    ensures { IsCommand network_app result }
+{
+    let about = "Judges a network: rising channel numbers, a pair without a route, or a cycle";
+    let command = named(alloc, "network", about);
+    let command = with_argument(command, file(alloc, "NETWORK", "The file with the network"));
+    let help = "Prints the run by which it locks up, move by move";
+    let command = with_argument(command, flag(alloc, "run", help));
+    let help = "Replays the run of this file, and prints how it ends";
+    let command = with_argument(command, word_if_given(alloc, "replay", help));
+    let help = "How many flits a channel of a run holds, 1 to 8";
+    let numbers = ValueParser::Signed(1, 8);
+    let command = with_argument(command, count(alloc, "depth", numbers, "1", help));
     with_explain(alloc, command)
 }
 

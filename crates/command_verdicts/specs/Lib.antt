@@ -1,4 +1,5 @@
 pub mod Printed
+pub mod PrintedRuns
 pub mod Judging
 pub mod Modelled
 pub mod Reporting

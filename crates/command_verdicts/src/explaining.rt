@@ -1,10 +1,13 @@
-//! The lines on the texts of networks, traces and logs.
+//! The lines on the texts of networks, runs, traces and logs.
+
+ghost use Rattle.std.specs.Prelude.{◌≤◌};
 
 use error_lines::{explain_by, is_of_texts, named, told};
 use model_answer::LogSentence;
 use model_text::read_log;
-use network_text::network_sentence;
-use program_fault::ProgramFault;
+use network_run::{RunSentence, replay_text};
+use network_text::{network_answer, network_sentence, read_network};
+use program_fault::{ProgramFault, Texts};
 use trace_why::{no_order_sentence, trace_sentence};
 
 /// Says why the text of a network has the fault that the command answers, where that can be told.
@@ -19,6 +22,47 @@ pub fn explain_network<R: Eprint + AllocGlobal>(
             rt,
             fault,
             network_sentence(rt.alloc(), named(name, network)),
+        );
+    }
+}
+
+/// Says why the texts of a network and of a run have the fault that the command answers, where that
+/// can be told: the text of the run only where that of the network has none.
+pub fn explain_replay<R: Eprint + AllocGlobal>(
+    rt: &R,
+    names: (&str, &str),
+    texts: &Texts,
+    depth: u64,
+    fault: &ProgramFault,
+)
+    requires { depth ≤ 8 }
+{
+    let (network, run) = (texts.first.as_slice(), texts.second.as_slice());
+    match read_network(rt.alloc(), network) {
+        Err(_) => explain_network(rt, names.0, network, fault),
+        Ok(network) => {
+            if is_of_texts(fault) {
+                let sentence = match replay_text(rt.alloc(), &network, run, depth) {
+                    Ok(_) => None,
+                    Err(refusal) => Some(RunSentence {
+                        name: names.1,
+                        text: run,
+                        refusal,
+                    }),
+                };
+                explain_by(rt, fault, sentence);
+            }
+        }
+    }
+}
+
+/// Says what the run uses by which a network locks up, where its verdict is that it does.
+pub fn explain_lock_up<R: Eprint + AllocGlobal>(rt: &R, network: &[u8]) {
+    if let Ok(answer) = network_answer(rt.alloc(), network)
+        && answer.text.ends_with(b"locks up\n")
+    {
+        let _ = eprintln!(rt;
+            "the run that locks up has packets of one flit, which senders put whenever they like, also on channels that answer"
         );
     }
 }

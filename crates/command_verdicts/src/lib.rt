@@ -6,12 +6,16 @@ pub mod explaining;
 pub mod model;
 pub mod network;
 pub mod report;
+pub mod runs;
 pub mod told;
 
 pub use command::{Judged, linearize_text};
-pub use explaining::{explain_log, explain_network, explain_no_order, explain_trace};
+pub use explaining::{
+    explain_lock_up, explain_log, explain_network, explain_no_order, explain_replay, explain_trace,
+};
 pub use model::{Modelled, model_text};
 pub use network::network_text;
 pub use report::report_text;
+pub use runs::{lock_up_text, replay_network_text};
 pub use told::{model_status, status, verdict_text};
 pub use trace_answer::LineText;

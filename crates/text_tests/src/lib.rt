@@ -18,6 +18,8 @@ mod network_names;
 #[cfg(test)]
 mod network_sentences;
 #[cfg(test)]
+mod replay_sentences;
+#[cfg(test)]
 mod report_sentences;
 #[cfg(test)]
 mod run_sentences;

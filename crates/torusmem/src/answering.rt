@@ -4,7 +4,10 @@ ghost use Rattle.command_line.specs.Job.{AreJobLimits};
 use crate::running::by_workers;
 use command_jobs::Ended;
 use command_line::Job;
-use command_verdicts::{Judged, Modelled, linearize_text, model_text, network_text, report_text};
+use command_verdicts::{
+    Judged, Modelled, linearize_text, lock_up_text, model_text, network_text, replay_network_text,
+    report_text,
+};
 use model_answer::{MemoryModel, Options};
 use program_fault::{ProgramFault, Texts};
 use report_lines::Out;
@@ -22,8 +25,9 @@ pub(crate) enum Outcome {
     Talked,
     /// What became of a job with scripts.
     Ran(Ended),
-    /// Whether the numbers of a network's channels rise.
-    Rising(bool),
+    /// Whether nothing is wrong with a network: the numbers of its channels rise, or a run that is
+    /// replayed doesn't end locked.
+    Sound(bool),
     /// What a trace is judged to be, with so many configurations at most.
     Judged(Judged, u32),
     /// What a log is judged to be, of which this model decides the status.
@@ -44,7 +48,12 @@ pub(crate) fn answer<R: Eprint + Clock + AllocGlobal + Threads + Wait + Sync, W:
     let alloc = rt.alloc();
     let first = texts.first.as_slice();
     match *job {
-        Job::Network { .. } => rising(network_text(alloc, first, out)),
+        Job::Network { .. } => sound(network_text(alloc, first, out)),
+        Job::LockUp { depth, .. } => sound(lock_up_text(alloc, first, u64::from(depth), out)),
+        Job::Replay { depth, .. } => {
+            let run = texts.second.as_slice();
+            sound(replay_network_text(alloc, first, run, u64::from(depth), out))
+        }
         Job::Linearize { configurations, .. } => {
             let judged = linearize_text(alloc, first, u64::from(configurations), out);
             judged_with(judged, configurations)
@@ -64,9 +73,9 @@ pub(crate) fn answer<R: Eprint + Clock + AllocGlobal + Threads + Wait + Sync, W:
     }
 }
 
-/// The answer of a job that judges a network.
-fn rising(rises: Result<bool, ProgramFault>) -> Result<Outcome, ProgramFault> {
-    Ok(Outcome::Rising(rises?))
+/// The answer of a job that judges a network, or replays a run over one.
+fn sound(is_sound: Result<bool, ProgramFault>) -> Result<Outcome, ProgramFault> {
+    Ok(Outcome::Sound(is_sound?))
 }
 
 /// The answer of a job that judges a trace, with so many configurations at most.

@@ -1,11 +1,13 @@
 //! What standard error is told of an answer or a fault, and the exit status of an answer.
 
+ghost use Rattle.command_line.specs.Job.{AreJobLimits};
+
 use crate::answering::Outcome;
 use command_jobs::{kind, names};
 use command_line::Job;
 use command_verdicts::{
-    Judged, Modelled, explain_log, explain_network, explain_no_order, explain_trace, model_status,
-    status, verdict_text,
+    Judged, Modelled, explain_lock_up, explain_log, explain_network, explain_no_order,
+    explain_replay, explain_trace, model_status, status, verdict_text,
 };
 use error_lines::explain;
 use model_answer::WrongSentence;
@@ -17,7 +19,7 @@ pub(crate) fn status_told<R: Eprint>(rt: &R, outcome: &Outcome) -> u8 {
     match *outcome {
         Outcome::Talked => 0,
         Outcome::Ran(ended) => status_of(&Ok(ended.finished)),
-        Outcome::Rising(rising) => u8::from(!rising),
+        Outcome::Sound(sound) => u8::from(!sound),
         Outcome::Judged(judged, configurations) => {
             if let Some(text) = verdict_text(judged, u64::from(configurations)) {
                 let _ = eprintln!(rt; "{text}");
@@ -34,13 +36,17 @@ pub(crate) fn status_told<R: Eprint>(rt: &R, outcome: &Outcome) -> u8 {
     }
 }
 
-/// Says why a trace has no order from a line on, where that is the answer.
+/// Says why a trace has no order from a line on, or what the run uses by which a network locks up,
+/// where that is the answer.
 pub(crate) fn explain_outcome<R: Eprint + AllocGlobal>(
     rt: &R,
     job: &Job,
     texts: &Texts,
     outcome: &Outcome,
 ) {
+    if let (Job::Network { .. } | Job::LockUp { .. }, Outcome::Sound(false)) = (*job, *outcome) {
+        explain_lock_up(rt, &texts.first);
+    }
     if let (Job::Linearize { trace, .. }, Outcome::Judged(judged, configurations)) = (
         *job, *outcome,
     )
@@ -56,9 +62,18 @@ pub(crate) fn explain_fault<R: Eprint + AllocGlobal>(
     job: &Job,
     texts: &Texts,
     fault: &ProgramFault,
-) {
+)
+    requires { AreJobLimits job.now }
+{
     match *job {
-        Job::Network { network } => explain_network(rt, network, &texts.first, fault),
+        Job::Network { network } | Job::LockUp { network, .. } => {
+            explain_network(rt, network, &texts.first, fault);
+        }
+        Job::Replay {
+            network,
+            run,
+            depth,
+        } => explain_replay(rt, (network, run), texts, u64::from(depth), fault),
         Job::Model { log, .. } => explain_log(rt, log, &texts.first, fault),
         Job::Linearize { trace, .. } | Job::Report { trace, .. } => {
             explain_trace(rt, trace, &texts.first, fault);

@@ -1,0 +1,54 @@
+-- What the commands print that ask for a run of a network, or replay one (this project's own format).
+use Rattle.std.specs.Prelude.{◌≡◌, ◌⊎◌, List, ℕ, Bool, Result, Ok, Err}
+use Rattle.network_judge.specs.declared.table.Verdict.{Verdict}
+use Rattle.network_judge.specs.Verdicts.{IsVerdict}
+use Rattle.network_text.specs.Network.{NetworkSpec, network_of}
+use Rattle.network_text.specs.Answer.{is_rising}
+use Rattle.network_run.specs.declared.replaying.Replayed.{Replayed}
+use Rattle.network_run.specs.Answers.{IsRunFault, is_sound}
+use Rattle.network_run.specs.Printed.{IsOfVerdict}
+use Rattle.network_run.specs.Replays.{AnswersReplay}
+use Rattle.network_run.specs.Written.{replay_line}
+use Rattle.program_fault.specs.declared.fault.ProgramFault.{ProgramFault}
+use Rattle.program_fault.specs.declared.fault.ProgramFault.TheVariants as program
+use Rattle.program_fault.specs.Done.{Does, Output}
+use Rattle.command_verdicts.specs.Printed.{IsNetworkFault}
+
+-- a text is that of a run by which the network locks up that the lines of a text give, only if there
+-- is one, and else that of its verdict; and whether the verdict's numbers rise
+pub record IsLockUpText (A : Type 0) (lines : List (List ℕ)) (depth : ℕ) (rising : Bool)
+    (text : List ℕ) : Type 0 where
+  pub network : NetworkSpec
+  pub read : network_of lines ≡ Ok network
+  pub verdict : Verdict A
+  pub holds : IsVerdict network.table network.replies verdict
+  pub is : IsOfVerdict network depth verdict text
+  pub rises : rising ≡ is_rising verdict
+
+-- the run of a network, or its verdict, was printed
+abbrev pub PrintsLockUp : (A : Type 0) → List (List ℕ) → ℕ → Output → Output
+    → Result Bool ProgramFault → Type 0
+PrintsLockUp A lines depth = Does (IsLockUpText A lines depth) (IsNetworkFault lines)
+
+-- a text is the line on a replay over the network that the lines of a text give, of the run that
+-- others give; and whether it shows nothing wrong
+pub record IsReplayText (lines run : List (List ℕ)) (depth : ℕ) (sound : Bool) (text : List ℕ)
+    : Type 0 where
+  pub network : NetworkSpec
+  pub read : network_of lines ≡ Ok network
+  pub replay : Replayed
+  pub answers : AnswersReplay network depth run (Ok replay)
+  pub is : text ≡ replay_line replay
+  pub sounds : sound ≡ is_sound replay
+
+-- the first fault of the network text, or else of the run text
+abbrev pub IsReplayFault : List (List ℕ) → List (List ℕ) → ℕ → ProgramFault → Type 0
+IsReplayFault lines run depth (program.Line found) =
+    (network_of lines ≡ Err found)
+    ⊎ ((n : NetworkSpec) × (network_of lines ≡ Ok n) × IsRunFault n depth run found)
+IsReplayFault lines run depth _ = ⊥
+
+-- the line on a replay was printed
+abbrev pub PrintsReplay : List (List ℕ) → List (List ℕ) → ℕ → Output → Output
+    → Result Bool ProgramFault → Type 0
+PrintsReplay lines run depth = Does (IsReplayText lines run depth) (IsReplayFault lines run depth)

@@ -1,0 +1,56 @@
+//! Runs over networks, from texts to an output.
+
+ghost use Rattle.std.specs.Prelude.{◌≤◌};
+ghost use Rattle.std.specs.Str.Lines.{lines};
+ghost use Rattle.program_fault.specs.Done.{output};
+ghost use Rattle.command_verdicts.specs.PrintedRuns.{PrintsLockUp, PrintsReplay};
+
+use network_run::{replay_answer, run_answer};
+use program_fault::ProgramFault;
+use report_lines::Out;
+use report_lines::output::put_all;
+use std::alloc::Allocator;
+
+/// Judges the network of a text whose channels hold so many flits, and prints the run by which it locks
+/// up; where there is none, the verdict. Answers whether the numbers of its channels rise.
+///
+/// Errors: the text's first fault, or out of memory; and nothing was written then. If the output
+/// fails, a beginning was written.
+pub fn lock_up_text<A: Allocator + Copy, W: Out>(
+    alloc: A,
+    network: &[u8],
+    depth: u64,
+    out: &mut W,
+) -> Result<bool, ProgramFault>
+    requires { depth ≤ 8 }
+    ensures { PrintsLockUp A (lines network.now) depth
+        (output (W.taken out.old) (W.failures out.old))
+        (output (W.taken out.new) (W.failures out.new)) result }
+{
+    let answer = run_answer(alloc, network, depth)?;
+    put_all(out, &answer.text)?;
+    Ok(answer.rising)
+}
+
+/// Replays a run over the network of a text whose channels hold so many flits, and prints how it ends,
+/// or the pair of the network without a route. Answers whether nothing is wrong with the network.
+///
+/// Errors: the first fault of the network's text, or else of that of the run, a move that may not be
+/// made among them; or out of memory; and nothing was written then. If the output fails, a beginning
+/// was written.
+pub fn replay_network_text<A: Allocator + Copy, W: Out>(
+    alloc: A,
+    network: &[u8],
+    run: &[u8],
+    depth: u64,
+    out: &mut W,
+) -> Result<bool, ProgramFault>
+    requires { depth ≤ 8 }
+    ensures { PrintsReplay (lines network.now) (lines run.now) depth
+        (output (W.taken out.old) (W.failures out.old))
+        (output (W.taken out.new) (W.failures out.new)) result }
+{
+    let answer = replay_answer(alloc, network, run, depth)?;
+    put_all(out, &answer.text)?;
+    Ok(answer.sound)
+}
