@@ -130,6 +130,8 @@ int sc_main(int count, char **words) try {
     initiators.emplace_back(new Initiator(sc_core::sc_gen_unique_name("initiator"), tile % 2 == 0, each, all));
     initiators.back()->socket.bind(memory.sockets[tile]);
   }
+  // Standard output is for the report alone: SystemC would say there that the simulation was stopped.
+  sc_core::sc_report_handler::set_actions("/OSCI/SystemC", sc_core::SC_INFO, sc_core::SC_DO_NOTHING);
   sc_core::sc_start();
 
   std::sort(all.olds.begin(), all.olds.end());
