@@ -6,6 +6,7 @@ from __future__ import annotations
 
 import calendar
 import functools
+import os
 import re
 from itertools import repeat
 from operator import lt
@@ -246,3 +247,16 @@ def read(text: bytes, path: str, is_strict: bool, progress: Progress) -> Calls:
     calls = histories.of_log(text, path, is_map, progress) if is_history else of_table(text, path, is_strict, progress)
     calls.settle()
     return calls
+
+
+def is_calls(path: str) -> bool:
+    """Whether a file is a table of calls and replies, or a log. What isn't a file is left unread."""
+    try:
+        if not os.path.isfile(path):
+            return False
+        with open(path, "rb") as file:
+            begin = file.read(2**16)
+    except OSError:
+        return False
+    columns = {it.strip(' "\r') for it in begin.split(b"\n", 1)[0].decode("utf-8-sig", "replace").split(",")}
+    return any(histories.is_log(begin)) or columns.issuperset(COLUMNS)

@@ -69,16 +69,26 @@ class Judge:
         return Answer([], event, found[1] == "undecided", found[3], reasons), trace
 
 
-def refused(calls: Calls, trace: Trace, said: Answer, wants_story: bool, fixed: Dict[int, str]) -> command.Refusal:
-    """The line of the table, or of the log, from which on there is no order."""
-    at = ~said.event if said.event < 0 else said.event
-    verdict = "undecided" if said.is_undecided else "not linearizable"
-    shown = trace.shown(said.event)
-    if at in calls.failed:
-        shown = shown[: shown.rindex(" ")] + " fail"
-    why = command.Refusal(f"{calls.path}, line {trace.line_of(said.event)}: {verdict} from `{shown}` on{said.more}")
+class NoOrder(command.Refusal):
+    """The line of the table, or of the log, from which on there is no order, or it isn't known."""
+
+    def __init__(self, calls: Calls, trace: Trace, said: Answer) -> None:
+        assert said.event is not None
+        self.calls, self.trace, self.event, self.reasons, self.is_undecided = calls, trace, said.event, said.reasons, said.is_undecided
+        at = ~said.event if said.event < 0 else said.event
+        self.is_failed_cas = at in calls.failed
+        shown = trace.shown(said.event)
+        if self.is_failed_cas:
+            shown = shown[: shown.rindex(" ")] + " fail"
+        verdict = "undecided" if said.is_undecided else "not linearizable"
+        super().__init__(f"{calls.path}, line {trace.line_of(said.event)}: {verdict} from `{shown}` on{said.more}")
+
+
+def refused(calls: Calls, trace: Trace, said: Answer, wants_story: bool) -> NoOrder:
+    """The same, with the story where it is wanted."""
+    why = NoOrder(calls, trace, said)
     if wants_story and not said.is_undecided:
-        why.lines = story.told(calls, trace, said.event, said.reasons, at in calls.failed)
+        why.lines = story.told(calls, trace, why.event, said.reasons, why.is_failed_cas)
     return why
 
 
@@ -88,7 +98,7 @@ def judged(judge: Judge, wants_story: bool) -> str:
     for _ in range(MOST_TRIED):
         said, trace = judge.answer(fixed, wants_story)
         if said.event is not None:
-            raise refused(calls, trace, said, wants_story, fixed)
+            raise refused(calls, trace, said, wants_story)
         stuck = unplaced(judge, trace, said.order, fixed)
         if stuck is None:
             count = len(said.order) + len(calls.failed) - len(fixed)
@@ -122,7 +132,7 @@ def other_word(judge: Judge, at: int, fixed: Dict[int, str], wants_story: bool) 
         if trace.events.index(said.event) > worst:
             worst, refusal = trace.events.index(said.event), (said, trace)
     if is_sure:
-        raise refused(judge.calls, refusal[1], refusal[0], wants_story, fixed)
+        raise refused(judge.calls, refusal[1], refusal[0], wants_story)
     return None
 
 
