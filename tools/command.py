@@ -16,7 +16,7 @@ import subprocess
 import sys
 import tempfile
 from contextlib import contextmanager
-from typing import IO, Callable, Iterable, Iterator, NoReturn, Optional
+from typing import IO, Callable, Iterable, Iterator, NoReturn, Optional, Sequence
 
 ROOT = os.path.dirname(os.path.dirname(os.path.realpath(__file__)))
 # No other text is longer, so that a device without end doesn't take the memory of the machine.
@@ -26,7 +26,9 @@ MOST_BYTES = (5 * 65536 + 3) * 128
 
 
 class Refusal(Exception):
-    """A text can't be read, or is not what it must be: the line that says so."""
+    """A text can't be read, or is not what it must be: the line that says so, and lines that say why."""
+
+    lines: Sequence[str] = ()
 
 
 class WrongWords(Exception):
@@ -79,7 +81,10 @@ def run(tool: str, work: Callable[[], str]) -> NoReturn:
     except WrongWords as wrong:
         leave(tool, 2, str(wrong))
     except Refusal as refused:
-        leave(tool, 1, str(refused))
+        say(tool, str(refused))
+        for line in refused.lines:
+            put_line(line)
+        leave(tool, 1)
     except OSError as fault:
         leave(tool, 1, str(fault))
     except MemoryError:
@@ -107,8 +112,13 @@ def put(tool: str, text: str) -> None:
 
 def say(tool: str, text: str) -> None:
     """Prints a line on standard error."""
+    put_line(f"{tool}: {text}")
+
+
+def put_line(text: str) -> None:
+    """Prints a line on standard error, without a tool's name."""
     try:
-        os.write(2, f"{tool}: {printable(text)}\n".encode("utf-8"))
+        os.write(2, f"{printable(text)}\n".encode("utf-8"))
     except OSError:
         pass
 

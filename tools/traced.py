@@ -3,12 +3,14 @@ from __future__ import annotations
 
 import os
 import re
-from dataclasses import dataclass
+from dataclasses import dataclass, field
+from html import escape
 from typing import Dict, List, Optional, Tuple
 
 import command
 import drawing
 import report
+from numbered import Names
 
 MOST = 400
 LEFT, RIGHT, LEAST_WIDTH, STEP = 116, 24, 900, 14
@@ -16,6 +18,10 @@ ROW, BAR, GAP, FONT = 28, 20, 8, 11
 RED = "#cf222e"
 # How many events are drawn before the one from which on there is no order, and behind it.
 BEFORE, BEHIND = 60, 20
+# The border of the operation at fault.
+FAULT_WIDTH = 3
+# A comment by which tools/from_csv says what is numbered.
+NAMED = re.compile("# (key|value) ([0-9]+) is (.+)")
 
 
 @dataclass
@@ -27,6 +33,7 @@ class Operation:
     index: int
     asked: str
     issued: int
+    address: int
     reply: str = ""
     answered: Optional[int] = None
     place: Optional[int] = None
@@ -49,6 +56,9 @@ class Trace:
     bad: Optional[int] = None
     why: str = ""
     pending: Tuple[int, ...] = ()
+    # The times of events, where they are known, and what keys and values are called that are numbered.
+    times: Dict[int, str] = field(default_factory=dict)
+    names: Names = field(default_factory=Names)
 
 
 def is_trace(path: str) -> bool:
@@ -69,18 +79,20 @@ def parsed(text: bytes) -> Trace:
     found, by_name, counts = Trace([], []), {}, {}  # type: Trace, Dict[Tuple[int, int], Operation], Dict[int, int]
     for number, line in enumerate(text.decode("ascii", "replace").split("\n"), 1):
         words = line.split()
+        if named := NAMED.fullmatch(line):
+            (found.names.key_names if named[1] == "key" else found.names.value_names)[named[2]] = named[3]
         if words[:1] == ["issue"]:
             processor = int(words[1])
             index = counts.get(processor, 0)
             counts[processor] = index + 1
             found.lines.append(number)
-            made = Operation(processor, index, " ".join(words[2:]), len(found.lines))
+            made = Operation(processor, index, found.names.shown_operation(" ".join(words[2:])), len(found.lines), int(words[3]))
             by_name[processor, index] = made
             found.operations.append(made)
         elif words[:1] == ["answer"]:
             found.lines.append(number)
             told = by_name[int(words[1]), int(words[2])]
-            told.reply, told.answered = words[3], len(found.lines)
+            told.reply, told.answered = found.names.shown(words[3]), len(found.lines)
     return found
 
 
@@ -145,11 +157,10 @@ def drawn_bar(it: Operation, window: Window, top: float, width: int) -> str:
     """An operation: a bar from its issue to its answer, dashed and open where it is never answered. Its border is red
     where that is wide."""
     start, end = window.at(it.issued), window.at(it.answered or window.last + 1)
-    address = int(it.asked.split()[1])
-    stroke = RED if width > 1 else drawing.colour(address % 97, 0.36)
+    stroke = RED if width > 1 else drawing.colour(it.address % 97, 0.36)
     dashed = None if it.answered else "4 3"
     parts = [drawing.title(it.told())]
-    fill = drawing.colour(address % 97, 0.88)
+    fill = drawing.colour(it.address % 97, 0.88)
     parts.append(
         drawing.element(
             "rect", x=start, y=top, width=end - start, height=BAR, fill=fill, stroke=stroke, stroke_width=width,
@@ -161,7 +172,16 @@ def drawn_bar(it: Operation, window: Window, top: float, width: int) -> str:
         if said and len(said) * FONT * drawing.MONO_WIDTH + 8 <= end - start:
             parts.append(drawing.text(start + 4, top + 14, said, FONT, font_family=drawing.MONO))
             break
+    if width == FAULT_WIDTH and parts[-1].find(f">{escape(it.asked)}: ") < 0:
+        said = f"{it.asked}: {it.reply or '-'}"
+        x = min(start, window.width() - len(said) * FONT * drawing.MONO_WIDTH - RIGHT)
+        parts.append(drawing.text(x, top + BAR + 14, said, FONT, font_family=drawing.MONO, fill=RED))
     return drawing.group(parts)
+
+
+def bad_rows(trace: Trace, own: List[Operation], rows: List[int]) -> List[int]:
+    """The rows of the operation at fault."""
+    return [row for it, row in zip(own, rows) if trace.bad is not None and trace.bad in (it.issued, it.answered)]
 
 
 def drawn(trace: Trace, window: Window) -> str:
@@ -178,17 +198,21 @@ def drawn(trace: Trace, window: Window) -> str:
     for processor in sorted({it.processor for it in window.operations}):
         own = [it for it in window.operations if it.processor == processor]
         rows = report.rows_of(own)  # type: ignore[arg-type]
-        height = ROW * (1 + max(rows)) + GAP
+        has_bad = any(trace.bad is not None and trace.bad in (it.issued, it.answered) for it in own)
+        # (room for the text of the operation at fault, which stands below its bar)
+        rows = [row + (has_bad and any(row > bad for bad in bad_rows(trace, own, rows))) for row in rows]
+        height = ROW * (1 + has_bad + max(rows)) + GAP
         parts.append(drawing.element("rect", x=0, y=low, width=window.width(), height=height, fill="#f6f8fa"))
         parts.append(drawing.text(12, low + height / 2 + 4, f"processor {processor}"))
         for it, row in zip(own, rows):
             is_bad = trace.bad is not None and trace.bad in (it.issued, it.answered)
-            bars.append(drawn_bar(it, window, low + GAP + ROW * row, 3 if is_bad else 2 if it.issued in trace.pending else 1))
+            bars.append(drawn_bar(it, window, low + GAP + ROW * row, FAULT_WIDTH if is_bad else 2 if it.issued in trace.pending else 1))
         low += height + 2
     for event in range(window.first, window.last + 1):
         if (event - window.first) % 5 == 0 or event == trace.bad:
             x, colour = window.at(event), RED if event == trace.bad else "#d0d7de"
             bars.insert(0, drawing.element("path", d=drawing.path([(x, top - 4), (x, low)]), stroke=colour))
             if event == trace.bad or trace.bad is None or abs(event - trace.bad) > 2:
-                bars.append(drawing.text(x, top - 8, str(event), FONT, text_anchor="middle"))
+                if not trace.times or (event - window.first) % 10 == 0 or event == trace.bad:
+                    bars.append(drawing.text(x, top - 8, trace.times.get(event, str(event)), FONT, text_anchor="middle"))
     return drawing.svg(window.width(), low + 12, [*parts, *bars])

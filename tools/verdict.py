@@ -1,0 +1,184 @@
+"""Has the calls of a table or of a log judged by `torusmem linearize`, and tells a no in the lines of that text.
+
+A cas that failed says that the word was another than the one it expected, and changes nothing. A trace text has no such
+reply. So the rest is judged first. Where there is an order of it, each failed cas is put between its operations, where its time
+allows and the word is another (which words of one key there are says the order alone: linearizability is local, Herlihy and
+Wing, TOPLAS 12(3), 1990, theorem 1). Where there is no such place, the values that the word can have there are asked of the
+program, and the trace is judged again with each of them as the reply.
+"""
+from __future__ import annotations
+
+import re
+from dataclasses import dataclass, field
+from typing import Dict, List, Optional, Tuple
+
+import command
+import story
+import table
+from events import Calls, Trace, trace_of
+from progress import Progress
+
+NO = re.compile("(not linearizable|undecided) at line ([0-9]+)(.*)", re.DOTALL)
+MOST_TRIED = 64
+
+
+@dataclass
+class Answer:
+    """What the program says of a trace text: its order, or the event from which on there is none, and why."""
+
+    order: List[str] = field(default_factory=list)
+    event: Optional[int] = None
+    is_undecided: bool = False
+    more: str = ""
+    reasons: List[str] = field(default_factory=list)
+
+    def values(self) -> Optional[List[str]]:
+        """The values that the answer could have told; None where they aren't all known."""
+        found = re.search(" can be ([0-9]+(?:, [0-9]+)*(?: or [0-9]+)?)$", self.reasons[0]) if self.reasons else None
+        return re.findall("[0-9]+", found[1]) if found else None
+
+
+@dataclass
+class Judge:
+    """What judges: the words and opening words of the trace, and what the command line says."""
+
+    calls: Calls
+    words: int
+    opening: Dict[int, int]
+    options: List[str]
+    progress: Progress
+
+    def trace(self, fixed: Dict[int, str]) -> Trace:
+        """The trace text with the failed ones whose word is fixed."""
+        return trace_of(self.calls, self.words, self.opening, fixed)
+
+    def answer(self, fixed: Dict[int, str], wants_reasons: bool) -> Tuple[Answer, Trace]:
+        """What the program says where the words that some failed ones found are fixed."""
+        trace = self.trace(fixed)
+        with command.kept(trace.text(fixed).encode("ascii")) as name, self.progress.waiting("judging"):
+            try:
+                said = command.torusmem("linearize", name, *self.options)
+                return Answer(order=[it for it in said.split("\n") if it.startswith("order ")]), trace
+            except command.Refusal as refused:
+                found = NO.fullmatch(str(refused))
+                if not found:
+                    raise
+            reasons = command.explained(name, "linearize", *self.options) if wants_reasons and found[1][0] == "n" else []
+        event = trace.event_of(int(found[2]))
+        assert event is not None
+        return Answer([], event, found[1] == "undecided", found[3], reasons), trace
+
+
+class NoOrder(command.Refusal):
+    """The line of the table, or of the log, from which on there is no order, or it isn't known."""
+
+    def __init__(self, calls: Calls, trace: Trace, said: Answer) -> None:
+        assert said.event is not None
+        self.calls, self.trace, self.event, self.reasons, self.is_undecided = calls, trace, said.event, said.reasons, said.is_undecided
+        at = ~said.event if said.event < 0 else said.event
+        self.is_failed_cas = at in calls.failed
+        shown = trace.shown(said.event)
+        if self.is_failed_cas:
+            shown = shown[: shown.rindex(" ")] + " fail"
+        verdict = "undecided" if said.is_undecided else "not linearizable"
+        super().__init__(f"{calls.path}, line {trace.line_of(said.event)}: {verdict} from `{shown}` on{said.more}")
+
+
+def refused(calls: Calls, trace: Trace, said: Answer, wants_story: bool) -> NoOrder:
+    """The same, with the story where it is wanted."""
+    why = NoOrder(calls, trace, said)
+    if wants_story and not said.is_undecided:
+        why.lines = story.told(calls, trace, why.event, said.reasons, why.is_failed_cas)
+    return why
+
+
+def judged(judge: Judge, wants_story: bool) -> str:
+    """The verdict. Refused with the line from which on there is no order."""
+    calls, fixed = judge.calls, {}  # type: Calls, Dict[int, str]
+    for _ in range(MOST_TRIED):
+        said, trace = judge.answer(fixed, wants_story)
+        if said.event is not None:
+            raise refused(calls, trace, said, wants_story)
+        stuck = unplaced(judge, trace, said.order, fixed)
+        if stuck is None:
+            count = len(said.order) + len(calls.failed) - len(fixed)
+            more = f", {len(calls.failed)} cas that found another word among them" if calls.failed else ""
+            return f"linearizable: {count} operation{'' if count == 1 else 's'} in one order{more}\n"
+        word = other_word(judge, stuck, fixed, wants_story)
+        if word is None:
+            break
+        fixed[stuck] = word
+    line = f"{calls.path}, line {calls.answers[stuck]}"
+    raise command.Refusal(f"{line}: undecided: there is an order without this cas, which failed; with it none is found")
+
+
+def other_word(judge: Judge, at: int, fixed: Dict[int, str], wants_story: bool) -> Optional[str]:
+    """A word with which a failed cas has an order; None where none is found. Refused where there is surely none."""
+    values = {word for it in judge.calls.asked for word in it.split(" ")[2:]} | set(judge.calls.replies)
+    absent = next(str(it) for it in range(2**64 - 1, 0, -1) if str(it) not in values)
+    first, trace = judge.answer({**fixed, at: absent}, True)
+    possible = first.values()
+    if first.event != ~at or first.is_undecided or possible is None:
+        return None
+    worst, refusal, is_sure = -1, (first, trace), not fixed
+    expected = judge.calls.asked[at].split(" ")[2]
+    for word in possible:
+        if word == expected:
+            continue
+        said, trace = judge.answer({**fixed, at: word}, wants_story)
+        if said.event is None:
+            return word
+        is_sure = is_sure and not said.is_undecided
+        if trace.events.index(said.event) > worst:
+            worst, refusal = trace.events.index(said.event), (said, trace)
+    if is_sure:
+        raise refused(judge.calls, refusal[1], refusal[0], wants_story)
+    return None
+
+
+def unplaced(judge: Judge, trace: Trace, order: List[str], fixed: Dict[int, str]) -> Optional[int]:
+    """The first failed cas that has no place in an order of the others; None where each has one."""
+    left = judge.calls.failed.difference(fixed)
+    if not left:
+        return None
+    names = {(trace.lanes[it], str(trace.indexes[it])): it for it in trace.events if it >= 0}
+    row_of = [names[tuple(it.split(" ", 3)[1:3])] for it in order]
+    key_of = lambda at: judge.calls.asked[at].split(" ", 2)[1]
+    keys = {key_of(it) for it in left}
+    by_key: Dict[str, List[int]] = {it: [] for it in keys}
+    for it in row_of:
+        if key_of(it) in keys:
+            by_key[key_of(it)].append(it)
+    stuck = [it for key in sorted(keys, key=int) for it in [without_place(judge, key, by_key[key], left)] if it is not None]
+    return min(stuck, default=None)
+
+
+def without_place(judge: Judge, key: str, rows: List[int], left: set[int]) -> Optional[int]:
+    """The same of the operations on one key, in their order."""
+    calls, place, words = judge.calls, {it: at for at, it in enumerate(rows, 1)}, [judge.opening.get(int(key), 0)]
+    for it in rows:
+        kind, _, *values = calls.asked[it].split(" ")
+        words.append(table.written(kind, tuple(map(int, values)), words[-1]))
+    change = [len(words)] * len(words)
+    for at in range(len(words) - 2, -1, -1):
+        change[at] = change[at + 1] if words[at] == words[at + 1] else at + 1
+    mine = [it for it in calls.order if (it if it >= 0 else ~it) in place or (it if it >= 0 else ~it) in left]
+    mine = [it for it in mine if calls.asked[it if it >= 0 else ~it].split(" ", 2)[1] == key]
+    found, latest = {}, 0
+    for it in mine:
+        at = ~it if it < 0 else it
+        if it < 0:
+            latest = max(latest, place[at] if at in place else found[at])
+        elif at in left:
+            expected = int(calls.asked[at].split(" ")[2])
+            found[at] = latest if words[latest] != expected else change[latest]
+            if found[at] == len(words):
+                return at
+    first = len(words)
+    for it in reversed(mine):
+        at = ~it if it < 0 else it
+        if it >= 0 and at in place:
+            first = min(first, place[at])
+        elif it < 0 and at in left and found[at] >= first:
+            return at
+    return None
