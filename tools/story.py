@@ -189,7 +189,8 @@ def told(calls: Calls, trace: Trace, event: int, reasons: List[str], is_failed_c
         lines.append(teller.put(writer, f"wrote {value}" + (f", the last of {count} that did" if count > 1 else "")))
     elif not found.was_opening():
         later = next((it for it in found.operations if it.writes() and it.leaves() == found.value), None)
-        lines.append(teller.put(later, f"wrote {value}, and was issued behind that answer") if later else f"{calls.path}: nothing in it writes {value} there")
+        none = f"{calls.path}: no operation whose reply is known writes {value} there"
+        lines.append(teller.put(later, f"wrote {value}, and was issued behind that answer") if later else none)
     if found.was_opening():
         lines.append(f"{calls.path}: {value} is what the word was at first")
     before = f"before {teller.line(found.failed)} was issued"
