@@ -82,6 +82,7 @@ def drawn(why: verdict.NoOrder) -> str:
     shown = names.shown(str(found.value))
     roles = roles_of(found, shown)
     if why.is_failed_cas:
+        roles = {at: it for at, it in roles.items() if it[0] != OVER or it[1] == "open then"}
         roles[found.failed.at] = (FAULT, f"failed, so the word was not {names.shown(str(found.failed.values[0]))}")
     mine, said, did, wide = chosen(found, roles), {}, {}, {}
     for it in mine:

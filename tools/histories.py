@@ -195,6 +195,6 @@ def of_log(text: bytes, path: str, is_map: bool, progress: Progress) -> Calls:
             raise command.Refusal(f"{path}, line {line}: {why}") from None
         if line % 4096 == 0:
             progress.say(f"{line} of {len(lines)} lines are read")
-    at = lambda line: f"in line {line}" + "".join(f" at {it}" for it in TIME.findall(lines[line - 1])[:1]) if line else ""
+    at = lambda line: f"line {line}" + "".join(f" at {it}" for it in TIME.findall(lines[line - 1])[:1]) if line else ""
     log.calls.times = lambda it: (at(log.calls.issues[it]), at(log.calls.answers[it]))
     return log.calls

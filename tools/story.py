@@ -104,13 +104,13 @@ class Story:
             self.twin = next((it for it in before if it.found() == self.value and it.changes()), None)
 
 
-def operations_on(trace: Trace, key: str) -> List[Operation]:
-    """The operations on a key, in the order of issue."""
+def operations_on(trace: Trace, key: str, but: int) -> List[Operation]:
+    """The operations on a key, in the order of issue, without those that failed, but for one."""
     calls, found = trace.calls, {}  # type: Calls, Dict[int, Operation]
     for place, event in enumerate(trace.events):
         at = event if event >= 0 else ~event
         kind, address, *values = calls.asked[at].split(" ")
-        if address != key:
+        if address != key or at in calls.failed and at != but:
             continue
         if event >= 0:
             found[at] = Operation(at, place, FOREVER, kind, tuple(map(int, values)), None)
@@ -124,11 +124,15 @@ def story_of(calls: Calls, trace: Trace, event: int) -> Story:
     """What is found out of the answer of an event."""
     at = ~event
     key = calls.asked[at].split(" ", 2)[1]
-    mine = operations_on(trace, key)
+    mine = operations_on(trace, key, at)
     opening = next((int(it.split(" ")[2]) for it in trace.head if it.startswith(f"init {key} ")), 0)
     failed = next(it for it in mine if it.at == at)
-    made = Story(calls, mine, failed, failed.reply if failed.reply is not None else opening, opening)
-    made.find()
+    value = failed.values[0] if at in calls.failed else failed.reply
+    made = Story(calls, mine, failed, opening if value is None else value, opening)
+    if at not in calls.failed:
+        made.find()
+    else:
+        made.writers = [it for it in mine if it.issued < failed.answered and it.writes() and it.leaves() == made.value]
     return made
 
 
@@ -141,7 +145,8 @@ class Teller:
     def times(self, at: int) -> str:
         """When an operation was issued and answered."""
         begin, end = self.calls.times(at)
-        return f"issued {begin}, {f'answered {end}' if end else 'never answered'}"
+        where = "in " if self.calls.who == "process" else ""
+        return f"issued {where}{begin}, {f'answered {where}{end}' if end else 'never answered'}"
 
     def line(self, it: Operation) -> str:
         """Where it stands."""
@@ -174,7 +179,9 @@ def told(calls: Calls, trace: Trace, event: int, reasons: List[str], is_failed_c
     could = f", but the word could only be {can}" if can else ", and in no order the word can be so"
     if is_failed_cas:
         expected = calls.names.shown(str(found.failed.values[0]))
-        return [teller.put(found.failed, f"it failed, so the word was not {expected}{could}", True), *open_lines(found, teller)]
+        lines = [teller.put(found.failed, f"it failed, so the word was not {expected}{could}", True)]
+        writer = found.last_writer()
+        return lines + ([teller.put(writer, f"wrote {expected}")] if writer else []) + open_lines(found, teller)
     lines = [teller.put(found.failed, f"it found {value}{could}", True)]
     writer = found.last_writer()
     if writer:
@@ -182,7 +189,8 @@ def told(calls: Calls, trace: Trace, event: int, reasons: List[str], is_failed_c
         lines.append(teller.put(writer, f"wrote {value}" + (f", the last of {count} that did" if count > 1 else "")))
     elif not found.was_opening():
         later = next((it for it in found.operations if it.writes() and it.leaves() == found.value), None)
-        lines.append(teller.put(later, f"wrote {value}, and was issued behind that answer") if later else f"{calls.path}: nothing in it writes {value} there")
+        none = f"{calls.path}: no operation whose reply is known writes {value} there"
+        lines.append(teller.put(later, f"wrote {value}, and was issued behind that answer") if later else none)
     if found.was_opening():
         lines.append(f"{calls.path}: {value} is what the word was at first")
     before = f"before {teller.line(found.failed)} was issued"

@@ -174,7 +174,7 @@ def drawn_bar(it: Operation, window: Window, top: float, width: int) -> str:
             break
     if width == FAULT_WIDTH and parts[-1].find(f">{escape(it.asked)}: ") < 0:
         said = f"{it.asked}: {it.reply or '-'}"
-        x = min(start, window.width() - len(said) * FONT * drawing.MONO_WIDTH - RIGHT)
+        x = max(12.0, end - len(said) * FONT * drawing.MONO_WIDTH - 4)
         parts.append(drawing.text(x, top + BAR + 14, said, FONT, font_family=drawing.MONO, fill=RED))
     return drawing.group(parts)
 
