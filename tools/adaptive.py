@@ -19,10 +19,11 @@ class Edge(NamedTuple):
 
 
 class Found(NamedTuple):
-    """What is judged: the verdict's line, and of a cycle its edges; of `rising` how far packets can go."""
+    """What is judged: the verdict's line, and of a cycle its edges; of `rising` how far packets can go, and numbers."""
 
     kind: str
     lines: List[str]
+    numbers: List[int] = []
 
 
 def choices_of(net: Network) -> Dict[Tuple[int, int], List[int]]:
@@ -165,7 +166,7 @@ def judged_choices(net: Network) -> Found:
     edges = walk.edges()
     rank = numbers(net, {edge: "" for edge in edges})
     if rank is not None:
-        return Found("rising", [walk.travel()])
+        return Found("rising", [walk.travel()], rank)
     around = shortest_cycle(edges)
     return Found("cycle", [line_of(x, y, edges[x, y]) for x, y in zip(around, around[1:] + around[:1])])
 

@@ -6,11 +6,16 @@ from collections import deque
 from typing import Callable, Dict, Iterable, List, Tuple
 
 from command import Refusal
-from walked import Network, Router, number_of
+from walked import Network, Place, Router, number_of
 
 # Directions of a mesh: east, west, north (the row number falls), south.
 STEPS = {"E": (1, 0), "W": (-1, 0), "N": (0, -1), "S": (0, 1)}
 Turn = Callable[[int, str, str], bool]
+
+
+def round_about(k: int, count: int) -> Place:
+    """The place of one of so many routers on a circle, the first of which is at its top."""
+    return round(500 + 500 * math.sin(2 * math.pi * k / count)), round(500 - 500 * math.cos(2 * math.pi * k / count))
 
 
 def ends(net: Network, routers: Iterable[int]) -> Tuple[Dict[int, int], Dict[int, int]]:
@@ -118,7 +123,10 @@ def adaptive_torus(radices: List[int]) -> Network:
                 here = r // weight[d] % k
                 for v in range(3):
                     hops[r, d, by, v] = net.channel("hop", r, r + ((here + by) % k - here) * weight[d], v)
-    net.routers = {r: Router(".".join(str(r // w % k) for w, k in zip(weight, radices))) for r in range(tiles)}
+    for r in range(tiles):
+        digits = [r // w % k for w, k in zip(weight, radices)]
+        place = round_about(r, tiles) if digits[1:] == [] else (digits[0], digits[1]) if len(digits) == 2 else None
+        net.routers[r] = Router(",".join(map(str, digits)), place)
     net.escapes = {x for (_, _, _, v), x in hops.items() if v > 0}
     into = inputs(net, inject)
     for r in range(tiles):
@@ -145,7 +153,7 @@ def fat_tree(arity: int, levels: int) -> Network:
     inject = {p: net.channel("inject", p // arity, p // arity) for p in nodes}
     eject = {p: net.channel("eject", p // arity, p // arity) for p in nodes}
     net.joins = [(inject[p], eject[q]) for p in nodes for q in nodes]
-    net.routers = {level * width + s: Router(f"{level}.{s}", (s, levels - level)) for level in range(levels) for s in range(width)}
+    net.routers = {level * width + s: Router(f"{level}.{s}", (s, 2 * (levels - level))) for level in range(levels) for s in range(width)}
     up, down = {}, {}
     for level in range(levels - 1):
         for s in range(width):

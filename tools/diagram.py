@@ -18,12 +18,13 @@ MOST_TRIES = 6
 @dataclass
 class Marks:
     """What is said in a diagram: the number of each channel that shows one, which channels are full, which replies
-    there are, and which of them are waited for."""
+    there are, which of them are waited for, and which channels are no escapes."""
 
     numbers: Dict[int, str]
     full: Set[int] = field(default_factory=set)
     replies: List[Tuple[int, int]] = field(default_factory=list)
     awaited: Set[Tuple[int, int]] = field(default_factory=set)
+    loose: Set[int] = field(default_factory=set)
 
     def all_numbered(self) -> bool:
         """Whether each channel shows its number."""
@@ -270,7 +271,7 @@ class Diagram:
             ink = FULL if full else VIRTUAL[self.plan.virtual.get(it.channel, 0) % len(VIRTUAL)]
             inside = [drawing.title(net_title[it.channel])]
             for line in it.lines:
-                inside += arrow(line, ink, THICK if full else THIN, it.gaps)
+                inside += arrow(line, ink, THICK if full else THIN, it.gaps, it.channel in self.marks.loose)
             made.append(drawing.group(inside))
         for (x, y), line in self.replies:
             ink = FULL if (x, y) in self.marks.awaited else VIRTUAL[0]

@@ -7,6 +7,8 @@ from dataclasses import dataclass, field
 from typing import Dict, List, Optional, Tuple
 
 import drawing
+from adaptive import escapes_of
+from chosen import Chosen, chosen_of, chosen_read
 from command import Refusal
 from diagram import Diagram, Marks, diagram
 from jam import Fill, Held, held_by, jam_of, titled
@@ -31,10 +33,14 @@ class Verdict:
     numbers: List[int] = field(default_factory=list)
     fills: List[Fill] = field(default_factory=list)
     held: List[Held] = field(default_factory=list)
+    chosen: Optional[Chosen] = None
 
 
 def verdict_of(net: Network) -> Verdict:
     """The verdict of the plain walk."""
+    if net.is_adaptive():
+        found = chosen_of(net)
+        return Verdict(found.kind, WALKED, chosen=found)
     kind, edges = judged(net)
     fills = jam_of(net, cycle(edges)) if kind == "cycle" else []
     return Verdict(kind, WALKED, numbers(net, edges) or [] if kind == "rising" else [], fills, held_by(net, fills))
@@ -43,6 +49,9 @@ def verdict_of(net: Network) -> Verdict:
 def verdict_read(net: Network, text: str, path: str) -> Verdict:
     """The verdict that a text of `torusmem network` has. Refused where it is no verdict of this network, as far as
     the plain walk can see."""
+    if net.is_adaptive():
+        read = chosen_read(net, text, path)
+        return Verdict(read.kind, PROGRAM, chosen=read)
     kind, edges = judged(net)
     found: Dict[int, int] = {}
     around: List[int] = []
@@ -92,6 +101,8 @@ def explained(net: Network, verdict: Verdict) -> str:
 
 def marks_of(net: Network, plan: Plan, verdict: Verdict) -> Marks:
     """What the diagram says: all numbers that rise; or those of the channels that the legend names."""
+    if verdict.chosen:
+        return marks_of_chosen(net, verdict.chosen)
     if verdict.kind == "rising":
         return Marks({x: str(it) for x, it in enumerate(verdict.numbers)}, replies=net.replies)
     full = {it.channel for it in verdict.held}
@@ -100,6 +111,21 @@ def marks_of(net: Network, plan: Plan, verdict: Verdict) -> Marks:
         named = {int(it) for it in verdict.kind.split()[2:]}
     waited = {(it.channel, it.awaited) for it in verdict.held if it.channel == it.end}
     return Marks({x: str(x) for x in named}, full, net.replies, waited)
+
+
+def marks_of_chosen(net: Network, found: Chosen) -> Marks:
+    """The same of a network whose routers choose: the numbers of escapes, or the channels of a cycle and those over
+    which they lead on."""
+    marks = escapes_of(net)
+    loose = {x for x in range(len(net.kinds)) if x not in marks}
+    held = {it for x, edge, _ in found.turns for it in (x, *edge.over)}
+    answered = {(x, y) for x, edge, y in found.turns if edge.to is None}
+    if found.kind == "rising":
+        return Marks({x: str(it) for x, it in found.numbers.items() if x in marks}, replies=net.replies, loose=loose)
+    named = held | {edge.to for _, edge, _ in found.turns if edge.to is not None}
+    if not found.turns:
+        named = {number_of(it) for it in found.kind.partition(":")[0].split()[2:]}
+    return Marks({x: str(x) for x in named}, held, net.replies, answered, loose)
 
 
 class Legend:
@@ -135,16 +161,39 @@ class Legend:
         self.y += 3
 
 
-def sign_of(ink: str, thick: float) -> List[str]:
+def sign_of(ink: str, thick: float, is_dotted: bool = False) -> List[str]:
     """An arrow as a sign in the legend."""
-    return arrow([(0, 5), (20, 5)], ink, thick, [])
+    return arrow([(0, 5), (20, 5)], ink, thick, [], is_dotted)
+
+
+def head_of(net: Network, plan: Plan, verdict: Verdict) -> str:
+    """The first line of a legend."""
+    if verdict.kind == "rising":
+        return "Rising: the network never locks up"
+    if verdict.kind == "cycle":
+        return f"Cycle: the network {'may lock up' if verdict.chosen else 'locks up'}"
+    what, numbers = " ".join(verdict.kind.split()[:2]), verdict.kind.partition(":")[0].split()[2:]
+    if what == "no escape":
+        return "No escape behind channel {0} for packets to channel {1}".format(*numbers)
+    return ("No choice behind channel {0} for packets to channel {1}: {2}" if what == "no choice" else "No route from channel {0} to channel {1}").format(*numbers)
+
+
+def turned(net: Network, plan: Plan, found: Chosen) -> List[Tuple[str, ...]]:
+    """The rows of a table on a cycle of dependencies."""
+    rows = [("channel", "between", "packets to", "go on over", "and wait for")]
+    for x, edge, y in found.turns:
+        to = "answers" if edge.to is None else f"{edge.to} ({name_of(net, plan, edge.to)})"
+        rows.append((str(x), name_of(net, plan, x), to, " ".join(map(str, edge.over)), str(y)))
+    return rows if any(it[3] for it in rows[1:]) else [it[:3] + it[4:] for it in rows]
 
 
 def legend(net: Network, plan: Plan, verdict: Verdict, made: Diagram, width: float) -> Legend:
     """What the signs of a picture mean, and who holds what and waits for what."""
     found, rising = Legend(width), verdict.kind == "rising"
-    heads = {"rising": "Rising: the network never locks up", "cycle": "Cycle: the network locks up"}
-    found.say(heads.get(verdict.kind) or "No route from channel {2} to channel {3}".format(*verdict.kind.split()), bold=True, signed=False)
+    found.say(head_of(net, plan, verdict), bold=True, signed=False)
+    if verdict.chosen and verdict.chosen.turns:
+        found.table(turned(net, plan, verdict.chosen))
+        found.say("channel of the cycle, with its number", sign_of(FULL, THICK))
     if verdict.held:
         ends = {x: f"{x} ({name_of(net, plan, x)})" for it in verdict.held for x in (it.start, it.end)}
         rows = [("channel", "between", "full of packets", "waiting for")]
@@ -155,18 +204,24 @@ def legend(net: Network, plan: Plan, verdict: Verdict, made: Diagram, width: flo
     by_number = "" if not plan.found else "router, found where channels meet; its number is the picture's own"
     found.say("; ".join(filter(None, (by_name, by_number))), [router(Box(10, 5, 7, 4))])
     virtual = sorted({plan.virtual[it.channel] for it in made.hops})
-    number = ", with its number: they rise along every route" + (" and over every answer" if net.replies else "") if rising else ""
+    along = "from each escape to those that its packets may wait for" if verdict.chosen else "along every route"
+    number = f", with its number: they rise {along}" + (" and over every answer" if net.replies else "") if rising else ""
+    loose = marks_of(net, plan, verdict).loose if verdict.chosen else set()
     for n, ink in enumerate(VIRTUAL):
         alike = [str(k) for k in virtual if k % len(VIRTUAL) == n]
         said = "channel" if len(virtual) == 1 else f"virtual channel{'s' * (len(alike) > 1)} {', '.join(alike)}"
         if alike:
-            found.say(said + number, sign_of(ink, THIN))
-            number = ""
+            dotted = {it.channel in loose for it in made.hops if plan.virtual[it.channel] % len(VIRTUAL) == n}
+            own = number if False in dotted else ""
+            found.say(said + (", no escape" if dotted == {True} else "") + own, sign_of(ink, THIN, dotted == {True}))
+            number = number if not own else ""
     if made.ends:
         sign = [it for x in (0, 13) for it in arrow([(x, 5), (x + 8, 5)], VIRTUAL[0], THIN, [])]
         found.say("from a sender; to a receiver", [*sign, router(Box(10.5, 5, 2.5, 4))])
     if made.replies:
         found.say("the receiver's answers go out there", answer([(0, 5), (20, 5)], VIRTUAL[0], False))
+    if any(it.channel in loose for it in made.hops):
+        found.say("A channel that is no escape is dotted.", signed=False)
     if made.rounds:
         found.say("A link at the border goes on at the router that is named beside it.", signed=False)
     found.say(f"Verdict {verdict.by}.", signed=False)

@@ -66,7 +66,7 @@ def grouped(net: Network, plan: Plan) -> Groups:
             groups.join((True, x), link.end)
         if net.kinds[x] != "inject":
             groups.join((False, x), link.start)
-    for x, y in sorted({(x, y) for (x, j), y in net.choices.items() if net.kinds[y] == "hop" or y == j != x}):
+    for x, y in sorted({(x, y) for x, j, y in net.steps() if x != y and (net.kinds[y] == "hop" or y == j)}):
         if net.kinds[x] == "eject":
             continue
         if x in net.links and y in net.links:
@@ -79,7 +79,7 @@ def grouped(net: Network, plan: Plan) -> Groups:
 def plan_of(net: Network) -> Plan:
     """The routers of a network. One that no `router` line names is found by the choices: where packets of one channel
     go on to another, both meet at a router."""
-    plan, used = Plan(), {it for (x, _), y in net.choices.items() for it in (x, y)}
+    plan, used = Plan(), {it for x, _, y in net.steps() for it in (x, y)}
     plan.idle = len(net.kinds) - len(used)
     groups = grouped(net, plan)
     numbers: Dict[object, int] = {}

@@ -37,7 +37,7 @@ def middle_text(box: Box, said: str, strong: bool) -> str:
     return drawing.text(box.x, box.y + LETTERS * 0.36, said, LETTERS, text_anchor="middle", fill=INK, font_weight=weight)
 
 
-def arrow(line: Line, ink: str, thick: float, gaps: List[Box]) -> List[str]:
+def arrow(line: Line, ink: str, thick: float, gaps: List[Box], is_dotted: bool = False) -> List[str]:
     """An arrow, with gaps where the numbers stand."""
     whole, head = length(line), HEAD + 1.2 * (thick - THIN)
     tip, (ux, uy) = line[-1], at(line, whole)[1]
@@ -53,7 +53,8 @@ def arrow(line: Line, ink: str, thick: float, gaps: List[Box]) -> List[str]:
     pieces = [shaft]
     for box in gaps:
         pieces = [it for piece in pieces for it in without(piece, box)]
-    made = [drawing.element("path", d=drawing.path(it), stroke=ink, stroke_width=thick, fill="none") for it in pieces]
+    dots = "0.9 1.3" if is_dotted else None
+    made = [drawing.element("path", d=drawing.path(it), stroke=ink, stroke_width=thick, stroke_dasharray=dots, fill="none") for it in pieces]
     (bx, by), half = shaft[-1], head * 0.45
     made.append(drawing.element("path", d=drawing.path([tip, (bx - uy * half, by + ux * half), (bx + uy * half, by - ux * half)]) + " z", fill=ink))
     return made

@@ -82,6 +82,10 @@ class Network:
             if self.choices.setdefault((x, j), y) != y:
                 self.further.append((x, j, y))
 
+    def steps(self) -> List[Tuple[int, int, int]]:
+        """All choices, each with its channel and its destination, in their order."""
+        return sorted([*((x, j, y) for (x, j), y in self.choices.items()), *self.further])
+
     def is_adaptive(self) -> bool:
         """Whether routers choose among several channels, or escapes are named."""
         return bool(self.further or self.escapes)
@@ -98,7 +102,7 @@ class Network:
             lines += [f"name {x} {it}" for x, it in sorted(self.names.items())]
         lines += [f"{kind} {x}" for x, kind in enumerate(self.kinds) if kind != "hop"]
         lines += [f"join {i} {j}" for i, j in self.joins]
-        lines += [f"next {x} {j} {y}" for x, j, y in sorted([*((x, j, y) for (x, j), y in self.choices.items()), *self.further])]
+        lines += [f"next {x} {j} {y}" for x, j, y in self.steps()]
         lines += [f"escape {y}" for y in sorted(self.escapes)]
         lines += [f"reply {x} {y}" for x, y in self.replies]
         return "\n".join(lines) + "\n"
