@@ -164,7 +164,7 @@ def table(lots: random.Random) -> Network:
     if odd and lots.random() < 0.4:
         net.joins.append((lots.randrange(len(net.kinds)), lots.randrange(len(net.kinds))))
     for j in range(ends, 2 * ends):
-        for x in (*range(ends), *range(2 * ends, len(net.kinds))):
+        for x in range(len(net.kinds)) if odd else (*range(ends), *range(2 * ends, len(net.kinds))):
             able = [y for y in (j, *range(2 * ends, len(net.kinds))) if y != x]
             able = list(range(len(net.kinds))) if odd and lots.random() < 0.1 else able
             net.choose(x, j, lots.sample(able, min(len(able), lots.choice([1, 2, 2, 3]))))
