@@ -25,8 +25,13 @@ class Chosen:
 
 
 def turns_of(lines: List[List[str]], net: Network) -> Optional[List[Turn]]:
-    """The dependencies of the lines of a cycle; none where a line is no dependency of the network."""
+    """The dependencies of the lines of a cycle; none where a line is no dependency of the network. Of a line `channel X`
+    the walk says which one leads to the next channel."""
     walk, found = Walk(net), []
+    if all(words[0] == "channel" and len(words) == 2 for words in lines):
+        edges, xs = walk.edges(), [number_of(words[1]) for words in lines]
+        pairs = list(zip(xs, xs[1:] + xs[:1]))
+        return [(x, edges[x, y], y) for x, y in pairs] if all(it in edges for it in pairs) else None
     firsts = [number_of(words[0]) for words in lines]
     for words, y in zip(lines, firsts[1:] + firsts[:1]):
         x, j = number_of(words[0]), number_of((words + ["", ""])[2])
