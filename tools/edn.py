@@ -5,6 +5,7 @@ they are written: `:ok`, `"a b"`, `true`. A tag, as `#jepsen.history.Op`, is pas
 """
 from __future__ import annotations
 
+import functools
 import re
 from typing import List, Tuple
 
@@ -21,12 +22,14 @@ PAIR = re.compile(rf"(:[^\s,{{}}\[\]()\"]+)\s+({ATOM}|{VECTOR})")
 
 def atom(token: str) -> object:
     """What a token stands for that is no bracket."""
+    if token[:1] == ":" and len(token) > 1 or token[:1] == '"':
+        return token
     if token == "nil":
         return None
     digits = token[1:] if token[:1] in ("-", "+") else token
     if digits.isascii() and digits.isdigit():
         return int(token) if len(token) <= 21 else 10**21
-    if token[:1] == ":" and len(token) > 1 or token[:1] == '"' or re.fullmatch(r"[A-Za-z*!_?$%&=<>.][^\s]*", token):
+    if re.fullmatch(r"[A-Za-z*!_?$%&=<>.][^\s]*", token):
         return token
     raise BadLine(f"`{token}` is not understood" if token else "it ends too soon")
 
@@ -67,6 +70,7 @@ def one(text: str) -> object:
     return found[0]
 
 
+@functools.lru_cache(maxsize=4096)
 def value(text: str) -> object:
     """The form of a text without space around it."""
     return one(text) if text[:1] in "[({#" else atom(text)
