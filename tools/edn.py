@@ -28,7 +28,7 @@ def atom(token: str) -> object:
         return None
     digits = token[1:] if token[:1] in ("-", "+") else token
     if digits.isascii() and digits.isdigit():
-        return int(token) if len(token) <= 21 else 10**21
+        return int(token) if len(token) <= 21 else token
     if re.fullmatch(r"[A-Za-z*!_?$%&=<>.][^\s]*", token):
         return token
     raise BadLine(f"`{token}` is not understood" if token else "it ends too soon")
