@@ -67,7 +67,6 @@ NUMBERS = [
     (INSIDE, r"(?:each of its|layer of) (\d+) calls", calls_for_c),
     (INSIDE, r"A want is one of (\w+):", lambda t: variants("crates/flit_buffer/src/want.rt", "Want")),
     (INSIDE, r"one of `wormhole`'s (\w+) events", lambda t: variants("crates/wormhole/specs/Events.antt", "NetEvent")),
-    (INSIDE, r"proof for (\w+) variants", lambda t: variants("crates/torus/src/fault.rt", "Fault")),
     (INSIDE, r"no more than (\d+) for each operation", lambda t: stands("crates/core_progress/specs/Moves.antt", 241)),
     ((PROVED,), r"reaches the same (\d+) functions of C", lambda t: len(trusted("torusmem"))),
     ((PROVED,), r"`axioms=(\d+)`", lambda t: len(trusted("torusmem"))),

@@ -125,6 +125,10 @@ static void every_call_says_empty(torusmem_machine *m) {
   MUST(says(torusmem_moves_left(m), TORUSMEM_EMPTY, 0));
   MUST(says(torusmem_tiles(m), TORUSMEM_EMPTY, 0));
   MUST(says(torusmem_words(m), TORUSMEM_EMPTY, 0));
+  struct torusmem_shape shape = { 7, { 7, 7, 7 }, { 7, 7, 7 }, 7, 7, 7, 7, 7 }, same = shape;
+  MUST(says(torusmem_shape(m, &shape), TORUSMEM_EMPTY, 0) && memcmp(&shape, &same, sizeof shape) == 0);
+  torusmem_ordered ordered = { 7, 7, 7, 7, 7, 7, 7 };
+  MUST(says(torusmem_order(m, 0, &ordered, 1), TORUSMEM_EMPTY, 0) && ordered.bank == 7);
   MUST(says(torusmem_word(m, 99), TORUSMEM_EMPTY, 0));
   MUST(says(torusmem_row(m, 0), TORUSMEM_EMPTY, 0));
   MUST(says(torusmem_rows(m, &word, 1), TORUSMEM_EMPTY, 0) && word == 7);
@@ -260,8 +264,7 @@ static void operations_that_are_asked(torusmem_machine *m) {
 /* Of two tiles, eight words, channels of four flits: see docs/NETWORK-FORMATS.md. */
 static void what_is_not_there(torusmem_machine *m) {
   torusmem_channel route[14];
-  torusmem_attempt none[] = { { 6, TORUSMEM_SEND, 0 }, { 0, TORUSMEM_LOOK + 1, 0 }, { 0, UINT32_MAX, 0 },
-                              { 1, TORUSMEM_TAKE_FROM, UINT32_MAX } };
+  torusmem_attempt none[] = { { 0, TORUSMEM_SEND, 0 }, { 6, TORUSMEM_SEND, 0 }, { 0, UINT32_MAX, 0 } };
   MUST(says(torusmem_tiles(m), TORUSMEM_OK, 2) && says(torusmem_words(m), TORUSMEM_OK, 8));
   MUST(says(torusmem_word(m, 7), TORUSMEM_OK, 0) && says(torusmem_word(m, 8), TORUSMEM_NONE, 0));
   MUST(says(torusmem_word(m, UINT32_MAX), TORUSMEM_NONE, 0));
@@ -276,13 +279,60 @@ static void what_is_not_there(torusmem_machine *m) {
   MUST(says(torusmem_route(m, 0, 1, 2, route, 14), TORUSMEM_NONE, 0));
   MUST(says(torusmem_next(m, 0, 9, 1), TORUSMEM_OK, 2) && says(torusmem_next(m, 0, 10, 1), TORUSMEM_NONE, 0));
   MUST(says(torusmem_next(m, 2, 0, 0), TORUSMEM_NONE, 0) && says(torusmem_next(m, 0, 0, 2), TORUSMEM_NONE, 0));
-  MUST(says(torusmem_step(m, 6, TORUSMEM_SEND, 0), TORUSMEM_OK, 0));
-  MUST(says(torusmem_step(m, 0, TORUSMEM_LOOK + 1, 0), TORUSMEM_OK, 0));
-  MUST(says(torusmem_step(m, 0, UINT32_MAX, 0), TORUSMEM_OK, 0));
-  MUST(says(torusmem_step(m, 1, TORUSMEM_TAKE_FROM, UINT32_MAX), TORUSMEM_OK, 0));
-  MUST(says(torusmem_run(m, none, 4), TORUSMEM_OK, 0) && says(torusmem_run(m, NULL, 0), TORUSMEM_OK, 0));
-  MUST(says(torusmem_enabled(m, 0, UINT32_MAX, 0), TORUSMEM_OK, 0));
+  MUST(says(torusmem_step(m, 0, UINT32_MAX, 0), TORUSMEM_NONE, 0));
+  MUST(says(torusmem_step(m, UINT32_MAX, UINT32_MAX, UINT32_MAX), TORUSMEM_NONE, 0));
+  MUST(says(torusmem_step(m, 1, TORUSMEM_TAKE_FROM, UINT32_MAX), TORUSMEM_NONE, 0));
+  MUST(says(torusmem_run(m, none, 3), TORUSMEM_NONE, 1) && says(torusmem_run(m, none + 2, 1), TORUSMEM_NONE, 0));
+  MUST(says(torusmem_run(m, NULL, 0), TORUSMEM_OK, 0));
+  MUST(says(torusmem_enabled(m, 0, UINT32_MAX, 0), TORUSMEM_NONE, 0));
   MUST(says(torusmem_enabled(m, 0, TORUSMEM_SEND, 99), TORUSMEM_OK, 1));
+}
+
+/* Which choices there are: of a tile's processor (p), router (r) and bank (b), each choice by its number; a router of two
+   tiles has the ports 0 to 9. Where there is none, nothing moves. */
+static void choices_that_there_are(torusmem_machine *m) {
+  static const char *const choices[] = { "pb", "pb", "r", "r", "pb", "r", "b", "p", "p" };
+  uint64_t left = torusmem_moves_left(m).value;
+  for (uint32_t agent = 0; agent < 8; agent++)
+    for (uint32_t choice = 0; choice < 11; choice++)
+      for (uint32_t port = 0; port < 12; port++) {
+        bool is_there = agent < 6 && choice <= TORUSMEM_LOOK && strchr(choices[choice], "prb"[agent % 3]) != NULL &&
+                        (agent % 3 != 1 || port < 10);
+        torusmem_attempt attempt = { agent, choice, port };
+        MUST(torusmem_enabled(m, agent, choice, port).code == (is_there ? TORUSMEM_OK : TORUSMEM_NONE));
+        if (is_there) continue;
+        MUST(says(torusmem_step(m, agent, choice, port), TORUSMEM_NONE, 0));
+        MUST(says(torusmem_run(m, &attempt, 1), TORUSMEM_NONE, 0));
+      }
+  MUST(says(torusmem_moves_left(m), TORUSMEM_OK, left) && says(torusmem_finished(m), TORUSMEM_OK, 0));
+  for (uint32_t lasts = 4; lasts != 0; lasts *= 2) {
+    MUST(says(torusmem_append(m, 0, TORUSMEM_STORE, 0, 1, 0, lasts), TORUSMEM_NONE, 0));
+    MUST(says(torusmem_append(m, 0, TORUSMEM_FENCE, 0, 0, 0, lasts + 1), TORUSMEM_NONE, 0));
+    MUST(says(torusmem_ask(m, 9, TORUSMEM_STORE, 99, 1, 0, lasts + 3), TORUSMEM_NONE, 0));
+  }
+  MUST(says(torusmem_moves_left(m), TORUSMEM_OK, left));
+}
+
+/* What a machine is built to is what its text says. */
+static void shapes(torusmem_machine *m) {
+  static const struct {
+    const char *text;
+    struct torusmem_shape shape;
+  } rows[] = {
+    { "radix 2\ndims 1\ndepth 4\ntags 4\nwords 8\n", { 1, { 2, 0, 0 }, { 1, 0, 0 }, 4, 4, 8, 2, 10 } },
+    { "radix 4 2\ndims 2\ndateline 0 1\ndepth 1\ntags 16\nwords 65536\n",
+      { 2, { 4, 2, 0 }, { 0, 1, 0 }, 1, 16, 65536, 8, 18 } },
+    { "radix 3 4 5\ndims 3\ndateline 2 0 3\ndepth 8\ntags 1\nwords 1\n",
+      { 3, { 3, 4, 5 }, { 2, 0, 3 }, 8, 1, 1, 60, 26 } },
+  };
+  for (size_t at = 0; at < sizeof rows / sizeof *rows; at++) {
+    struct torusmem_shape told;
+    memset(&told, 0xAA, sizeof told);
+    MUST(says(load_texts(m, rows[at].text, ""), TORUSMEM_OK, 0) && says(torusmem_shape(m, &told), TORUSMEM_OK, 0));
+    MUST(memcmp(&told, &rows[at].shape, sizeof told) == 0);
+    torusmem_free(m);
+  }
+  MUST(!m->full && live == 0);
 }
 
 /* The route of a reply from tile 1 to tile 0, by README's commands: inject 1 6, hop 1 0 plus 1 9, eject 0 11. */
@@ -541,7 +591,10 @@ static void traces_are_refused(void) {
   linearizes(events, 3, TORUSMEM_OK, 1);
   for (uint32_t at = 0; at < 65; at++) events[at] = issued(at, TORUSMEM_STORE, 0, at);
   MUST(says(torusmem_linearize(&word, 1, events, 64, 1, order, 70), TORUSMEM_OK, 0));
-  MUST(says(torusmem_linearize(&word, 1, events, 65, 1, order, 70), TORUSMEM_TOO_OPEN, 64));
+  MUST(says(torusmem_linearize(&word, 1, events, 65, 1, order, 70), TORUSMEM_OK, 0));
+  for (uint32_t at = 0; at < 65; at++) events[at] = issued(at, TORUSMEM_ADD, 0, 1);
+  events[65] = issued(65, TORUSMEM_LOAD, 0, 0), events[66] = found(65, 0, 9);
+  MUST(says(torusmem_linearize(&word, 1, events, 67, 1, order, 70), TORUSMEM_TOO_OPEN, 64));
   for (uint32_t at = 0; at < 4; at++) events[at] = issued(at, TORUSMEM_ADD, 0, 1);
   events[4] = found(0, 0, 1), events[5] = found(1, 0, 0), events[6] = found(2, 0, 2), events[7] = found(3, 0, 3);
   MUST(says(torusmem_linearize(&word, 1, events, 8, 1, order, 70), TORUSMEM_TOO_MANY, 4));
@@ -653,9 +706,11 @@ static void codes(void) {
   traces_are_refused();
   traces_are_watched();
   operations_are_watched();
+  shapes(&other);
   memory_of_a_watch_stays();
   MUST(says(load(&m), TORUSMEM_OK, 0) && m.full);
   what_is_not_there(&m);
+  choices_that_there_are(&m);
   MUST(says(torusmem_step(&m, 0, TORUSMEM_SEND, 99), TORUSMEM_OK, 1));
   MUST(says(load(&m), TORUSMEM_FULL, 0));
   MUST(says(load_texts(&m, "radix 9\n", ""), TORUSMEM_FULL, 0));
@@ -756,6 +811,9 @@ static void run_with_little_memory(void) {
   MUST(says(said, TORUSMEM_OK, 0) || says(said, TORUSMEM_FAULT_MEMORY, 0));
   said = torusmem_route(&m, 0, 1, 0, route, 14);
   MUST(says(said, TORUSMEM_OK, 3) || says(said, TORUSMEM_FAULT_MEMORY, 0));
+  torusmem_ordered row = { 7, 7, 7, 7, 7, 7, 7 };
+  said = torusmem_order(&m, (uint32_t)(torusmem_order(&m, 0, NULL, 0).value - 1), &row, 1);
+  MUST((says(said, TORUSMEM_OK, 1) && row.answered > 0) || row.bank == 7);
   uint64_t kept = refused;
   refused = 0;
   MUST(reports_well(&m) && says(torusmem_check(written.bytes, report_text.length), TORUSMEM_OK, 0));
@@ -823,6 +881,44 @@ static void look(torusmem_machine *m) {
   }
 }
 
+/* The rows of the order from each number on: they are the order lines of the report, one by one, and fit exactly; once
+   each operation is answered, the operation of a row is the one that was answered. */
+static void orders(torusmem_machine *m) {
+  enum { MOST_ROWS = 4096 };
+  static torusmem_ordered rows[MOST_ROWS], rest[MOST_ROWS];
+  static char line[128];
+  uint64_t length = torusmem_report(m, written.bytes, MOST_BYTES - 1).value, count = 0, served = 0;
+  written.bytes[length] = 0;
+  MUST(length < MOST_BYTES);
+  torusmem_outcome said = torusmem_order(m, 0, rows, MOST_ROWS);
+  MUST(said.code == TORUSMEM_OK);
+  for (char *at = strstr((char *)written.bytes, "\norder "); at != NULL; at = strstr(at + 1, "\norder ")) {
+    const torusmem_ordered *row = &rows[count++];
+    char answered[16] = "-";
+    if (row->answered > 0) snprintf(answered, sizeof answered, "%" PRIu32, row->answered);
+    snprintf(line, sizeof line, "\norder %" PRIu32 " %" PRIu32 " %" PRIu32 " %" PRIu32 " %s\n", row->bank, row->place, row->issued,
+             row->served, answered);
+    MUST(count <= said.value && strncmp(at, line, strlen(line)) == 0);
+    MUST(row->issued > 0 && row->issued < row->served && row->served > served);
+    served = row->served;
+    torusmem_entry entry = torusmem_entry_at(m, row->bank, row->place);
+    torusmem_answer answer = torusmem_answer_of(m, row->source, row->index);
+    MUST(entry.code == TORUSMEM_OK && entry.source == row->source);
+    MUST(answer.code == (row->answered > 0 ? TORUSMEM_OK : TORUSMEM_NOT_YET));
+    MUST(row->answered == 0 || (answer.bank == row->bank && answer.place == row->place && answer.old == entry.old));
+  }
+  MUST(count == said.value);
+  for (uint32_t from = 0; from <= count + 1; from += 1 + (uint32_t)count / 20) {
+    size_t left = from < count ? (size_t)count - from : 0;
+    memset(rest, 7, sizeof rest);
+    if (left > 0) MUST(says(torusmem_order(m, from, rest, left - 1), TORUSMEM_SHORT, left) && rest[0].bank == 0x07070707);
+    MUST(says(torusmem_order(m, from, rest, left + 1), TORUSMEM_OK, left) && rest[left].bank == 0x07070707);
+    MUST(memcmp(rest, rows + from, left * sizeof *rest) == 0);
+    MUST(says(torusmem_order(m, from, NULL, 0), left > 0 ? TORUSMEM_SHORT : TORUSMEM_OK, left));
+  }
+  MUST(says(torusmem_order(m, UINT32_MAX, rest, 1), TORUSMEM_OK, 0));
+}
+
 /* The report and its check ask for memory, and give all of it back. */
 static void report_keeps_nothing(torusmem_machine *m) {
   int64_t before = live;
@@ -835,12 +931,17 @@ static void report_keeps_nothing(torusmem_machine *m) {
 }
 
 /* The same drawn steps by lists of a hundred: as many moves, and the same report. */
-static void lists(const torusmem_attempt *made, uint64_t moves, const text *report) {
+static void lists(const torusmem_attempt *made, int count, uint64_t moves, const text *report) {
   torusmem_machine m = TORUSMEM_MACHINE_INIT;
   uint64_t listed = 0, before;
   MUST(says(load(&m), TORUSMEM_OK, 0));
   before = uses_of_memory();
-  for (int draw = 0; draw < DRAWS; draw += 100) listed += torusmem_run(&m, made + draw, 100).value;
+  for (int at = 0; at < count; at += 100) {
+    int part = count - at < 100 ? count - at : 100;
+    torusmem_outcome said = torusmem_run(&m, made + at, (size_t)part);
+    MUST(said.code == TORUSMEM_OK);
+    listed += said.value;
+  }
   MUST(listed == moves && uses_of_memory() == before);
   MUST(says(torusmem_report(&m, written.bytes, MOST_BYTES), TORUSMEM_OK, report->length));
   MUST(memcmp(written.bytes, report->bytes, report->length) == 0);
@@ -854,28 +955,31 @@ static void steps(void) {
   static text report;
   torusmem_machine m = TORUSMEM_MACHINE_INIT;
   uint64_t state = 1, before, moves = 0;
+  int count = 0;
   MUST(says(load(&m), TORUSMEM_OK, 0));
   uint32_t agents = 3 * (uint32_t)torusmem_tiles(&m).value;
   before = uses_of_memory();
   for (int draw = 0; draw < DRAWS; draw++) {
     uint32_t agent = drawn(&state, agents), choice = drawn(&state, TORUSMEM_LOOK + 1), number = drawn(&state, 26);
-    uint64_t enabled = torusmem_enabled(&m, agent, choice, number).value;
-    MUST(says(torusmem_step(&m, agent, choice, number), TORUSMEM_OK, enabled));
-    made[draw] = (torusmem_attempt){ agent, choice, number };
-    moves += enabled;
+    torusmem_outcome enabled = torusmem_enabled(&m, agent, choice, number);
+    MUST(says(torusmem_step(&m, agent, choice, number), enabled.code, enabled.value));
+    if (enabled.code == TORUSMEM_OK) made[count++] = (torusmem_attempt){ agent, choice, number };
+    moves += enabled.value;
     if (draw % 1000 == 0) look(&m);
   }
   MUST(moves > 0 && uses_of_memory() == before);
   report_keeps_nothing(&m);
+  orders(&m);
   report.length = (size_t)torusmem_report(&m, report.bytes, MOST_BYTES).value;
   before = uses_of_memory();
   while (torusmem_finished(&m).value == 0 && torusmem_moves_left(&m).value > 0) torusmem_round(&m);
   look(&m);
   MUST(says(torusmem_finished(&m), TORUSMEM_OK, 1) && uses_of_memory() == before);
   report_keeps_nothing(&m);
+  orders(&m);
   torusmem_free(&m);
   MUST(!m.full && live == 0);
-  lists(made, moves, &report);
+  lists(made, count, moves, &report);
   MUST(says(load(&m), TORUSMEM_OK, 0));
   before = uses_of_memory();
   MUST(torusmem_finish(&m).code == TORUSMEM_OK && uses_of_memory() == before);

@@ -33,6 +33,9 @@ void machines() {
   MUST(m.run(steps) == 2 && m.finish() == 12 && m.finished() && m.word(5) == 17);
   MUST(m.answers(0).size() == 2 && m.answers(0, 1).at(0).old == 17 && m.entries(1).size() == 2);
   MUST(m.rows().size() == 24 * 4 + 8 + 1 && m.rows()[24 * 4 + 5] == 17 && m.ports() == 10);
+  MUST(m.order().size() == 2 && m.order(1).at(0).served == 5 && m.order(2).empty());
+  MUST(m.shape().radices[0] == 2 && m.shape().tags == 4);
+  MUST(thrown(TORUSMEM_NONE, [&] { m.step(0, TORUSMEM_SERVE); }).find("step: there is no such agent") == 0);
   MUST(m.route(0, 1).size() == 3 && m.next(0, 8, 1) < 10);
   uint32_t index = m.ask(1, TORUSMEM_ADD, 5, 3);
   torusmem_answer got;

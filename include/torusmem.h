@@ -5,10 +5,10 @@
    No call prints, ends the process or starts a thread, and each call returns.
 
    MEMORY. torusmem_load allocates what the machine needs, torusmem_append and torusmem_ask what a further line needs,
-   and torusmem_free frees all of it. torusmem_report, torusmem_check, torusmem_explain, torusmem_spins_out,
-   torusmem_network and torusmem_linearize free what they allocate before they return. torusmem_watch_begin allocates
-   what a watch needs at first, torusmem_watch_issue and torusmem_watch_answer allocate and free as operations open and
-   end, and torusmem_watch_end frees all of it. No other call allocates.
+   and torusmem_free frees all of it. torusmem_report, torusmem_order, torusmem_check, torusmem_explain,
+   torusmem_spins_out, torusmem_network and torusmem_linearize free what they allocate before they return.
+   torusmem_watch_begin allocates what a watch needs at first, torusmem_watch_issue and torusmem_watch_answer allocate
+   and free as operations open and end, and torusmem_watch_end frees all of it. No other call allocates.
 
    LINKING. Link libtorusmem_c.a, torusmem_heap.c and torusmem_text.c; or what `make install` makes of them,
    libtorusmem.so or libtorusmem.a, as `pkg-config --cflags --libs torusmem` says. A program that defines the three
@@ -29,7 +29,11 @@
      threads forked.
    - Some kilobytes of stack are free at each call.
 
-   All calls take the machine by a pointer that is not const, also those that change nothing. */
+   All calls take the machine by a pointer that is not const, also those that change nothing.
+
+   A DEBUG BUILD. Where TORUSMEM_DEBUG is defined before this header, in all files of a program, handles carry a mark. Then
+   a call on a null pointer, on a handle that was not initialized, on a watch in place of a machine, or on a copy whose
+   other one was used or freed since, prints a line that says so, with file and line, and aborts. */
 #ifndef TORUSMEM_H
 #define TORUSMEM_H
 #define TORUSMEM_VERSION "0.1.0"
@@ -49,13 +53,29 @@ extern "C" {
 /* The version of the library that runs, as TORUSMEM_VERSION has that of the header. */
 const char *torusmem_version(void) TORUSMEM_RESULT;
 
+#ifdef TORUSMEM_DEBUG
+/* What a handle carries in a debug build: what it is, and of what it holds a ticket, which counts its calls. */
+typedef struct torusmem_ticket {
+  uint64_t calls;
+  bool gone;
+} torusmem_ticket;
+#define TORUSMEM_MARK uint64_t mark, calls; torusmem_ticket *ticket;
+#define TORUSMEM_MARKED(mark) , mark, 0, NULL
+#else
+#define TORUSMEM_MARK
+#define TORUSMEM_MARKED(mark)
+#endif
+#define TORUSMEM_IS_MACHINE UINT64_C(0x6D656D737572746F)
+#define TORUSMEM_IS_WATCH UINT64_C(0x7761746368746F72)
+
 /* Room for a machine. It belongs to the caller, on the stack, in a struct or elsewhere: initialized by
    TORUSMEM_MACHINE_INIT (all zeros), then changed by calls alone. Only torusmem_free frees what it holds. */
 typedef struct torusmem_machine {
   bool full;
   void *at;
+  TORUSMEM_MARK
 } torusmem_machine;
-#define TORUSMEM_MACHINE_INIT { false, NULL }
+#define TORUSMEM_MACHINE_INIT { false, NULL TORUSMEM_MARKED(TORUSMEM_IS_MACHINE) }
 
 /* What a call answers: a code, and a number whose meaning each call states (0 where it states none). */
 typedef struct torusmem_outcome {
@@ -84,7 +104,7 @@ enum {
   TORUSMEM_BAD_REPORT = 15, /* value: the first bad line, from 1 */
   TORUSMEM_EMPTY = 16,      /* there is no machine: none was loaded, or it was freed; or there is no watch */
   TORUSMEM_FULL = 17,       /* there is a machine already: free it first; or a watch: end it first */
-  TORUSMEM_NONE = 18,       /* there is no such tile, address, place or index */
+  TORUSMEM_NONE = 18,       /* there is no such agent, choice, tile, address, place or index */
   TORUSMEM_SHORT = 19,      /* the buffer is too short; value: the length that is needed */
   TORUSMEM_NO_ROUTE = 20,   /* a pair of a network has no route; value: the length of the verdict's text */
   TORUSMEM_CYCLE = 21,      /* the channels of a network have a cycle; value: the length of the verdict's text */
@@ -163,8 +183,8 @@ torusmem_explanation torusmem_explain(const uint8_t *machine, size_t machine_len
 void torusmem_free(torusmem_machine *m);
 
 /* Attempts one choice of one agent: at most one operation on one word of the machine's row.
-   OK, value 1: it was enabled and is made. OK, value 0: it was not enabled, and nothing has changed; so it is for an
-   agent or a choice that there isn't, and for a choice that the agent doesn't have. EMPTY.
+   OK, value 1: it was enabled and is made. OK, value 0: it was not enabled, and nothing has changed. NONE: there is no
+   such agent, the agent has no such choice, or its router no such input or output; nothing has changed. EMPTY.
    number: that of the router's input for TAKE_FROM and PUT, of its output for CREDIT_OF (docs/NETWORK-FORMATS.md, "Channels
    and ports"); not looked at for other choices. */
 torusmem_outcome torusmem_step(torusmem_machine *m, uint32_t agent, uint32_t choice, uint32_t number);
@@ -174,10 +194,11 @@ typedef struct torusmem_attempt {
   uint32_t agent, choice, number;
 } torusmem_attempt;
 
-/* Makes attempts, one after the other, each as a call of torusmem_step does. OK, value: how many of them moved; EMPTY. */
+/* Makes attempts, one after the other, each as a call of torusmem_step does. OK, value: how many of them moved.
+   NONE: torusmem_step would answer it to one of them; value: the first of these, from 0, and none is made. EMPTY. */
 torusmem_outcome torusmem_run(torusmem_machine *m, const torusmem_attempt *attempts, size_t attempts_length);
 
-/* Whether torusmem_step would move now. OK, value 1 or 0; EMPTY. */
+/* Whether torusmem_step would move now. OK, value 1 or 0; NONE where torusmem_step answers it; EMPTY. */
 torusmem_outcome torusmem_enabled(torusmem_machine *m, uint32_t agent, uint32_t choice, uint32_t number)
     TORUSMEM_RESULT;
 
@@ -191,8 +212,8 @@ torusmem_outcome torusmem_finish(torusmem_machine *m);
    address, one at a time, until one is answered with the first value, at most as many as the second says. */
 enum { TORUSMEM_FENCE = 10, TORUSMEM_SPIN = 11 };
 
-/* Which values of a line are `last`, the number replied to the operation just before it: add them for both. 0 and
-   numbers above 3 say: neither. */
+/* Which values of a line are `last`, the number replied to the operation just before it: add them for both. 0 says:
+   neither. */
 enum { TORUSMEM_FIRST_IS_LAST = 1, TORUSMEM_SECOND_IS_LAST = 2 };
 
 /* Gives a processor a further line at the end of its script, at any time, before steps or after them: an operation
@@ -200,8 +221,8 @@ enum { TORUSMEM_FIRST_IS_LAST = 1, TORUSMEM_SECOND_IS_LAST = 2 };
    reports are taken back first. A value that the line doesn't have isn't looked at; nor is the address of a fence.
    first: the value of a store, swap, add, and, or, xor, max or min; what a cas expects; what a spin waits for.
    second: what a cas writes; how many loads a spin may make, 1 to 4096.
-   OK, value 0: the line is taken; NONE: no line has this number; EMPTY; the first fault that the line has, value 0, in
-   this order: 8, there is no such processor; 7, no such address; 6, a spin hasn't 1 to 4096 loads; 10, `last` with no
+   OK, value 0: the line is taken; NONE: no line has this number, or lasts is above 3; EMPTY; the first fault that the
+   line has, value 0, in this order: 8, there is no such processor; 7, no such address; 6, a spin hasn't 1 to 4096 loads; 10, `last` with no
    operation before it; 9, a script has at most 4096 operations, and all together at most 65536; or
    TORUSMEM_FAULT_MEMORY. But for OK nothing has changed. It and torusmem_ask are the calls after torusmem_load that take
    memory for the machine. */
@@ -213,7 +234,7 @@ torusmem_outcome torusmem_append(torusmem_machine *m, uint32_t processor, uint32
    makes rounds, and takes the answer by torusmem_answer_of.
    OK, value: the index among the operations of the processor, from 0 in the order of issue. BEHIND_SPIN: its script has
    a spin, from its text or appended, and nobody can tell beforehand how many loads that makes; NONE: no operation has
-   this number; EMPTY; or a fault, as of torusmem_append. But for OK nothing has changed. Takes memory as it does. */
+   this number, or lasts is above 3; EMPTY; or a fault, as of torusmem_append. But for OK nothing has changed. Takes memory as it does. */
 torusmem_outcome torusmem_ask(torusmem_machine *m, uint32_t processor, uint32_t operation, uint32_t address,
                               uint64_t first, uint64_t second, uint32_t lasts) TORUSMEM_RESULT;
 
@@ -222,6 +243,21 @@ torusmem_outcome torusmem_finished(torusmem_machine *m) TORUSMEM_RESULT;
 
 /* At most how many moves are left: no steps make more than this. OK, value: the number; EMPTY. */
 torusmem_outcome torusmem_moves_left(torusmem_machine *m) TORUSMEM_RESULT;
+
+/* What a machine is built to (docs/FORMATS.md, "Machine text"). */
+struct torusmem_shape {
+  uint32_t dims;         /* 1 to 3 */
+  uint32_t radices[3];   /* of each dimension, 2 to 8; 0 where there is no such dimension, as for datelines */
+  uint32_t datelines[3];
+  uint32_t depth;        /* flits of a channel, 1 to 8 */
+  uint32_t tags;         /* of a processor, 1 to 16 */
+  uint32_t words;        /* 1 to 65536 */
+  uint32_t tiles;        /* 2 to 64 */
+  uint32_t ports;        /* inputs of a router, and as many outputs: 8 for each dimension, and 2 */
+};
+
+/* Tells what the machine is built to. OK: *out has it; EMPTY: *out is as it was. */
+torusmem_outcome torusmem_shape(torusmem_machine *m, struct torusmem_shape *out) TORUSMEM_RESULT;
 
 /* The number of tiles, 2 to 64, and of words, 1 to 65536. OK, value: the number; EMPTY. */
 torusmem_outcome torusmem_tiles(torusmem_machine *m) TORUSMEM_RESULT;
@@ -280,6 +316,24 @@ torusmem_outcome torusmem_entries(torusmem_machine *m, uint32_t bank) TORUSMEM_R
 
 /* Entry i of a bank, from 0 in the order of its services. Code NONE: no such tile, or no such entry yet. */
 torusmem_entry torusmem_entry_at(torusmem_machine *m, uint32_t bank, uint32_t i) TORUSMEM_RESULT;
+
+/* A row of the one legal order of what is served so far: an operation, where it was served, and when. Events, which are
+   issues, services and answers, are numbered from 1 in the order in which they happen. */
+typedef struct torusmem_ordered {
+  uint32_t bank, place; /* the service, of which torusmem_entry_at tells more */
+  uint32_t source;      /* the tile of the processor that asked */
+  uint32_t index;       /* among the operations of that processor, from 0 in the order of issue */
+  uint32_t issued;      /* the number of its issue */
+  uint32_t served;      /* the number of its service; these rise */
+  uint32_t answered;    /* the number of its answer; 0 while it has none */
+} torusmem_ordered;
+
+/* The rows of the order from row `from` on, counted from 0: the operations in the order of the banks' services, as the
+   report's order lines have them. A row stays, but for its answer.
+   OK: they are the first `value` of out, and those behind them are as they were; where there are no more, value is 0.
+   SHORT: value is how many there are, and out is as it was; so is it on FAULT_MEMORY and EMPTY. */
+torusmem_outcome torusmem_order(torusmem_machine *m, uint32_t from, torusmem_ordered *out, size_t out_length)
+    TORUSMEM_RESULT;
 
 /* A spin that ran out of loads: it made all its loads, and none of them found the number that it sought. */
 typedef struct torusmem_spin {
@@ -378,8 +432,9 @@ torusmem_outcome torusmem_linearize(const uint64_t *opening, size_t opening_leng
 typedef struct torusmem_watch {
   bool full;
   void *at;
+  TORUSMEM_MARK
 } torusmem_watch;
-#define TORUSMEM_WATCH_INIT { false, NULL }
+#define TORUSMEM_WATCH_INIT { false, NULL TORUSMEM_MARKED(TORUSMEM_IS_WATCH) }
 
 /* Begins a watch of a trace, before its first event, over a memory that opens with these words. Each address is below
    opening_length. OK; FULL; FAULT_MEMORY. On anything but OK, *w is as it was. The words may go after the call. */
@@ -407,7 +462,7 @@ torusmem_outcome torusmem_watch_answer(torusmem_watch *w, uint64_t number, uint3
 /* Ends the watch that *w holds, if any, and gives its memory back. It may be begun again then. */
 void torusmem_watch_end(torusmem_watch *w);
 
-/* The library's own calls take no null pointer. So a C program that calls one of the eleven below has a call in front
+/* The library's own calls take no null pointer. So a C program that calls one of the twelve below has a call in front
    of it, by which a pointer with the length 0 becomes one to an item that is not looked at. */
 static inline const uint8_t *torusmem_text_at(const uint8_t *at, size_t length) {
   static const uint8_t none = 0;
@@ -459,6 +514,14 @@ static inline torusmem_outcome torusmem_spins_out_into(torusmem_machine *m, cons
 #define torusmem_spins_out torusmem_spins_out_into
 
 TORUSMEM_RESULT
+static inline torusmem_outcome torusmem_order_into(torusmem_machine *m, uint32_t from, torusmem_ordered *out,
+                                                   size_t out_length) {
+  torusmem_ordered none = { 0, 0, 0, 0, 0, 0, 0 };
+  return torusmem_order(m, from, out_length > 0 ? out : &none, out_length);
+}
+#define torusmem_order torusmem_order_into
+
+TORUSMEM_RESULT
 static inline torusmem_outcome torusmem_report_into(torusmem_machine *m, uint8_t *out, size_t out_length) {
   uint8_t none = 0;
   return torusmem_report(m, out_length > 0 ? out : &none, out_length);
@@ -507,6 +570,122 @@ static inline torusmem_outcome torusmem_route_into(torusmem_machine *m, uint32_t
   return torusmem_route(m, src, dst, reply, out_length > 0 ? out : &none, out_length);
 }
 #define torusmem_route torusmem_route_into
+
+#ifdef TORUSMEM_DEBUG
+#include <stdio.h>
+#include <stdlib.h>
+
+/* Says what is wrong with a handle that a call is given, and aborts. */
+static inline void torusmem_look_at(bool is_right, const char *why, const char *call, const char *file, int line) {
+  if (is_right) return;
+  fprintf(stderr, "%s:%d: %s: %s\n", file, line, call, why);
+  abort();
+}
+
+/* Looks at the mark of a handle, and counts the call: a copy that is left behind has another count than the ticket. */
+static inline void torusmem_look_at_mark(bool full, uint64_t mark, uint64_t wanted, uint64_t *calls, torusmem_ticket *ticket,
+                                         const char *call, const char *file, int line) {
+  bool is_other = mark == TORUSMEM_IS_MACHINE || mark == TORUSMEM_IS_WATCH;
+  torusmem_look_at(mark == wanted || !is_other, "the handle is of the other kind, a machine or a watch", call, file, line);
+  torusmem_look_at(mark == wanted, "the handle was not initialized", call, file, line);
+  torusmem_look_at(full == (ticket != NULL), "the handle was changed by other means than calls", call, file, line);
+  if (ticket == NULL) return;
+  torusmem_look_at(!ticket->gone, "the handle is a copy of one that was freed", call, file, line);
+  torusmem_look_at(*calls == ticket->calls, "the handle is a copy of one that was used since", call, file, line);
+  *calls = ++ticket->calls;
+}
+
+/* A ticket for what a handle holds now, once a call has filled it. */
+static inline torusmem_ticket *torusmem_ticket_of(bool full, torusmem_ticket *ticket, uint64_t *calls) {
+  if (!full || ticket != NULL) return ticket;
+  *calls = 0;
+  ticket = (torusmem_ticket *)calloc(1, sizeof *ticket);
+  if (ticket == NULL) abort();
+  return ticket;
+}
+
+static inline torusmem_machine *torusmem_marked(torusmem_machine *m, const char *call, const char *file, int line) {
+  torusmem_look_at(m != NULL, "the pointer is null", call, file, line);
+  torusmem_look_at_mark(m->full, m->mark, TORUSMEM_IS_MACHINE, &m->calls, m->ticket, call, file, line);
+  return m;
+}
+
+static inline torusmem_watch *torusmem_watch_marked(torusmem_watch *w, const char *call, const char *file, int line) {
+  torusmem_look_at(w != NULL, "the pointer is null", call, file, line);
+  torusmem_look_at_mark(w->full, w->mark, TORUSMEM_IS_WATCH, &w->calls, w->ticket, call, file, line);
+  return w;
+}
+
+TORUSMEM_RESULT
+static inline torusmem_outcome torusmem_load_marked(torusmem_machine *m, const uint8_t *machine, size_t machine_length,
+                                                    const uint8_t *scripts, size_t scripts_length) {
+  torusmem_outcome said = torusmem_load(m, machine, machine_length, scripts, scripts_length);
+  m->ticket = torusmem_ticket_of(m->full, m->ticket, &m->calls);
+  return said;
+}
+
+static inline void torusmem_free_marked(torusmem_machine *m) {
+  torusmem_free(m);
+  if (m->ticket != NULL) m->ticket->gone = true;
+  m->ticket = NULL;
+}
+
+TORUSMEM_RESULT
+static inline torusmem_outcome torusmem_watch_begin_marked(torusmem_watch *w, const uint64_t *opening,
+                                                           size_t opening_length) {
+  torusmem_outcome said = torusmem_watch_begin(w, opening, opening_length);
+  w->ticket = torusmem_ticket_of(w->full, w->ticket, &w->calls);
+  return said;
+}
+
+static inline void torusmem_watch_end_marked(torusmem_watch *w) {
+  torusmem_watch_end(w);
+  if (w->ticket != NULL) w->ticket->gone = true;
+  w->ticket = NULL;
+}
+
+#define TORUSMEM_MACHINE(m, call) torusmem_marked(m, call, __FILE__, __LINE__)
+#define TORUSMEM_WATCH(w, call) torusmem_watch_marked(w, call, __FILE__, __LINE__)
+#undef torusmem_load
+#undef torusmem_watch_begin
+#define torusmem_load(m, ...) torusmem_load_marked(TORUSMEM_MACHINE(m, "torusmem_load"), __VA_ARGS__)
+#define torusmem_free(m) torusmem_free_marked(TORUSMEM_MACHINE(m, "torusmem_free"))
+#define torusmem_watch_begin(w, ...) torusmem_watch_begin_marked(TORUSMEM_WATCH(w, "torusmem_watch_begin"), __VA_ARGS__)
+#define torusmem_watch_end(w) torusmem_watch_end_marked(TORUSMEM_WATCH(w, "torusmem_watch_end"))
+#define torusmem_step(m, ...) torusmem_step(TORUSMEM_MACHINE(m, "torusmem_step"), __VA_ARGS__)
+#undef torusmem_run
+#define torusmem_run(m, ...) torusmem_run_all(TORUSMEM_MACHINE(m, "torusmem_run"), __VA_ARGS__)
+#define torusmem_enabled(m, ...) torusmem_enabled(TORUSMEM_MACHINE(m, "torusmem_enabled"), __VA_ARGS__)
+#define torusmem_round(m) torusmem_round(TORUSMEM_MACHINE(m, "torusmem_round"))
+#define torusmem_finish(m) torusmem_finish(TORUSMEM_MACHINE(m, "torusmem_finish"))
+#define torusmem_append(m, ...) torusmem_append(TORUSMEM_MACHINE(m, "torusmem_append"), __VA_ARGS__)
+#define torusmem_ask(m, ...) torusmem_ask(TORUSMEM_MACHINE(m, "torusmem_ask"), __VA_ARGS__)
+#define torusmem_finished(m) torusmem_finished(TORUSMEM_MACHINE(m, "torusmem_finished"))
+#define torusmem_moves_left(m) torusmem_moves_left(TORUSMEM_MACHINE(m, "torusmem_moves_left"))
+#define torusmem_shape(m, ...) torusmem_shape(TORUSMEM_MACHINE(m, "torusmem_shape"), __VA_ARGS__)
+#define torusmem_tiles(m) torusmem_tiles(TORUSMEM_MACHINE(m, "torusmem_tiles"))
+#define torusmem_words(m) torusmem_words(TORUSMEM_MACHINE(m, "torusmem_words"))
+#define torusmem_word(m, ...) torusmem_word(TORUSMEM_MACHINE(m, "torusmem_word"), __VA_ARGS__)
+#define torusmem_row(m, ...) torusmem_row(TORUSMEM_MACHINE(m, "torusmem_row"), __VA_ARGS__)
+#undef torusmem_rows
+#define torusmem_rows(m, ...) torusmem_rows_into(TORUSMEM_MACHINE(m, "torusmem_rows"), __VA_ARGS__)
+#define torusmem_answers(m, ...) torusmem_answers(TORUSMEM_MACHINE(m, "torusmem_answers"), __VA_ARGS__)
+#define torusmem_answer_at(m, ...) torusmem_answer_at(TORUSMEM_MACHINE(m, "torusmem_answer_at"), __VA_ARGS__)
+#define torusmem_answer_of(m, ...) torusmem_answer_of(TORUSMEM_MACHINE(m, "torusmem_answer_of"), __VA_ARGS__)
+#define torusmem_entries(m, ...) torusmem_entries(TORUSMEM_MACHINE(m, "torusmem_entries"), __VA_ARGS__)
+#define torusmem_entry_at(m, ...) torusmem_entry_at(TORUSMEM_MACHINE(m, "torusmem_entry_at"), __VA_ARGS__)
+#undef torusmem_order
+#define torusmem_order(m, ...) torusmem_order_into(TORUSMEM_MACHINE(m, "torusmem_order"), __VA_ARGS__)
+#undef torusmem_spins_out
+#define torusmem_spins_out(m, ...) torusmem_spins_out_into(TORUSMEM_MACHINE(m, "torusmem_spins_out"), __VA_ARGS__)
+#undef torusmem_report
+#define torusmem_report(m, ...) torusmem_report_into(TORUSMEM_MACHINE(m, "torusmem_report"), __VA_ARGS__)
+#undef torusmem_route
+#define torusmem_route(m, ...) torusmem_route_into(TORUSMEM_MACHINE(m, "torusmem_route"), __VA_ARGS__)
+#define torusmem_next(m, ...) torusmem_next(TORUSMEM_MACHINE(m, "torusmem_next"), __VA_ARGS__)
+#define torusmem_watch_issue(m, ...) torusmem_watch_issue(TORUSMEM_WATCH(m, "torusmem_watch_issue"), __VA_ARGS__)
+#define torusmem_watch_answer(m, ...) torusmem_watch_answer(TORUSMEM_WATCH(m, "torusmem_watch_answer"), __VA_ARGS__)
+#endif
 
 #ifdef __cplusplus
 }

@@ -153,12 +153,14 @@ class machine {
   uint64_t moves_left() { return granted("moves_left", torusmem_moves_left(&held_)); }
   uint32_t tiles() { return number("tiles", torusmem_tiles(&held_)); }
   uint32_t words() { return number("words", torusmem_words(&held_)); }
-  // How many inputs, and outputs, a router has.
-  uint32_t ports() {
-    uint32_t count = 0;
-    while (torusmem_next(&held_, 0, count, 0).code == TORUSMEM_OK) count++;
-    return count;
+  // What the machine is built to.
+  struct torusmem_shape shape() {
+    struct torusmem_shape built;
+    granted("shape", torusmem_shape(&held_, &built));
+    return built;
   }
+  // How many inputs, and outputs, a router has.
+  uint32_t ports() { return shape().ports; }
 
   uint64_t word(uint32_t address) { return granted("word", torusmem_word(&held_, address)); }
   uint64_t row(uint32_t at) { return granted("row", torusmem_row(&held_, at)); }
@@ -190,6 +192,12 @@ class machine {
     uint32_t count = number("entries", torusmem_entries(&held_, bank));
     for (uint32_t at = from; at < count; at++) found.push_back(torusmem_entry_at(&held_, bank, at));
     return found;
+  }
+  // The operations served so far, in the one legal order: those from number `from` on.
+  std::vector<torusmem_ordered> order(uint32_t from = 0) {
+    return filled<std::vector<torusmem_ordered>>("order", 64, [&](torusmem_ordered *at, size_t room) {
+      return torusmem_order(&held_, from, at, room);
+    });
   }
   std::vector<torusmem_spin> spins_out(text shape, text scripts) {
     return filled<std::vector<torusmem_spin>>("spins_out", 16, [&](torusmem_spin *at, size_t room) {

@@ -21,7 +21,7 @@ static const char *const texts[] = {
   "a report breaks a rule",
   "the handle holds no machine",
   "the handle holds a machine already",
-  "there is no such tile, address, place or index",
+  "there is no such agent, choice, tile, address, place or index",
   "the buffer is too short",
   "a pair of a network has no route",
   "a network's channels wait for one another in a circle",

@@ -26,13 +26,13 @@ class Found(NamedTuple):
 
 
 def choices_of(net: Network) -> Dict[Tuple[int, int], List[int]]:
-    """All choices behind each channel for each ejection channel, in the order of their numbers."""
+    """All choices behind each channel for each ejection channel, in the order of the text."""
     found: Dict[Tuple[int, int], List[int]] = {}
     for (x, j), y in net.choices.items():
         found.setdefault((x, j), []).append(y)
     for x, j, y in net.further:
         found.setdefault((x, j), []).append(y)
-    return {key: sorted(ys) for key, ys in found.items()}
+    return found
 
 
 def escapes_of(net: Network) -> Set[int]:

@@ -15,6 +15,8 @@ Turn = Callable[[int, str, str], bool]
 
 def ends(net: Network, routers: Iterable[int]) -> Tuple[Dict[int, int], Dict[int, int]]:
     """An injection and an ejection channel of each router, joined to all."""
+    routers = list(routers)
+    net.expect(len(routers) ** 2)
     inject = {r: net.channel("inject", r, r) for r in routers}
     eject = {r: net.channel("eject", r, r) for r in inject}
     net.joins = [(inject[r], eject[s]) for r in inject for s in eject]
@@ -139,6 +141,7 @@ def fat_tree(arity: int, levels: int) -> Network:
     """A k-ary n-tree: up by any link to a common ancestor, then down (Petrini and Vanneschi, k-ary n-trees, 1997)."""
     net, width = Network(), arity ** (levels - 1)
     nodes = range(arity**levels)
+    net.expect(len(nodes) ** 2)
     inject = {p: net.channel("inject", p // arity, p // arity) for p in nodes}
     eject = {p: net.channel("eject", p // arity, p // arity) for p in nodes}
     net.joins = [(inject[p], eject[q]) for p in nodes for q in nodes]

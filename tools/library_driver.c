@@ -147,8 +147,19 @@ static void report_and_check(kept *it) {
   free(made.bytes);
 }
 
+/* Whether a machine of so many tiles has this attempt, where its routers have so many inputs and outputs. */
+static bool is_there(const struct torusmem_shape *shape, uint32_t agent, uint32_t choice, uint32_t port) {
+  bool is_routers = choice == TORUSMEM_TAKE_FROM || choice == TORUSMEM_PUT || choice == TORUSMEM_CREDIT_OF;
+  bool is_of_both = choice == TORUSMEM_SEND || choice == TORUSMEM_TAKE || choice == TORUSMEM_CREDIT;
+  if (agent >= 3 * shape->tiles) return false;
+  if (agent % 3 == 1) return is_routers && port < shape->ports;
+  return is_of_both || (agent % 3 == 0 ? choice == TORUSMEM_DONE || choice == TORUSMEM_LOOK : choice == TORUSMEM_SERVE);
+}
+
 static void step(kept *it) {
   uint64_t tiles = torusmem_tiles(it->m).value;
+  struct torusmem_shape shape = { 0, { 0, 0, 0 }, { 0, 0, 0 }, 0, 0, 0, 0, 0 };
+  MUST(says(torusmem_shape(it->m, &shape), it->held ? TORUSMEM_OK : TORUSMEM_EMPTY, 0) && shape.tiles == tiles);
   uint32_t agent = around(3 * tiles), choice = around(TORUSMEM_LOOK + 1), port = around(26);
   torusmem_outcome enabled = torusmem_enabled(it->m, agent, choice, port);
   torusmem_outcome said = torusmem_step(it->m, agent, choice, port);
@@ -157,8 +168,8 @@ static void step(kept *it) {
     return;
   }
   uint64_t left = torusmem_moves_left(it->m).value;
-  MUST(enabled.code == TORUSMEM_OK && says(said, TORUSMEM_OK, enabled.value) && said.value <= 1);
-  MUST(said.value == 0 || (agent < 3 * tiles && choice <= TORUSMEM_LOOK));
+  MUST(enabled.code == (is_there(&shape, agent, choice, port) ? TORUSMEM_OK : TORUSMEM_NONE));
+  MUST(says(said, enabled.code, enabled.value) && said.value <= 1);
   MUST(said.value == 1 ? left < it->left : left == it->left);
   it->left = left;
 }
@@ -166,9 +177,12 @@ static void step(kept *it) {
 /* Each choice of a drawn agent, in order. */
 static void turn(kept *it) {
   uint32_t agent = around(3 * torusmem_tiles(it->m).value);
+  struct torusmem_shape shape = { 0, { 0, 0, 0 }, { 0, 0, 0 }, 0, 0, 0, 0, 0 };
+  if (torusmem_shape(it->m, &shape).code != TORUSMEM_OK) shape.ports = 0;
   for (uint32_t choice = 0; choice <= TORUSMEM_LOOK; choice++)
     for (uint32_t port = 0; port < 26; port++)
-      MUST(torusmem_step(it->m, agent, choice, port).code == (it->held ? TORUSMEM_OK : TORUSMEM_EMPTY));
+      MUST(torusmem_step(it->m, agent, choice, port).code ==
+           (!it->held ? TORUSMEM_EMPTY : is_there(&shape, agent, choice, port) ? TORUSMEM_OK : TORUSMEM_NONE));
   it->left = torusmem_moves_left(it->m).value;
 }
 
@@ -177,10 +191,15 @@ static void run(kept *it) {
   uint64_t tiles = torusmem_tiles(it->m).value;
   size_t count = below(40);
   torusmem_attempt *list = room(count * sizeof *list);
+  struct torusmem_shape shape = { 0, { 0, 0, 0 }, { 0, 0, 0 }, 0, 0, 0, 0, 0 };
+  bool is_held = torusmem_shape(it->m, &shape).code == TORUSMEM_OK, is_any = below(4) == 0;
+  size_t named = 0;
   for (size_t at = 0; at < count; at++) {
-    list[at].agent = around(3 * tiles);
-    list[at].choice = around(TORUSMEM_LOOK + 1);
-    list[at].number = around(26);
+    torusmem_attempt *made = &list[at];
+    do {
+      made->agent = around(3 * tiles), made->choice = around(TORUSMEM_LOOK + 1), made->number = around(26);
+    } while (!is_any && is_held && !is_there(&shape, made->agent, made->choice, made->number));
+    if (named == at && is_there(&shape, made->agent, made->choice, made->number)) named++;
   }
   torusmem_outcome said = torusmem_run(it->m, count > 0 || below(2) ? list : NULL, count);
   free(list);
@@ -189,6 +208,10 @@ static void run(kept *it) {
     return;
   }
   uint64_t left = torusmem_moves_left(it->m).value;
+  if (named < count) {
+    MUST(says(said, TORUSMEM_NONE, named) && left == it->left);
+    return;
+  }
   MUST(said.code == TORUSMEM_OK && said.value <= count && left + said.value <= it->left);
   MUST(said.value > 0 || left == it->left);
   it->left = left;

@@ -3,7 +3,7 @@ from __future__ import annotations
 
 from collections import deque
 from dataclasses import dataclass, field
-from typing import Dict, List, NamedTuple, Optional, Set, Tuple
+from typing import Callable, Dict, List, NamedTuple, Optional, Set, Tuple
 
 from command import Refusal
 
@@ -62,6 +62,19 @@ class Network:
         for x, y in zip(channels, channels[1:]):
             if self.choices.setdefault((x, channels[-1]), y) != y:
                 raise Refusal(f"two choices behind channel {x} for packets to channel {channels[-1]}")
+
+    def follow(self, i: int, j: int, after: Callable[[int], int]) -> None:
+        """A pair, and the choices along its route, as far as they aren't known of another's."""
+        self.joins.append((i, j))
+        x = i
+        while x != j and (x, j) not in self.choices:
+            y = self.choices[x, j] = after(x)
+            x = y
+
+    def expect(self, pairs: int) -> None:
+        """Refuses a network of more pairs than a text may have."""
+        if pairs > MOST_PAIRS:
+            raise Refusal(f"the network has more than {MOST_PAIRS} pairs")
 
     def choose(self, x: int, j: int, ys: List[int]) -> None:
         """The choices behind a channel for packets to an ejection channel."""
@@ -215,17 +228,22 @@ def parsed(text: str, path: str) -> Network:
 def judged(net: Network) -> Tuple[str, Dict[Tuple[int, int], str]]:
     """The verdict's kind by a plain walk, and the dependencies with how each leads on."""
     edges = {(x, y): "" for x, y in net.replies}
+    arrives: Set[Tuple[int, int]] = set()
     for i, j in net.joins:
         x, steps = i, 0
         if net.kinds[i] != "inject" or net.kinds[j] != "eject":
             return f"no route {i} {j}", edges
-        while x != j:
+        while x != j and (x, j) not in arrives:
             y = net.choices.get((x, j))
             steps += 1
             if y is None or y >= len(net.kinds) or (y != j and net.kinds[y] != "hop") or steps > len(net.kinds):
                 return f"no route {i} {j}", edges
             edges.setdefault((x, y), str(j))
             x = y
+        x = i
+        while x != j and (x, j) not in arrives:
+            arrives.add((x, j))
+            x = net.choices[x, j]
     return ("rising" if numbers(net, edges) is not None else "cycle"), edges
 
 

@@ -9,16 +9,16 @@ use std::process::exit;
 use std::time::Instant;
 
 #[derive(Clone, Copy, PartialEq, Eq)]
-enum Kind {
+pub enum Kind {
     Injection,
     Hop,
     Ejection,
 }
 
 #[derive(Clone, Copy)]
-struct Pair {
-    from: usize,
-    to: usize,
+pub struct Pair {
+    pub from: usize,
+    pub to: usize,
 }
 
 #[derive(Clone, Copy)]
@@ -44,14 +44,14 @@ enum Verdict {
 }
 
 /// The fault of a line, by its code.
-type Fault = &'static str;
+pub type Fault = &'static str;
 
 // Reading.
 
 const WORDS: usize = 7;
 
 /// The first line of a text and what follows it.
-fn next_line(text: &[u8]) -> Option<(&[u8], &[u8])> {
+pub fn next_line(text: &[u8]) -> Option<(&[u8], &[u8])> {
     if text.is_empty() {
         return None;
     }
@@ -69,7 +69,7 @@ fn is_blank(byte: u8) -> bool {
 }
 
 /// The first words of a line, and how many they are.
-fn first_words(line: &[u8]) -> ([&[u8]; WORDS], usize) {
+pub fn first_words(line: &[u8]) -> ([&[u8]; WORDS], usize) {
     let mut words: [&[u8]; WORDS] = [b""; WORDS];
     let mut count = 0;
     let mut rest = line;
@@ -88,7 +88,7 @@ fn first_words(line: &[u8]) -> ([&[u8]; WORDS], usize) {
 }
 
 /// The number that a word spells, at most 2^31.
-fn index(word: &[u8]) -> Result<u32, Fault> {
+pub fn index(word: &[u8]) -> Result<u32, Fault> {
     if word.is_empty() {
         return Err("F4");
     }
@@ -102,14 +102,14 @@ fn index(word: &[u8]) -> Result<u32, Fault> {
     Ok(number as u32)
 }
 
-struct Network {
-    kinds: Vec<Kind>,
-    joins: Vec<Pair>,
-    replies: Vec<Pair>,
-    ejections: usize,
+pub struct Network {
+    pub kinds: Vec<Kind>,
+    pub joins: Vec<Pair>,
+    pub replies: Vec<Pair>,
+    pub ejections: usize,
     begun: bool,
-    columns: Vec<usize>,
-    choices: Vec<u32>,
+    pub columns: Vec<usize>,
+    pub choices: Vec<u32>,
 }
 
 /// The column of each channel: how many ejection channels come before it.
@@ -131,7 +131,7 @@ impl Network {
     }
 
     /// A channel below the number of channels, which is given.
-    fn channel(&self, x: u32) -> Result<usize, Fault> {
+    pub fn channel(&self, x: u32) -> Result<usize, Fault> {
         if self.kinds.is_empty() {
             return Err("F5");
         }
@@ -176,7 +176,7 @@ impl Network {
         Ok(())
     }
 
-    fn begin(&mut self) {
+    pub fn begin(&mut self) {
         if !self.begun {
             self.columns = columns_of(&self.kinds);
             self.choices = vec![self.kinds.len() as u32; self.kinds.len() * self.ejections];
@@ -214,7 +214,7 @@ impl Network {
         Ok(())
     }
 
-    fn take(&mut self, words: &[&[u8]]) -> Result<(), Fault> {
+    pub fn take(&mut self, words: &[&[u8]]) -> Result<(), Fault> {
         match words {
             [] => Ok(()),
             [[b'#', ..], ..] => Ok(()),
@@ -229,9 +229,9 @@ impl Network {
     }
 }
 
-/// The network of a text, or the first fault and its line.
-fn read(text: &[u8]) -> Result<Network, (Fault, u64)> {
-    let mut network = Network {
+/// A network of which nothing is given yet.
+pub fn nothing() -> Network {
+    Network {
         kinds: Vec::new(),
         joins: Vec::new(),
         replies: Vec::new(),
@@ -239,7 +239,12 @@ fn read(text: &[u8]) -> Result<Network, (Fault, u64)> {
         begun: false,
         columns: Vec::new(),
         choices: Vec::new(),
-    };
+    }
+}
+
+/// The network of a text, or the first fault and its line.
+fn read(text: &[u8]) -> Result<Network, (Fault, u64)> {
+    let mut network = nothing();
     let mut number = 1;
     let mut rest = text;
     while let Some((line, after)) = next_line(rest) {

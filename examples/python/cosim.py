@@ -75,10 +75,10 @@ def differences(library, verilog):
 def run(machine, router, tile, rng):
     """Makes drawn steps till every script is finished: how many were the router's, how many of these moved, and lines
     that say what is wrong with the last one (none if nothing is)."""
-    ports = max(line.place for line in machine.channels()) - 1
+    shape = machine.shape
     before, steps, moves = machine.row(), 0, 0
     while not machine.finished:
-        agent, choice, number = drawn(rng, machine.tiles, ports)
+        agent, choice, number = drawn(rng, shape.tiles, shape.ports)
         moved = machine.step(agent, choice, number)
         after = machine.row() if moved else before
         if agent == 3 * tile + 1:

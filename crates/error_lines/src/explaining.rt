@@ -1,29 +1,44 @@
-//! The lines that say why the texts of a machine or a report are refused.
+//! What is told of texts that can't be read, or that have a fault.
 
-use crate::telling::{explain_by, is_of_texts, named, told};
-use lexer::Named;
+ghost use Rattle.std.specs.Prelude.{◌≡◌, option_map};
+ghost use Rattle.error_lines.specs.Unread.{unread_line_of, unread_text};
+
+use crate::fault_lines::{Kind, fault_line};
+use crate::telling::told;
 use program_fault::{Names, ProgramFault, Texts, Unread};
-use report_reasons::why_bad;
-use sentences::{Sentence, machine_sentence, scripts_sentence, steps_sentence, tile_sentence};
-use std::alloc::Global;
+use std::fmt;
 
-/// What the texts of a command are.
+/// Why the text of a name can't be read: `FILE: no such file or directory`.
 #[derive(Clone, Copy)]
-pub enum Kind {
-    /// A machine, and where there are more its scripts, and steps.
-    Machine,
-    /// A machine, of which the route between two tiles is asked.
-    Route { src: u32, dst: u32 },
-    /// A report.
-    Report,
+pub struct UnreadLine<'a> {
+    pub name: &'a str,
+    pub words: &'static str,
+}
+
+impl<'a> fmt::Display for UnreadLine<'a> {
+    ghost use Rattle.std.specs.Prelude.{Some};
+    ghost use Rattle.error_lines.specs.Unread.{unread_text};
+
+    ghost output = { λ line. Some (unread_text line) };
+
+    fn fmt<W: fmt::Write>(&self, f: &mut fmt::Formatter<W>) -> fmt::Result {
+        write!(f, "{}: {}", self.name, self.words)
+    }
+}
+
+/// Why the text of a name can't be read, where there is a word for it.
+pub fn unread_line<'a>(name: &'a str, why: Unread) -> Option<UnreadLine<'a>>
+    ensures { option_map unread_text result ≡ unread_line_of name.now why }
+{
+    match why.words() {
+        Some(words) => Some(UnreadLine { name, words }),
+        None => None,
+    }
 }
 
 /// Says why a text can't be read, where there is a word for it.
 pub fn explain_unread<R: Eprint>(rt: &R, name: &str, why: Unread) {
-    let Some(why) = why.words() else {
-        return;
-    };
-    let _ = eprintln!(rt; "{name}: {why}");
+    let _ = told(rt, unread_line(name, why));
 }
 
 /// Says why the texts of a command have the fault that it answers, where that can be told from
@@ -35,54 +50,7 @@ pub fn explain<R: Eprint + AllocGlobal>(
     texts: &Texts,
     fault: &ProgramFault,
 ) {
-    match fault {
-        ProgramFault::Tile => explain_tile(rt, kind, texts),
-        ProgramFault::Bad(_) => explain_report(rt, kind, names, texts),
-        _ => {
-            if is_of_texts(fault) {
-                explain_by(rt, fault, sentence(rt.alloc(), kind, names, texts));
-            }
-        }
+    if let Ok(line) = fault_line(rt.alloc(), kind, names, texts, fault) {
+        let _ = told(rt, line);
     }
-}
-
-/// Says which rule the first bad line of a report breaks.
-fn explain_report<R: Eprint + AllocGlobal>(rt: &R, kind: Kind, names: &Names, texts: &Texts) {
-    let (Kind::Report, Some(report)) = (kind, names.first) else {
-        return;
-    };
-    if let Ok(Some(bad)) = why_bad(rt.alloc(), &texts.first) {
-        let _ = eprintln!(rt; "{report}:{}: {}", bad.line, bad.reason);
-    }
-}
-
-/// Says which tile of a route the machine hasn't.
-fn explain_tile<R: Eprint + AllocGlobal>(rt: &R, kind: Kind, texts: &Texts) {
-    let Kind::Route { src, dst } = kind else {
-        return;
-    };
-    if let Ok(sentence) = tile_sentence(rt.alloc(), &texts.first, src, dst) {
-        let _ = told(rt, sentence);
-    }
-}
-
-/// Which text of a command with a machine has the first fault, at which line, and why.
-fn sentence<'a>(
-    alloc: Global,
-    kind: Kind,
-    names: &Names<'a>,
-    texts: &'a Texts,
-) -> Option<Sentence<'a>> {
-    if let Kind::Report = kind {
-        return None;
-    }
-    let machine: Named<'a> = named(names.first?, &texts.first);
-    let Some(script) = names.second else {
-        return machine_sentence(alloc, machine);
-    };
-    let script = named(script, &texts.second);
-    let Some(steps) = names.third else {
-        return scripts_sentence(alloc, machine, script);
-    };
-    steps_sentence(alloc, machine, script, named(steps, &texts.third))
 }

@@ -28,6 +28,13 @@ pub counts_on : (v : Asked) (counts : List ℕ) (new : Core) (more : List Step) 
     → counts ≡ new.allowed
 counts_on v counts new more h on same = same ∙ (h.after.allowed ∙ sym (on h.load h.steps h.after).allowed)
 
+-- the depth and the tags stay
+pub depth_on : (v : Asked) (depth : ℕ) (new : Core) (more : List Step) → IsAsked v → RunsOn v.core new more → depth ≡ v.core.depth → depth ≡ new.depth
+depth_on v depth new more h on same = same ∙ (h.after.depth ∙ sym (on h.load h.steps h.after).depth)
+
+pub tags_on : (v : Asked) (tags : ℕ) (new : Core) (more : List Step) → IsAsked v → RunsOn v.core new more → tags ≡ v.core.tags → tags ≡ new.tags
+tags_on v tags new more h on same = same ∙ (h.after.tags ∙ sym (on h.load h.steps h.after).tags)
+
 or_false : (b : Bool) → (b || false) ≡ b
 or_false true = refl
 or_false false = refl

@@ -30,12 +30,15 @@ use std::marker::Model;
 use torus::{Fault, Step, Stepped};
 
 /// A machine whose scripts grow while it runs. Beside it stands of each script whether it has a spin and
-/// how many operations it makes at most, by which the index of an operation that is asked is known.
+/// how many operations it makes at most, by which the index of an operation that is asked is known; and
+/// the depth and the tags that were loaded.
 #[derive(Drop)]
 pub struct AskedMachine<A: Allocator = Global> {
     machine: Machine<A>,
     counts: Vec<u32, A>,
     spins: Vec<bool, A>,
+    depth: u32,
+    tags: u32,
 }
 
 impl<A: Allocator> Model for AskedMachine<A> {
@@ -66,6 +69,7 @@ impl<A: Allocator + Copy> AskedMachine<A> {
         let machine = read_machine(alloc, machine)?;
         let scripts = read_scripts(alloc, scripts, &machine)?;
         let tiles = machine.torus().tiles();
+        let (depth, tags) = (machine.depth(), machine.tags());
         let _fits = scripts.fits(&machine);
         let Ok(counts) = counts_of(alloc, &scripts, tiles) else {
             return Err(out_of_memory());
@@ -78,6 +82,8 @@ impl<A: Allocator + Copy> AskedMachine<A> {
                 machine,
                 counts,
                 spins,
+                depth,
+                tags,
             }),
             Err(fault) => Err(LineFault { fault, line: 0 }),
         }
@@ -113,6 +119,20 @@ impl<A: Allocator> AskedMachine<A> {
         ensures { result.now ≡ self.now.core }
     {
         &self.machine
+    }
+
+    /// How many flits a channel holds, 1 to 8.
+    pub fn depth(&self) -> u32
+        ensures { result ≡ self.now.core.depth }
+    {
+        self.depth
+    }
+
+    /// How many tags a processor has, 1 to 16.
+    pub fn tags(&self) -> u32
+        ensures { result ≡ self.now.core.tags }
+    {
+        self.tags
     }
 
     /// The machine stands where some steps lead from an accepted load, whose scripts have these spins.

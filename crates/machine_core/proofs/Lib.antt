@@ -22,4 +22,8 @@ pub mod HandedPorts
 pub mod HandedChoices
 pub mod HandedMachines
 pub mod Skips
+pub mod Rousing
+pub mod Marking
+pub mod MarkedSteps
+pub mod ClockedRounds
 pub mod BothRead

@@ -1,6 +1,8 @@
 pub mod Inside
 pub mod Loaded
 pub mod Rounds
+pub mod Clocked
+pub mod Marked
 pub mod Shown
 pub mod Noted
 pub mod Fresh

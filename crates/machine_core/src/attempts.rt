@@ -114,6 +114,14 @@ impl<A: Allocator> Machine<A> {
         }
     }
 
+    /// Counts all choices of all agents as awake, so that the steps of a list have none to wake.
+    pub(crate) fn rouse(&mut self)
+        ensures { self.new ≡ self.old }
+    {
+        self.awake.rouse_all();
+        self.ports.rouse_all();
+    }
+
     /// Makes one round: attempts each choice of each agent once, the agents in their order. Where some
     /// script isn't finished, the round makes a move.
     pub fn round(&mut self)
@@ -227,7 +235,7 @@ impl<A: Allocator> Machine<A> {
     }
 
     /// Counts a choice of a tile's processor as asleep that isn't enabled.
-    fn choice_of_processor_sleeps(&mut self, tile: usize, choice: Choice)
+    pub(crate) fn choice_of_processor_sleeps(&mut self, tile: usize, choice: Choice)
         requires tile { tile < tiles_of self.old.shape }
         requires choice { is_of_processor choice ≡ true }
         requires idle { step (built_to self.old) self.old.state
@@ -238,7 +246,7 @@ impl<A: Allocator> Machine<A> {
     }
 
     /// Counts a choice of a tile's bank as asleep that isn't enabled.
-    fn choice_of_bank_sleeps(&mut self, tile: usize, choice: Choice)
+    pub(crate) fn choice_of_bank_sleeps(&mut self, tile: usize, choice: Choice)
         requires tile { tile < tiles_of self.old.shape }
         requires choice { is_of_bank choice ≡ true }
         requires idle { step (built_to self.old) self.old.state

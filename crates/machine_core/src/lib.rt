@@ -4,11 +4,13 @@
 
 mod asking;
 mod attempts;
+mod clocked;
 mod growing;
 pub mod laws;
 mod loading;
 pub mod machine;
 mod noting;
+pub mod part;
 pub mod parts;
 mod routers;
 mod texts;

@@ -78,6 +78,7 @@ impl<A: Allocator> Machine<A> {
         ensures state { self.new ≡ core_after self.old steps.now }
         ensures runs_on { RunsOn self.old self.new steps.now }
     {
+        self.rouse();
         for step in steps {
             let _ = self.step(*step);
         }

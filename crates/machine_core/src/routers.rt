@@ -50,7 +50,7 @@ impl<A: Allocator> Machine<A> {
     }
 
     /// Counts a take of a tile's router as asleep that isn't enabled.
-    fn take_sleeps(&mut self, tile: usize, input: u32)
+    pub(crate) fn take_sleeps(&mut self, tile: usize, input: u32)
         requires tile { tile < tiles_of self.old.shape }
         requires idle { step (built_to self.old) self.old.state
             (record { agent = 3 * tile + 1; choice = TakeFrom input }) ≡ None }
@@ -96,7 +96,7 @@ impl<A: Allocator> Machine<A> {
     }
 
     /// Counts a put of a tile's router as asleep that isn't enabled.
-    fn put_sleeps(&mut self, tile: usize, input: u32)
+    pub(crate) fn put_sleeps(&mut self, tile: usize, input: u32)
         requires tile { tile < tiles_of self.old.shape }
         requires idle { step (built_to self.old) self.old.state
             (record { agent = 3 * tile + 1; choice = Put input }) ≡ None }
@@ -142,7 +142,7 @@ impl<A: Allocator> Machine<A> {
     }
 
     /// Counts a credit of a tile's router as asleep that isn't enabled.
-    fn credit_sleeps(&mut self, tile: usize, output: u32)
+    pub(crate) fn credit_sleeps(&mut self, tile: usize, output: u32)
         requires tile { tile < tiles_of self.old.shape }
         requires idle { step (built_to self.old) self.old.state
             (record { agent = 3 * tile + 1; choice = CreditOf output }) ≡ None }

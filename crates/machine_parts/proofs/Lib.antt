@@ -29,6 +29,7 @@ mod PlacesOfLines
 mod SetFlags
 pub mod PortSets
 pub mod PortFlags
+pub mod AllSet
 pub mod KeptSleepers
 pub mod Items
 pub mod Refused

@@ -189,14 +189,15 @@ module _ (flags : List ℕ) (agent bit : ℕ) (within : bit < 8) (low : agent < 
 -- fields of which only the flags have changed tell the ends as before
 pub still_tell : {A : Type 0} (a b : Inside A) → TellEnds a → b.torus ≡ a.torus → b.depth ≡ a.depth → b.words ≡ a.words → b.ends ≡ a.ends → (bits : ℕ)
     (agents : List ℕ)
-    → b.awake ≡ with_bits a.awake bits agents → TellEnds b
-still_tell a b is torus depth words ends bits agents awake = record {
+    → b.awake ≡ with_bits a.awake bits agents → b.all ≡ false → TellEnds b
+still_tell a b is torus depth words ends bits agents awake some_clear = record {
   accepted = subst IsAccepted (sym torus) is.accepted;
   flags = ap (λ (xs : List ℕ). length xs) awake ∙ (as_many a.awake bits agents ∙ is.flags);
   some = let h = is.some in omega (arith, depth, h);
   few = let h = is.few in omega (arith, depth, h);
   words = let h = is.words in omega (arith, words, h);
   ends = ap (λ v. v.items) ends ∙ (is.ends ∙ (ap (λ (s : Shape). all_ends s a.depth) (sym torus) ∙ ap (all_ends b.torus) (sym depth)));
+  all = λ e. let clash : ◌≡◌ {A = Bool} true false = sym e ∙ some_clear in absurd (cc);
 }
 
 -- an addition wakes the processors where its word is the done word, and nobody else

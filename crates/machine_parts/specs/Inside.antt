@@ -1,7 +1,7 @@
 -- What the fields of the flags stand for, and what is true of them.
-use Rattle.std.specs.Prelude.{◌≡◌, ◌<◌, ◌≤◌, length}
+use Rattle.std.specs.Prelude.{◌≡◌, ℕ, ◌<◌, ◌≤◌, true, List, length}
 use Rattle.torus.specs.Shape.{IsAccepted}
-use Rattle.machine_parts.specs.Awake.{Awake}
+use Rattle.machine_parts.specs.Awake.{Awake, bits_at}
 use Rattle.machine_parts.specs.Ends.{all_ends}
 use Rattle.machine_parts.specs.declared.flags.WakeFlags.TheInside.{Inside}
 
@@ -11,6 +11,10 @@ awake_of a = record {
   flags = a.awake;
 }
 
+-- all bits of all agents are set
+abbrev pub AreAll : List ℕ → Type 0
+AreAll flags = (k : ℕ) → bits_at flags k ≡ 255
+
 -- there are bits for each of 192 agents, and the ends of each place
 pub record TellEnds {A : Type 0} (a : Inside A) : Type 0 where
   pub accepted : IsAccepted a.torus
@@ -19,3 +23,4 @@ pub record TellEnds {A : Type 0} (a : Inside A) : Type 0 where
   pub few : a.depth ≤ 8
   pub words : a.words ≤ 65536
   pub ends : a.ends.items ≡ all_ends a.torus a.depth
+  pub all : a.all ≡ true → AreAll a.awake

@@ -86,3 +86,12 @@ credit_rested t o f = record {
   credits = lowered f.credits t o;
   full = f.full;
 }
+
+-- once all takes, puts and credits are roused
+abbrev pub ports_roused : PortFlags → PortFlags
+ports_roused f = record {
+  takes = λ t i. true;
+  puts = λ t i. true;
+  credits = λ t o. true;
+  full = f.full;
+}

@@ -52,6 +52,8 @@ pub struct WakeFlags<A: Allocator = Global> {
     words: u32,
     ends: Vec<Ends, A>,
     awake: [u8; MOST_AGENTS],
+    // Only where all bits of all agents are set: so a move has none to set.
+    all: bool,
 }
 
 impl<A: Allocator> Model for WakeFlags<A> {
@@ -89,6 +91,7 @@ impl<A: Allocator + Copy> WakeFlags<A> {
             words,
             ends,
             awake: [ALL; MOST_AGENTS],
+            all: true,
         })
     }
 }
@@ -145,6 +148,7 @@ impl<A: Allocator> WakeFlags<A> {
         ensures { self.new ≡ rested self.old agent }
     {
         self.awake[agent] = 0;
+        self.all = false;
     }
 
     /// Counts a choice of an agent as asleep, and with it those that share its bit.
@@ -156,6 +160,7 @@ impl<A: Allocator> WakeFlags<A> {
             ≡ choice_rested agent choice (is_choice_awake self.old) k c }
     {
         self.awake[agent] &= !(1 << bit_of(choice));
+        self.all = false;
     }
 
     /// Counts all choices of an agent as awake.
@@ -165,13 +170,18 @@ impl<A: Allocator> WakeFlags<A> {
         ensures { self.new ≡ roused self.old agent }
     {
         self.awake[agent] = ALL;
+        self.all = false;
     }
 
     /// Counts all choices of all agents as awake.
     pub fn rouse_all(&mut self)
         ensures { self.new ≡ all_roused self.old }
     {
+        if self.all {
+            return;
+        }
         self.awake = [ALL; MOST_AGENTS];
+        self.all = true;
     }
 
     /// After a move of an agent by this operation: all its own choices count as awake, and those that the
@@ -181,6 +191,9 @@ impl<A: Allocator> WakeFlags<A> {
         requires { agent < 192 }
         ensures { self.new ≡ awake_after self.old agent op }
     {
+        if self.all {
+            return;
+        }
         self.rouse(agent);
         self.wake(op);
     }
@@ -215,6 +228,7 @@ impl<A: Allocator> WakeFlags<A> {
         if word < self.ends.len() {
             let agent = self.ends[word].sender as usize;
             self.awake[agent] |= CREDITS;
+            self.all = false;
         }
     }
 
@@ -230,6 +244,7 @@ impl<A: Allocator> WakeFlags<A> {
         if word < self.ends.len() {
             let agent = self.ends[word].receiver as usize;
             self.awake[agent] |= TAKES;
+            self.all = false;
         }
     }
 
@@ -239,6 +254,7 @@ impl<A: Allocator> WakeFlags<A> {
         ensures flags { self.new.flags
             ≡ with_bits self.old.flags 16 (processors (tiles_of self.old.design.shape)) }
     {
+        self.all = false;
         for tile in 0..self.torus.tiles() {
             self.awake[3 * tile as usize] |= LOOKS;
         }

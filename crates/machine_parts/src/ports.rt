@@ -5,7 +5,7 @@ ghost use Rattle.std.specs.Slice.Scan.{HoldsNowhere, IsFirstPlace};
 ghost use Rattle.flit_buffer.specs.declared.word_op.WordOp.TheVariants.{Store, Swap};
 ghost use Rattle.core_wake.specs.Routers.{ports_woken, router_moved};
 ghost use Rattle.machine_parts.specs.Ports.{AwakePorts, flags_of, fresh_ports};
-ghost use Rattle.machine_parts.specs.Ports.{take_rested, put_rested, credit_rested};
+ghost use Rattle.machine_parts.specs.Ports.{take_rested, put_rested, credit_rested, ports_roused};
 
 use crate::port_ends::{PortEnds, all_ports};
 use crate::port_set::PortSet;
@@ -25,6 +25,8 @@ pub struct RouterFlags<A: Allocator = Global> {
     puts: PortSet,
     credits: PortSet,
     full: PortSet,
+    // Only where all takes, puts and credits count as awake: so a move has none to wake.
+    all: bool,
 }
 
 impl<A: Allocator> Model for RouterFlags<A> {
@@ -63,6 +65,7 @@ impl<A: Allocator + Copy> RouterFlags<A> {
             puts: PortSet::all(),
             credits: PortSet::all(),
             full: PortSet::none(),
+            all: true,
         })
     }
 }
@@ -109,6 +112,7 @@ impl<A: Allocator> RouterFlags<A> {
         ensures flags { flags_of self.new ≡ take_rested tile input (flags_of self.old) }
     {
         self.takes.lower(tile, input);
+        self.all = false;
     }
 
     /// Counts a put of a tile's router as asleep.
@@ -119,6 +123,7 @@ impl<A: Allocator> RouterFlags<A> {
         ensures flags { flags_of self.new ≡ put_rested tile input (flags_of self.old) }
     {
         self.puts.lower(tile, input);
+        self.all = false;
     }
 
     /// Counts a credit of a tile's router as asleep.
@@ -129,6 +134,21 @@ impl<A: Allocator> RouterFlags<A> {
         ensures flags { flags_of self.new ≡ credit_rested tile output (flags_of self.old) }
     {
         self.credits.lower(tile, output);
+        self.all = false;
+    }
+
+    /// Counts all takes, puts and credits of all routers as awake.
+    pub fn rouse_all(&mut self)
+        ensures design { self.new.design ≡ self.old.design }
+        ensures flags { flags_of self.new ≡ ports_roused (flags_of self.old) }
+    {
+        if self.all {
+            return;
+        }
+        self.takes = PortSet::all();
+        self.puts = PortSet::all();
+        self.credits = PortSet::all();
+        self.all = true;
     }
 
     /// Counts as awake what a move by this operation wakes at the other end of its channel: a swap at a
@@ -138,6 +158,9 @@ impl<A: Allocator> RouterFlags<A> {
         ensures design { self.new.design ≡ self.old.design }
         ensures flags { flags_of self.new ≡ ports_woken self.old.design op (flags_of self.old) }
     {
+        if self.all {
+            return;
+        }
         match op {
             WordOp::Swap(word, value) => self.return_credit(word, value),
             WordOp::Store(word, flit) => self.bring_flit(word, flit),
@@ -179,7 +202,10 @@ impl<A: Allocator> RouterFlags<A> {
     {
         if word < self.ends.len() {
             match self.ends[word].output {
-                Some(port) => self.credits.raise(port.0 as usize, port.1 as u32),
+                Some(port) => {
+                    self.credits.raise(port.0 as usize, port.1 as u32);
+                    self.all = false;
+                }
                 None => {}
             }
         }
@@ -194,7 +220,10 @@ impl<A: Allocator> RouterFlags<A> {
     {
         if word < self.ends.len() {
             match self.ends[word].input {
-                Some(port) => self.takes.raise(port.0 as usize, port.1 as u32),
+                Some(port) => {
+                    self.takes.raise(port.0 as usize, port.1 as u32);
+                    self.all = false;
+                }
                 None => {}
             }
         }

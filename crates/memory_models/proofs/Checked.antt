@@ -28,3 +28,25 @@ checked words ops writes each all = record {
   ordered = λ p q less low. (let k : ℕ = q - p in
       rising_all (length writes) (λ z. (operation_at ops (slice_index writes z)).word) (λ b z e l. (all z l).ordered b e) k p q (omega arith) low);
 }
+
+-- and of a trace all of it is so
+pub good_operation : (words : ℕ) (ops : List Operation) (writes : List ℕ) (x : ℕ) → IsMemoryTrace words ops writes → x < length ops
+    → IsGoodOperation words ops writes x
+good_operation words ops writes x t low = record {
+  processor = λ b e. t.processors b x (omega arith) low;
+  word = t.word x low;
+  place = t.place x low;
+  inside = λ uses. t.low (operation_at ops x).place (t.place x low uses);
+  source = t.source x low;
+  written = t.written x low;
+}
+
+pub good_write : (words : ℕ) (ops : List Operation) (writes : List ℕ) (p : ℕ) → IsMemoryTrace words ops writes → p < length writes
+    → IsGoodWrite ops writes p
+good_write words ops writes p t low = record {
+  low = t.low p low;
+  is = t.writes_are p low;
+  place = t.places p low;
+  before = λ b e. t.low b (omega arith);
+  ordered = λ b e. t.ordered b p (omega arith) low;
+}

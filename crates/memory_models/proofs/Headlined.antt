@@ -12,10 +12,10 @@ use Rattle.memory_models.specs.Following.{IsChainedOn}
 use Rattle.memory_models.specs.Models.{sequential, total_store_order, partial_store_order, coherent, fenced}
 use Rattle.memory_models.specs.Machines.{effect_at}
 use Rattle.memory_models.specs.Verdict.{IsModelVerdict}
-use Rattle.memory_models.specs.Headline.{IsSequentialVerdict, IsBufferVerdict}
+use Rattle.memory_models.specs.Headline.{IsSequentialVerdict, IsBufferVerdict, IsWordBufferVerdict, IsWordVerdict}
 use Rattle.memory_models.proofs.Sequential.{order_is_sequential, sequential_is_order}
-use Rattle.memory_models.proofs.Runs.{run_is_order}
-use Rattle.memory_models.proofs.Scheduled.{order_is_run}
+use Rattle.memory_models.proofs.Buffers.{run_is_order, order_is_run, word_run_is_order, order_is_word_run}
+use Rattle.memory_models.proofs.Coherent.{coherent_is_sequential_on, sequential_on_is_coherent, merged}
 use Rattle.memory_models.proofs.Blocks.{made_at, left_at}
 
 pub sequential_verdict : {A : Type 0} (words : ℕ) (ops : List Operation) (writes : List ℕ) (v : Verdict A) → IsMemoryTrace words ops writes
@@ -30,6 +30,20 @@ buffer_verdict words ops writes (Ordered turns) t v =
     (v.0, v.1, (made_at ops turn, left_at ops turn, order_is_run words ops writes turn t v.1))
 buffer_verdict words ops writes (Cycle steps) t v =
     (v.0, λ made left run. v.1 (effect_at ops made left) (run_is_order words ops writes made left t run))
+
+pub word_buffer_verdict : {A : Type 0} (words : ℕ) (ops : List Operation) (writes : List ℕ) (v : Verdict A) → IsMemoryTrace words ops writes
+    → IsModelVerdict partial_store_order ops writes v → IsWordBufferVerdict ops writes v
+word_buffer_verdict words ops writes (Ordered turns) t v =
+    let turn : ℕ → ℕ = slice_index turns.items in
+    (v.0, v.1, (made_at ops turn, left_at ops turn, order_is_word_run words ops writes turn t v.1))
+word_buffer_verdict words ops writes (Cycle steps) t v =
+    (v.0, λ made left run. v.1 (effect_at ops made left) (word_run_is_order words ops writes made left t run))
+
+pub word_verdict : {A : Type 0} (words : ℕ) (ops : List Operation) (writes : List ℕ) (v : Verdict A) → IsMemoryTrace words ops writes
+    → IsModelVerdict coherent ops writes v → IsWordVerdict ops writes v
+word_verdict words ops writes (Ordered turns) t v = (v.0, coherent_is_sequential_on words ops writes (slice_index turns.items) t v.1)
+word_verdict words ops writes (Cycle steps) t v =
+    (v.0, λ turns all. v.1 (merged words ops turns) (sequential_on_is_coherent words ops writes turns t all))
 
 pub sequential_chained : (k : ℕ) → k < length sequential → IsChained (rule_at sequential k) ⊎ IsChainedOn (rule_at sequential k)
 sequential_chained zero low = inl (λ kind e. e)

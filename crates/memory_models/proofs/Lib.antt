@@ -15,3 +15,9 @@ mod Deciding
 mod Examples
 pub mod Headlined
 pub mod Last
+pub mod InTurns
+pub mod Valued
+pub mod Replayed
+pub mod RunBy
+pub mod Buffers
+pub mod Coherent

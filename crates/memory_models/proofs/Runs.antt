@@ -1,4 +1,4 @@
--- A run of the machine with buffers of stores is an order of the model.
+-- A run of a machine with buffers of stores is an order of its model.
 use Rattle.std.proofs.Common.{◌≡◌, ◌⊎◌, inl, inr, ℕ, zero, suc, ◌<◌, ◌≤◌, true, List, length, refl, sym, ◌∙◌, ap, subst, arith}
 use Rattle.std.specs.Prelude.{slice_index}
 use Rattle.std.proofs.lemmas.Bool.{cases_lt, cases_eq}
@@ -6,11 +6,12 @@ use Rattle.memory_models.specs.declared.kinds.Kind.{Kind}
 use Rattle.memory_models.specs.declared.kinds.Kind.TheVariants.{Load, Store, Atomic, Fence}
 use Rattle.memory_models.specs.declared.kinds.Operation.{Operation}
 use Rattle.memory_models.specs.Trace.{is_load, is_write, uses_word, operation_at, IsOwn, AreOnOne, IsMemoryTrace, source_at}
-use Rattle.memory_models.specs.Order.{KeepsOrder, IsMemoryOrder}
-use Rattle.memory_models.specs.Models.{total_store_order}
-use Rattle.memory_models.specs.Machines.{effect_time, effect_at, IsBuffered, IsBufferRun}
+use Rattle.memory_models.specs.Order.{IsMemoryOrder}
+use Rattle.memory_models.specs.declared.kinds.Rule.{Rule}
+use Rattle.memory_models.specs.Machines.{effect_time, effect_at, IsBuffered}
 use Rattle.memory_models.proofs.Orders.{load_uses}
-use Rattle.memory_models.proofs.ByKind.{is_store, load_is, not_load, not_store, write_is, writes_not_load}
+use Rattle.memory_models.proofs.ByKind.{is_store, load_is, write_is}
+use Rattle.memory_models.proofs.RunBy.{IsKept, IsRunBy}
 
 -- when an operation takes effect
 pub data Takes (made left : ℕ → ℕ) (k : Kind) (x : ℕ) : Type 0 where
@@ -22,14 +23,6 @@ takes made left Load x = at_once (λ e. cc) refl
 takes made left Store x = later refl refl
 takes made left Atomic x = at_once (λ e. cc) refl
 takes made left Fence x = at_once (λ e. cc) refl
-
--- total store order keeps two operations where the first isn't a store, or the second no load
-pub tso_kept : (ops : List Operation) (x y : ℕ) → KeepsOrder total_store_order ops x y
-    → IsOwn ops x y × (((operation_at ops x).kind ≡ Store → ⊥) ⊎ ((operation_at ops y).kind ≡ Load → ⊥))
-tso_kept ops x y (inl (zero, low, a)) = (a.own, inl (not_store (operation_at ops x).kind a.from))
-tso_kept ops x y (inl (suc zero, low, a)) = (a.own, inr (not_load (operation_at ops y).kind a.to))
-tso_kept ops x y (inl (suc (suc k), low, a)) = absurd (omega arith)
-tso_kept ops x y (inr a) = (a.own, inr (writes_not_load (operation_at ops y).kind a.to))
 
 -- a store of the load's processor before it on its word
 pub record IsStoreOn (ops : List Operation) (s x : ℕ) : Type 0 where
@@ -78,9 +71,10 @@ pub data Finds (ops : List Operation) (made left : ℕ → ℕ) (x : ℕ) : Type
   in_buffer : (s : ℕ) → IsBuffered ops made left s x → Finds ops made left x
   in_memory : ((s : ℕ) → IsBuffered ops made left s x → ⊥) → ((s : ℕ) → IsStoreOn ops s x → left s < made x) → Finds ops made left x
 
-pub finds : (ops : List Operation) (writes : List ℕ) (made left : ℕ → ℕ) (x : ℕ) → IsBufferRun ops writes made left → x < length ops
+pub finds : (Keeps : ℕ → ℕ → Type 0) (ops : List Operation) (writes : List ℕ) (made left : ℕ → ℕ) (x : ℕ)
+    → ((x y : ℕ) → (operation_at ops x).word ≡ (operation_at ops y).word → Keeps x y) → IsRunBy Keeps ops writes made left → x < length ops
     → Finds ops made left x
-finds ops writes made left x run low = elim (last_store ops x x) [
+finds Keeps ops writes made left x on_word run low = elim (last_store ops x x) [
   | is_none none ↦ in_memory
       (λ s b. none s b.own.before (record { store = b.store; own = b.own; word = b.word }))
       (λ s i. absurd (none s i.own.before i))
@@ -101,7 +95,7 @@ finds ops writes made left x run low = elim (last_store ops x x) [
         let all : (r : ℕ) → IsStoreOn ops r x → left r < made x =
         λ r i. (let behind = most r i.own.before i in elim (cases_eq r s) [
           | inl same ↦ subst (λ z. left z < made x) (sym same) less
-          | inr other ↦ (let out = run.first_out r s s_low (record { processor = i.own.processor ∙ sym is.own.processor; before = omega arith }) i.store is.store in
+          | inr other ↦ (let out = run.first_out r s s_low (record { processor = i.own.processor ∙ sym is.own.processor; before = omega arith }) i.store is.store (on_word r s (i.word ∙ sym is.word)) in
               omega arith)
         ]) in
         in_memory
@@ -110,7 +104,7 @@ finds ops writes made left x run low = elim (last_store ops x x) [
   ]
 ]
 
-load_takes : (ops : List Operation) (made left : ℕ → ℕ) (x : ℕ) → is_load (operation_at ops x).kind ≡ true → effect_at ops made left x ≡ made x
+pub load_takes : (ops : List Operation) (made left : ℕ → ℕ) (x : ℕ) → is_load (operation_at ops x).kind ≡ true → effect_at ops made left x ≡ made x
 load_takes ops made left x load = ap (λ k. effect_time made left k x) (load_is (operation_at ops x).kind load)
 
 store_takes : (ops : List Operation) (made left : ℕ → ℕ) (x : ℕ) → (operation_at ops x).kind ≡ Store → effect_at ops made left x ≡ left x
@@ -149,11 +143,12 @@ pub both_on : (ops : List Operation) (s w : ℕ) → is_write (operation_at ops 
 both_on ops s w first second word = record { first = write_uses_word (operation_at ops s).kind first; second = write_uses_word (operation_at ops w).kind second; word = word }
 
 -- each run is an order
-pub run_is_order : (words : ℕ) (ops : List Operation) (writes : List ℕ) (made left : ℕ → ℕ) → IsMemoryTrace words ops writes
-    → IsBufferRun ops writes made left → IsMemoryOrder total_store_order ops writes (effect_at ops made left)
-run_is_order words ops writes made left t run = record {
+pub run_by_is_order : (rules : List Rule) (Keeps : ℕ → ℕ → Type 0) (words : ℕ) (ops : List Operation) (writes : List ℕ) (made left : ℕ → ℕ)
+    → IsKept rules ops Keeps → IsMemoryTrace words ops writes → IsRunBy Keeps ops writes made left
+    → IsMemoryOrder rules ops writes (effect_at ops made left)
+run_by_is_order rules Keeps words ops writes made left keeps t run = record {
   apart = apart;
-  program = λ x y low kept. (let p = tso_kept ops x y kept in program x y low p.0 p.1);
+  program = λ x y low kept. (let p = keeps.kept x y kept in program x y low p.0 p.1);
   word_order = run.word_order;
   source = source;
   newest = newest;
@@ -180,14 +175,17 @@ run_is_order words ops writes made left t run = record {
     not_load_is Atomic f g = inl refl
     not_load_is Fence f g = inr refl
 
-    program : (x y : ℕ) → y < length ops → IsOwn ops x y → (((operation_at ops x).kind ≡ Store → ⊥) ⊎ ((operation_at ops y).kind ≡ Load → ⊥))
+    program : (x y : ℕ) → y < length ops → IsOwn ops x y → (((operation_at ops x).kind ≡ Store → ⊥) ⊎ (((operation_at ops y).kind ≡ Load → ⊥) × Keeps x y))
         → effect_at ops made left x < effect_at ops made left y
     program x y low own kept = elim (takes made left (operation_at ops x).kind x) [
       | later store a ↦ elim (takes made left (operation_at ops y).kind y) [
-        | later other b ↦ let out = run.first_out x y low own store other in omega (arith, a, b, out)
+        | later other b ↦ elim kept [
+          | inl isnt ↦ absurd (isnt store)
+          | inr both ↦ let out = run.first_out x y low own store other both.1 in omega (arith, a, b, out)
+        ]
         | at_once other b ↦ elim kept [
           | inl isnt ↦ absurd (isnt store)
-          | inr isnt ↦ let out = run.drained x y low own store (not_load_is (operation_at ops y).kind isnt other) in omega (arith, a, b, out)
+          | inr both ↦ let out = run.drained x y low own store (not_load_is (operation_at ops y).kind both.0 other) both.1 in omega (arith, a, b, out)
         ]
       ]
       | at_once not_one a ↦ (let first = run.program x y low own in elim (takes made left (operation_at ops y).kind y) [
@@ -199,7 +197,7 @@ run_is_order words ops writes made left t run = record {
     source : (x : ℕ) → x < length ops → is_load (operation_at ops x).kind ≡ true
         → (effect_at ops made left (slice_index writes (operation_at ops x).place) < effect_at ops made left x)
         ⊎ IsOwn ops (slice_index writes (operation_at ops x).place) x
-    source x low load = elim (finds ops writes made left x run low) [
+    source x low load = elim (finds Keeps ops writes made left x keeps.same run low) [
       | in_buffer s b ↦ inr (subst (λ z. IsOwn ops z x) (sym (run.forwarded x s low load b)) b.own)
       | in_memory none all ↦ (let r = run.read x low load none in
           let e = load_takes ops made left x load in
@@ -215,7 +213,7 @@ run_is_order words ops writes made left t run = record {
         let place = s.place in
         let e = load_takes ops made left x load in
         let up = run.word_order src w s.low high s.write write (both_on ops src w s.write write (s.word ∙ one.word)) (omega (arith, place, less)) in
-        elim (finds ops writes made left x run low) [
+        elim (finds Keeps ops writes made left x keeps.same run low) [
           | in_buffer b is ↦ (let same : src ≡ b = run.forwarded x b low load is in
               let b_at : effect_at ops made left src ≡ left b = ap (effect_at ops made left) same ∙ store_takes ops made left b is.store in
               let waits = is.waits in
@@ -227,7 +225,8 @@ run_is_order words ops writes made left t run = record {
                       let w_at = store_takes ops made left w store in
                       elim (cases_eq w b) [
                         | inl eq ↦ (let bad : (operation_at ops w).place ≡ (operation_at ops b).place = ap (λ z. (operation_at ops z).place) eq in absurd (omega (arith, bad, b_place, less)))
-                        | inr differ ↦ (let out = run.first_out w b b_low (record { processor = own.processor ∙ sym is.own.processor; before = omega arith }) store is.store in
+                        | inr differ ↦ (let out = run.first_out w b b_low (record { processor = own.processor ∙ sym is.own.processor; before = omega arith }) store is.store
+                            (keeps.same w b (sym one.word ∙ sym is.word)) in
                             absurd (omega (arith, out, up, b_at, w_at)))
                       ])
                   | inr atomic ↦ (let w_at = atomic_takes ops made left w atomic in
@@ -237,7 +236,8 @@ run_is_order words ops writes made left t run = record {
                             absurd (omega (arith, first, wait, up, b_at, w_at)))
                         | inr behind ↦ elim (cases_eq w b) [
                           | inl eq ↦ (let bad : Atomic ≡ Store = sym atomic ∙ (ap (λ z. (operation_at ops z).kind) eq ∙ is.store) in cc)
-                          | inr differ ↦ (let out = run.drained b w high (record { processor = is.own.processor ∙ sym own.processor; before = omega arith }) is.store (inl atomic) in
+                          | inr differ ↦ (let out = run.drained b w high (record { processor = is.own.processor ∙ sym own.processor; before = omega arith }) is.store (inl atomic)
+                              (keeps.same b w (is.word ∙ one.word)) in
                               let first = run.program w x low own in
                               absurd (omega (arith, out, first, waits)))
                         ]

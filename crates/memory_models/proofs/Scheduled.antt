@@ -1,37 +1,19 @@
--- An order of the model is a run of the machine with buffers of stores.
+-- An order of a model is a run of its machine with buffers of stores.
 use Rattle.std.proofs.Common.{◌≡◌, ◌⊎◌, inl, inr, ℕ, ◌+◌, ◌*◌, ◌<◌, ◌≤◌, true, List, length, refl, sym, ◌∙◌, ap, subst, arith}
 use Rattle.std.specs.Prelude.{slice_index}
 use Rattle.std.proofs.lemmas.Bool.{cases_lt, cases_eq}
 use Rattle.memory_models.specs.declared.kinds.Kind.{Kind}
 use Rattle.memory_models.specs.declared.kinds.Kind.TheVariants.{Load, Store, Atomic, Fence}
 use Rattle.memory_models.specs.declared.kinds.Operation.{Operation}
-use Rattle.memory_models.specs.Trace.{has, is_load, is_write, uses_word, operation_at, IsOwn, AreOnOne, IsMemoryTrace, source_at}
-use Rattle.memory_models.specs.Order.{KeepsOrder, IsMemoryOrder}
-use Rattle.memory_models.specs.Models.{total_store_order, but_stores, but_loads}
-use Rattle.memory_models.specs.Machines.{effect_at, IsBuffered, IsBufferRun}
+use Rattle.memory_models.specs.Trace.{is_load, is_write, uses_word, operation_at, IsOwn, AreOnOne, IsMemoryTrace, source_at}
+use Rattle.memory_models.specs.Order.{IsMemoryOrder}
+use Rattle.memory_models.specs.declared.kinds.Rule.{Rule}
+use Rattle.memory_models.specs.Machines.{effect_at, IsBuffered}
 use Rattle.memory_models.proofs.Runs.{is_last, is_none, last_store, source_is, both_on}
+use Rattle.memory_models.proofs.RunBy.{IsKept, IsRunBy}
 use Rattle.memory_models.proofs.ByKind.{load_is, write_is}
 use Rattle.memory_models.proofs.Orders.{load_uses}
 use Rattle.memory_models.proofs.Blocks.{base, base_to, block, block_rise, block_same, block_size, early, effect_is, in_turn, left_at, made_at, made_is, not_front, rise_block, same_rest}
-
--- what total store order keeps
-from_other : (k : Kind) → (k ≡ Store → ⊥) → has but_stores k ≡ true
-from_other Load f = refl
-from_other Store f = absurd (f refl)
-from_other Atomic f = refl
-from_other Fence f = refl
-
-to_all : (k : Kind) → has (record { load = true; store = true; atomic = true; fence = true }) k ≡ true
-to_all Load = refl
-to_all Store = refl
-to_all Atomic = refl
-to_all Fence = refl
-
-from_not_load : (k : Kind) → (k ≡ Load → ⊥) → has but_loads k ≡ true
-from_not_load Load f = absurd (f refl)
-from_not_load Store f = refl
-from_not_load Atomic f = refl
-from_not_load Fence f = refl
 
 store_not_load : (k : Kind) → k ≡ Store → k ≡ Load → ⊥
 store_not_load Load e f = cc
@@ -47,18 +29,11 @@ waiting_not_store : (k : Kind) → (k ≡ Atomic) ⊎ (k ≡ Fence) → k ≡ St
 waiting_not_store k (inl e) f = let bad : Atomic ≡ Store = sym e ∙ f in cc
 waiting_not_store k (inr e) f = let bad : Fence ≡ Store = sym e ∙ f in cc
 
-kept_other : (ops : List Operation) (x y : ℕ) → IsOwn ops x y → ((operation_at ops x).kind ≡ Store → ⊥) → KeepsOrder total_store_order ops x y
-kept_other ops x y own other = inl (0, omega arith, record { own = own; from = from_other (operation_at ops x).kind other; to = to_all (operation_at ops y).kind; key = refl })
-
-kept_store : (ops : List Operation) (x y : ℕ) → IsOwn ops x y → ((operation_at ops x).kind ≡ Load → ⊥) → ((operation_at ops y).kind ≡ Load → ⊥)
-    → KeepsOrder total_store_order ops x y
-kept_store ops x y own first second =
-    inl (1, omega arith, record { own = own; from = from_not_load (operation_at ops x).kind first; to = from_not_load (operation_at ops y).kind second; key = refl })
-
 -- each order is a run
-pub order_is_run : (words : ℕ) (ops : List Operation) (writes : List ℕ) (turn : ℕ → ℕ) → IsMemoryTrace words ops writes
-    → IsMemoryOrder total_store_order ops writes turn → IsBufferRun ops writes (made_at ops turn) (left_at ops turn)
-order_is_run words ops writes turn t o = record {
+pub order_is_run_by : (rules : List Rule) (Keeps : ℕ → ℕ → Type 0) (words : ℕ) (ops : List Operation) (writes : List ℕ) (turn : ℕ → ℕ)
+    → IsKept rules ops Keeps → IsMemoryTrace words ops writes → IsMemoryOrder rules ops writes turn
+    → IsRunBy Keeps ops writes (made_at ops turn) (left_at ops turn)
+order_is_run_by rules Keeps words ops writes turn keeps t o = record {
   made_apart = made_apart;
   left_apart = λ x y low high store other e. o.apart x y low high (block_same ops turn x y e);
   both_apart = both_apart;
@@ -68,10 +43,10 @@ order_is_run words ops writes turn t o = record {
         | early is e ↦ (let up = block (length ops + 1) (base ops turn x) (turn x + 1) (x + 1) (omega arith) (omega arith) in omega (arith, up, e))
         | in_turn isnt e ↦ absurd (isnt store)
       ]);
-  first_out = λ x y low own first second. rise_block ops turn x y (o.program x y low (kept_store ops x y own
-      (store_not_load (operation_at ops x).kind first) (store_not_load (operation_at ops y).kind second)));
-  drained = λ x y low own first second. (let up = rise_block ops turn x y (o.program x y low (kept_store ops x y own
-      (store_not_load (operation_at ops x).kind first) (waiting_not_load (operation_at ops y).kind second))) in
+  first_out = λ x y low own first second both. rise_block ops turn x y (o.program x y low (keeps.store x y own first
+      (store_not_load (operation_at ops y).kind second) both));
+  drained = λ x y low own first second both. (let up = rise_block ops turn x y (o.program x y low (keeps.store x y own first
+      (waiting_not_load (operation_at ops y).kind second) both)) in
       let e = made_turn y (waiting_not_store (operation_at ops y).kind second) in omega (arith, up, e));
   word_order = λ x y low high first second one less. (let up = rise_block ops turn x y (o.word_order x y low high first second one less) in
       let a = effect_is ops turn x in let b = effect_is ops turn y in omega (arith, up, a, b));
@@ -97,7 +72,7 @@ order_is_run words ops writes turn t o = record {
     base_low : (x : ℕ) → x < length ops → base ops turn x < turn x + 1
     base_low x low = elim (base_to ops turn x x).1.from [
       | inl none ↦ omega arith
-      | inr z ↦ (let kept = o.program z.0 x low (kept_other ops z.0 x z.1.own z.1.other) in let e = z.2 in omega arith)
+      | inr z ↦ (let kept = o.program z.0 x low (keeps.other z.0 x z.1.own z.1.other) in let e = z.2 in omega arith)
     ]
 
     made_apart : (x y : ℕ) → x < length ops → y < length ops → made_at ops turn x ≡ made_at ops turn y → x ≡ y
@@ -134,7 +109,7 @@ order_is_run words ops writes turn t o = record {
       | inl none ↦ omega arith
       | inr z ↦ (let first = z.1.own.before in
           let second = own.before in
-          let kept = o.program z.0 y low (kept_other ops z.0 y (record { processor = z.1.own.processor ∙ own.processor; before = omega arith }) z.1.other) in
+          let kept = o.program z.0 y low (keeps.other z.0 y (record { processor = z.1.own.processor ∙ own.processor; before = omega arith }) z.1.other) in
           let e = z.2 in
           omega arith)
     ]
@@ -161,7 +136,7 @@ order_is_run words ops writes turn t o = record {
                   | inl same ↦ (let blocks : block_size ops * (turn x + 1) ≡ block_size ops * base ops turn y = ap (λ z. block_size ops * z) same in omega (arith, blocks, f, h))
                   | inr other ↦ (let up = block (length ops + 1) (turn x + 1) (base ops turn y) 0 (omega arith) (omega arith) in omega (arith, up, f, h))
                 ])
-            | in_turn b h ↦ (let up = rise_block ops turn x y (o.program x y low (kept_other ops x y own a)) in omega (arith, up, f, h))
+            | in_turn b h ↦ (let up = rise_block ops turn x y (o.program x y low (keeps.other x y own a)) in omega (arith, up, f, h))
           ]
         ]
 
@@ -216,10 +191,10 @@ order_is_run words ops writes turn t o = record {
               | inl store ↦ (let behind = b.newest src store own is.word in
                   elim (cases_eq src s) [
                     | inl same ↦ same
-                    | inr other ↦ (let kept = o.program src s (omega arith) (kept_store ops src s (record { processor = own.processor ∙ sym b.own.processor; before = omega arith })
-                        (store_not_load (operation_at ops src).kind store) (store_not_load (operation_at ops s).kind b.store)) in absurd (omega (arith, kept, up)))
+                    | inr other ↦ (let kept = o.program src s (omega arith) (keeps.store src s (record { processor = own.processor ∙ sym b.own.processor; before = omega arith }) store
+                        (store_not_load (operation_at ops s).kind b.store) (keeps.same src s (is.word ∙ sym b.word))) in absurd (omega (arith, kept, up)))
                   ])
-              | inr atomic ↦ (let kept = o.program src x low (kept_other ops src x own (λ f. let bad : Atomic ≡ Store = sym atomic ∙ f in cc)) in
+              | inr atomic ↦ (let kept = o.program src x low (keeps.other src x own (λ f. let bad : Atomic ≡ Store = sym atomic ∙ f in cc)) in
                   absurd (omega (arith, kept, after, up)))
             ]
           ]
@@ -233,7 +208,7 @@ order_is_run words ops writes turn t o = record {
         elim (o.source x low load) [
           | inl less ↦ less
           | inr own ↦ elim (write_is (operation_at ops src).kind is.write) [
-            | inr atomic ↦ o.program src x low (kept_other ops src x own (λ f. let bad : Atomic ≡ Store = sym atomic ∙ f in cc))
+            | inr atomic ↦ o.program src x low (keeps.other src x own (λ f. let bad : Atomic ≡ Store = sym atomic ∙ f in cc))
             | inl store ↦ elim (last_store ops x x) [
               | is_none none_at ↦ absurd (none_at src own.before (record { store = store; own = own; word = is.word }))
               | is_last s last most ↦ (let before = last.own.before in
@@ -258,8 +233,8 @@ order_is_run words ops writes turn t o = record {
                   let behind = most src own.before (record { store = store; own = own; word = is.word }) in
                   elim (cases_eq src s) [
                     | inl same ↦ subst (λ z. turn z < turn x) (sym same) gone
-                    | inr other ↦ (let kept = o.program src s s_low (kept_store ops src s (record { processor = own.processor ∙ sym last.own.processor; before = omega arith })
-                        (store_not_load (operation_at ops src).kind store) (store_not_load (operation_at ops s).kind last.store)) in omega (arith, kept, gone))
+                    | inr other ↦ (let kept = o.program src s s_low (keeps.store src s (record { processor = own.processor ∙ sym last.own.processor; before = omega arith }) store
+                        (store_not_load (operation_at ops s).kind last.store) (keeps.same src s (is.word ∙ sym last.word))) in omega (arith, kept, gone))
                   ])
             ]
           ]

@@ -12,6 +12,7 @@ pub record IsGoodOperation (words : ℕ) (ops : List Operation) (writes : List �
     pub word : (operation_at ops x).word < words
     pub place : uses_word (operation_at ops x).kind ≡ true
         → (operation_at ops x).place < length writes
+    pub inside : uses_word (operation_at ops x).kind ≡ true → source_at ops writes x < length ops
     pub source : uses_word (operation_at ops x).kind ≡ true
         → (operation_at ops (source_at ops writes x)).word ≡ (operation_at ops x).word
     pub written : is_write (operation_at ops x).kind ≡ true
@@ -22,6 +23,7 @@ pub record IsGoodWrite (ops : List Operation) (writes : List ℕ) (p : ℕ) : Ty
   pub low : slice_index writes p < length ops
   pub is : is_write (operation_at ops (slice_index writes p)).kind ≡ true
   pub place : (operation_at ops (slice_index writes p)).place ≡ p
+  pub before : (b : ℕ) → b + 1 ≡ p → slice_index writes b < length ops
   pub ordered : (b : ℕ) → b + 1 ≡ p
       → (operation_at ops (slice_index writes b)).word
       ≤ (operation_at ops (slice_index writes p)).word

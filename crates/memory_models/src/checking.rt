@@ -1,6 +1,6 @@
 //! Whether operations and writes are a trace.
 
-ghost use Rattle.std.specs.Prelude.{◌≡◌, ◌<◌, true, length};
+ghost use Rattle.std.specs.Prelude.{◌≡◌, ◌<◌, true, false, length};
 ghost use Rattle.memory_models.specs.Trace.{IsMemoryTrace};
 ghost use Rattle.memory_models.specs.Checks.{IsGoodOperation, IsGoodWrite};
 
@@ -10,7 +10,8 @@ use crate::kinds::{Operation, is_write, uses_word};
 /// that is its own if it writes.
 fn is_good_operation(operations: &[Operation], writes: &[usize], words: usize, x: usize) -> bool
     requires { x < length operations.now }
-    ensures { result ≡ true → IsGoodOperation words operations.now writes.now x }
+    ensures yes { result ≡ true → IsGoodOperation words operations.now writes.now x }
+    ensures no { result ≡ false → IsGoodOperation words operations.now writes.now x → ⊥ }
 {
     let operation = operations[x];
     if x > 0 && operations[x - 1].processor > operation.processor {
@@ -35,7 +36,8 @@ fn is_good_operation(operations: &[Operation], writes: &[usize], words: usize, x
 /// Whether a write has its place, behind those of lower words.
 fn is_good_write(operations: &[Operation], writes: &[usize], p: usize) -> bool
     requires { p < length writes.now }
-    ensures { result ≡ true → IsGoodWrite operations.now writes.now p }
+    ensures yes { result ≡ true → IsGoodWrite operations.now writes.now p }
+    ensures no { result ≡ false → IsGoodWrite operations.now writes.now p → ⊥ }
 {
     let x = writes[p];
     if x >= operations.len() || !is_write(operations[x].kind) || operations[x].place != p {
@@ -50,7 +52,8 @@ fn is_good_write(operations: &[Operation], writes: &[usize], p: usize) -> bool
 
 /// Whether operations and the places of writes are a trace.
 pub fn is_trace(operations: &[Operation], writes: &[usize], words: usize) -> bool
-    ensures { result ≡ true → IsMemoryTrace words operations.now writes.now }
+    ensures yes { result ≡ true → IsMemoryTrace words operations.now writes.now }
+    ensures no { result ≡ false → IsMemoryTrace words operations.now writes.now → ⊥ }
 {
     for x in 0..operations.len() {
         if !is_good_operation(operations, writes, words, x) {

@@ -1,3 +1,4 @@
 pub mod Outcome
 pub mod Message
 pub mod Done
+pub mod Unread

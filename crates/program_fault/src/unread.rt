@@ -1,5 +1,8 @@
 //! Why a text can't be read.
 
+ghost use Rattle.std.specs.Prelude.{◌≡◌, option_map};
+ghost use Rattle.program_fault.specs.Unread.{unread_words};
+
 use std::io::{self, ErrorKind};
 
 /// Why a text can't be read.
@@ -15,7 +18,9 @@ pub enum Unread {
 
 impl Unread {
     /// The words for it, where there are some.
-    pub fn words(self) -> Option<&'static str> {
+    pub fn words(self) -> Option<&'static str>
+        ensures { option_map (λ words. words.now) result ≡ unread_words self }
+    {
         match self {
             Unread::Refused(ErrorKind::NotFound) => Some("no such file or directory"),
             Unread::Refused(ErrorKind::PermissionDenied) => Some("permission denied"),

@@ -16,7 +16,7 @@ use Rattle.machine_asked.specs.Asked.{Asked, IsNumbered, has_spin, index_asked, 
 use Rattle.torusmem_c.specs.declared.outcome.Outcome.{Outcome}
 use Rattle.torusmem_c.specs.declared.outcome.Code.TheVariants as code
 use Rattle.torusmem_c.specs.Outcome.{c_outcome}
-use Rattle.torusmem_c.specs.Appending.{IsHanded, Numbers, is_first_last, is_second_last, line_named, numbered_line, c_operation, c_value}
+use Rattle.torusmem_c.specs.Appending.{IsHanded, Numbers, is_first_last, is_second_last, line_named, line_said, numbered_line, c_operation, c_value}
 
 -- the lines below ten are operations
 single : (number a : ℕ) (one two : Value) (sought loads : ℕ) (line : Line) → number ≤ 9 → numbered_line number a one two sought loads ≡ Some line
@@ -39,9 +39,14 @@ by_test true None h = tt
 by_test true (Some line) h = h refl line refl
 by_test false found h = tt
 
+said : (b : Bool) (found : Option Line) (line : Line) → (if b then found else None) ≡ Some line → found ≡ Some line
+said true found line e = e
+said false found line e = absurd (none-some line e)
+
 pub named_operation : (number a first second lasts : ℕ) → IfSome (c_operation number a first second lasts) (λ line. is_operation line ≡ true)
 named_operation number a first second lasts = by_test (nat_le number 9) (line_named number a first second lasts) (λ low line e.
-    single number a (c_value (is_first_last lasts) first) (c_value (is_second_last lasts) second) first second line (leb-true number 9 low) e)
+    single number a (c_value (is_first_last lasts) first) (c_value (is_second_last lasts) second) first second line (leb-true number 9 low)
+    (said (nat_le lasts 3) (line_said number a first second lasts) line e))
 
 -- the first reason to refuse a line is that there is no processor
 there_of : (b : Bool) (rest : Option Fault) → ◌≡◌ {A = Option Fault} (if not b then Some fault.Processor else rest) None → b ≡ true

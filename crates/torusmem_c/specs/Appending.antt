@@ -56,10 +56,15 @@ abbrev pub numbered_line : ℕ → ℕ → Value → Value → ℕ → ℕ → O
 numbered_line number address one two sought loads = slice_get (lines address one two sought loads) number
 
 -- the same, of two numbers, of which `lasts` says whether they stand for `last`
-abbrev pub line_named : ℕ → ℕ → ℕ → ℕ → ℕ → Option Line
-line_named number address first second lasts =
+abbrev pub line_said : ℕ → ℕ → ℕ → ℕ → ℕ → Option Line
+line_said number address first second lasts =
     numbered_line number address (c_value (is_first_last lasts) first)
     (c_value (is_second_last lasts) second) first second
+
+-- that line; where `lasts` has another bit there is none
+abbrev pub line_named : ℕ → ℕ → ℕ → ℕ → ℕ → Option Line
+line_named number address first second lasts =
+    if nat_le lasts 3 then line_said number address first second lasts else None
 
 -- the machine takes a line for a processor: it is the one that is handed the line, and stands where
 -- its moves lead from the load with the line

@@ -5,6 +5,8 @@ pub mod Steps
 pub mod Records
 pub mod Room
 pub mod Routes
+pub mod Shapes
+pub mod Orders
 pub mod Shown
 pub mod Texts
 pub mod Channels

@@ -1,7 +1,8 @@
 -- Steps and rounds, as C sees them.
-use Rattle.std.specs.Prelude.{◌≡◌, ℕ, ◌+◌, ◌≤◌, ◌↔◌, ◌++◌, [], ◌∷◌, List, Bool, false, IsTrue, Option, Some, None}
-use Rattle.std.specs.Prelude.{is_some, length}
-use Rattle.std.specs.List.{filter_map}
+use Rattle.std.specs.Prelude.{◌≡◌, ℕ, ◌+◌, ◌≤◌, ◌↔◌, ◌++◌, [], ◌∷◌, List, false, IsTrue, Option, Some, None}
+use Rattle.std.specs.Prelude.{is_none, is_some, length}
+use Rattle.std.specs.List.{filter_map, position_from}
+use Rattle.torus.specs.Shape.{Shape}
 use Rattle.torus.specs.declared.step.Step.{Step}
 use Rattle.torus.specs.declared.step.Stepped.{Stepped}
 use Rattle.torus.specs.declared.step.Stepped.TheVariants.{Moved, Idle}
@@ -16,7 +17,7 @@ use Rattle.core_progress.specs.Moves.{IsLive, moves_left}
 use Rattle.torusmem_c.specs.declared.outcome.Outcome.{Outcome}
 use Rattle.torusmem_c.specs.declared.outcome.Code.TheVariants as code
 use Rattle.torusmem_c.specs.declared.stepping.AttemptRecord.{AttemptRecord}
-use Rattle.torusmem_c.specs.Choices.{attempt_named}
+use Rattle.torusmem_c.specs.Choices.{attempt_named, step_named}
 use Rattle.torusmem_c.specs.Outcome.{c_outcome, c_flag}
 use Rattle.torusmem_c.specs.Held.{HandleTells}
 
@@ -33,12 +34,17 @@ pub record MakesStep (attempt : Step) (old new : Core) (r : Outcome) : Type 0 wh
   pub answer : r ≡ c_outcome code.Done (moved_number stepped)
   pub runs_on : RunsOn old new (attempt ∷ [])
 
--- the machine makes the step that is named, and none where none is (this project's own format)
+-- the machine makes a step; where there is none, nothing changes
 abbrev pub MakesAttempt : Option Step → Core → Core → Outcome → Type 0
-MakesAttempt None old new r = (new ≡ old) × (r ≡ c_outcome code.Done 0)
+MakesAttempt None old new r = (new ≡ old) × (r ≡ c_outcome code.NoSuch 0)
 MakesAttempt (Some attempt) old new r = MakesStep attempt old new r
 
--- the steps that attempts name, in order; what names none is left out (this project's own format)
+-- the machine makes the step that numbers name on its torus (this project's own format)
+abbrev pub MakesNamed : ℕ → ℕ → ℕ → Core → Core → Outcome → Type 0
+MakesNamed agent choice number old =
+    MakesAttempt (step_named old.shape agent choice number) old
+
+-- the steps that attempts name, in order; what names no choice is left out (this project's own format)
 abbrev pub steps_named : List AttemptRecord → List Step
 steps_named attempts = filter_map (λ it. attempt_named it.agent it.choice it.number) attempts
 
@@ -50,14 +56,29 @@ pub record MakesSteps (steps : List Step) (old new : Core) (r : Outcome) : Type 
   pub left : new.moves_left + moves_in (step (built_to old)) old.state steps ≡ old.moves_left
   pub runs_on : RunsOn old new steps
 
--- whether the step that is named is enabled (this project's own format)
-abbrev pub c_enabled : Option Step → Core → Bool
-c_enabled None c = false
-c_enabled (Some attempt) c = is_some (step (built_to c) c.state attempt)
+-- whether a step is enabled, or that there is none such (this project's own format)
+abbrev pub enabled_outcome : Option Step → Core → Outcome
+enabled_outcome None c = c_outcome code.NoSuch 0
+enabled_outcome (Some attempt) c =
+    c_outcome code.Done (c_flag (is_some (step (built_to c) c.state attempt)))
 
--- it is told whether that step is enabled (this project's own format)
-abbrev pub TellsEnabled : Option Step → Core → Core → Outcome → Type 0
-TellsEnabled attempt = HandleTells (λ c. c_outcome code.Done (c_flag (c_enabled attempt c)))
+-- it is told whether the step is enabled that numbers name on its torus (this project's own format)
+abbrev pub enabled_told : ℕ → ℕ → ℕ → Core → Outcome
+enabled_told agent choice number c = enabled_outcome (step_named c.shape agent choice number) c
+
+-- the place of the first attempt that names no step of a torus (this project's own format)
+abbrev pub first_unnamed : Shape → List AttemptRecord → Option ℕ
+first_unnamed s attempts =
+    position_from (λ it. is_none (step_named s it.agent it.choice it.number)) 0 attempts
+
+-- the machine makes the steps that attempts name; where one names none, the first of these is told,
+-- and nothing changes (this project's own format)
+abbrev pub MakesUnless : Option ℕ → List Step → Core → Core → Outcome → Type 0
+MakesUnless None steps old new r = MakesSteps steps old new r
+MakesUnless (Some at) steps old new r = (new ≡ old) × (r ≡ c_outcome code.NoSuch at)
+
+abbrev pub MakesAll : List AttemptRecord → Core → Core → Outcome → Type 0
+MakesAll attempts old = MakesUnless (first_unnamed old.shape attempts) (steps_named attempts) old
 
 -- the machine makes one round; where some script isn't finished, the round makes a move
 pub record MakesRound (old new : Core) (r : Outcome) : Type 0 where

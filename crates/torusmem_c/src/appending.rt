@@ -1,17 +1,17 @@
 //! A further line for the script of a processor of the machine that a handle holds.
 
 ghost use Rattle.std.specs.Prelude.{◌≡◌, ◌⊎◌, IfSome, false, true, unwrap_or};
-ghost use Rattle.machine_handle.specs.Held.{held};
+ghost use Rattle.c_handles.specs.HeldMachine.{held};
 ghost use Rattle.machine_asked.specs.Asked.{is_behind_spin, is_operation};
 ghost use Rattle.torusmem_c.specs.Appending.{Appends, AsksAppend, Numbers, RefusesLine, is_first_last};
-ghost use Rattle.torusmem_c.specs.Appending.{is_second_last, line_named, numbered_line};
+ghost use Rattle.torusmem_c.specs.Appending.{is_second_last, line_named, line_said, numbered_line};
 ghost use Rattle.torusmem_c.specs.Appending.{c_operation, c_value};
 ghost use Rattle.torusmem_c.specs.Held.{OfAsked};
 ghost use Rattle.torusmem_c.specs.Outcome.{c_outcome};
 
 use crate::outcome::{Code, Outcome};
+use c_handles::MachineHandle;
 use machine_asked::AskedMachine;
-use machine_handle::Handle;
 use script::{Line, Value};
 
 /// A value: a number, or `last`.
@@ -68,12 +68,23 @@ fn line_of(
 }
 
 /// The line that has this number, of two numbers, of which `lasts` says whether they stand for `last`.
-fn line_named(number: u32, address: u32, first: u64, second: u64, lasts: u32) -> Option<Line>
-    ensures { result ≡ line_named number address first second lasts }
+fn line_said(number: u32, address: u32, first: u64, second: u64, lasts: u32) -> Option<Line>
+    ensures { result ≡ line_said number address first second lasts }
 {
     let one = value_of(is_first_last(lasts), first);
     let two = value_of(is_second_last(lasts), second);
     line_of(number, address, one, two, first, second)
+}
+
+/// That line; `None` also where `lasts` has another bit.
+fn line_named(number: u32, address: u32, first: u64, second: u64, lasts: u32) -> Option<Line>
+    ensures { result ≡ line_named number address first second lasts }
+{
+    if lasts <= 3 {
+        line_said(number, address, first, second, lasts)
+    } else {
+        None
+    }
 }
 
 /// Gives a processor the line that is named.
@@ -95,7 +106,7 @@ fn appended(machine: &mut AskedMachine, processor: u32, line: Option<Line>) -> O
 /// Errors: why the machine refuses the line, or out of memory; it is as it was then.
 #[unsafe(no_mangle)]
 pub extern "C" fn torusmem_append(
-    handle: &mut Handle,
+    handle: &mut MachineHandle,
     processor: u32,
     operation: u32,
     address: u32,
@@ -172,7 +183,7 @@ fn asked(machine: &mut AskedMachine, processor: u32, line: Option<Line>) -> Outc
 /// out of memory. It is as it was then.
 #[unsafe(no_mangle)]
 pub extern "C" fn torusmem_ask(
-    handle: &mut Handle,
+    handle: &mut MachineHandle,
     processor: u32,
     operation: u32,
     address: u32,

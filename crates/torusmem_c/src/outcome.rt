@@ -20,7 +20,7 @@ pub enum Code {
     Empty,
     /// The handle holds a machine already.
     Full,
-    /// There is no such tile, address, place or index.
+    /// There is no such agent, choice, tile, address, place or index.
     NoSuch,
     /// The buffer is too short.
     Short,
@@ -128,7 +128,7 @@ impl Outcome {
         Outcome::of(Code::Empty, 0)
     }
 
-    /// There is no such tile, address, place or index.
+    /// There is no such agent, choice, tile, address, place or index.
     pub fn no_such() -> Outcome
         ensures { result ≡ c_outcome Code.NoSuch 0 }
     {

@@ -2,7 +2,7 @@
 
 ghost use Rattle.std.specs.Prelude.{◌≡◌, None, length};
 ghost use Rattle.core_row.specs.Row.{row_of};
-ghost use Rattle.machine_handle.specs.Held.{held};
+ghost use Rattle.c_handles.specs.HeldMachine.{held};
 ghost use Rattle.core_machine.specs.Machine.{built_to};
 ghost use Rattle.torusmem_c.specs.Room.{put_over, put_outcome};
 ghost use Rattle.torusmem_c.specs.Held.{OfHeld, OnHeld, HandleTells};
@@ -15,8 +15,8 @@ ghost use Rattle.torusmem_c.specs.declared.outcome.Code.TheVariants as code;
 use crate::outcome::{Code, Outcome};
 use crate::ports::next_number;
 use crate::records::{AnswerRecord, EntryRecord};
+use c_handles::MachineHandle;
 use machine_asked::AskedMachine;
-use machine_handle::Handle;
 use machine_report::Machine;
 
 /// A number, or that there is none such.
@@ -31,7 +31,7 @@ fn number_outcome(found: Option<u64>) -> Outcome
 
 /// How many tiles there are.
 #[unsafe(no_mangle)]
-pub extern "C" fn torusmem_tiles(handle: &mut Handle) -> Outcome
+pub extern "C" fn torusmem_tiles(handle: &mut MachineHandle) -> Outcome
     ensures { OnHeld (HandleTells tiles_told) (held handle.old) (held handle.new) result }
 {
     match handle.machine() {
@@ -42,7 +42,7 @@ pub extern "C" fn torusmem_tiles(handle: &mut Handle) -> Outcome
 
 /// How many words there are.
 #[unsafe(no_mangle)]
-pub extern "C" fn torusmem_words(handle: &mut Handle) -> Outcome
+pub extern "C" fn torusmem_words(handle: &mut MachineHandle) -> Outcome
     ensures { OnHeld (HandleTells words_told) (held handle.old) (held handle.new) result }
 {
     match handle.machine() {
@@ -53,7 +53,7 @@ pub extern "C" fn torusmem_words(handle: &mut Handle) -> Outcome
 
 /// The word of an address.
 #[unsafe(no_mangle)]
-pub extern "C" fn torusmem_word(handle: &mut Handle, address: u32) -> Outcome
+pub extern "C" fn torusmem_word(handle: &mut MachineHandle, address: u32) -> Outcome
     ensures { OnHeld (HandleTells (word_told address)) (held handle.old) (held handle.new) result }
 {
     match handle.machine() {
@@ -64,7 +64,7 @@ pub extern "C" fn torusmem_word(handle: &mut Handle, address: u32) -> Outcome
 
 /// The word at a place of the row: the places of the channels, the memory, the done word.
 #[unsafe(no_mangle)]
-pub extern "C" fn torusmem_row(handle: &mut Handle, at: u32) -> Outcome
+pub extern "C" fn torusmem_row(handle: &mut MachineHandle, at: u32) -> Outcome
     ensures { OnHeld (HandleTells (row_told at)) (held handle.old) (held handle.new) result }
 {
     match handle.machine() {
@@ -75,7 +75,7 @@ pub extern "C" fn torusmem_row(handle: &mut Handle, at: u32) -> Outcome
 
 /// Puts the whole row into a buffer, and answers how many words it has.
 #[unsafe(no_mangle)]
-pub extern "C" fn torusmem_rows(handle: &mut Handle, out: &mut [u64]) -> Outcome
+pub extern "C" fn torusmem_rows(handle: &mut MachineHandle, out: &mut [u64]) -> Outcome
     ensures held { OnHeld (PutsRow out.old out.new) (held handle.old) (held handle.new) result }
     ensures empty { held handle.old ≡ None → out.new ≡ out.old }
 {
@@ -115,7 +115,7 @@ fn row_length(machine: &Machine) -> u32
 
 /// How many answers a processor has.
 #[unsafe(no_mangle)]
-pub extern "C" fn torusmem_answers(handle: &mut Handle, processor: u32) -> Outcome
+pub extern "C" fn torusmem_answers(handle: &mut MachineHandle, processor: u32) -> Outcome
     ensures { OnHeld (HandleTells (answers_told processor)) (held handle.old) (held handle.new) result }
 {
     match handle.machine() {
@@ -129,7 +129,11 @@ pub extern "C" fn torusmem_answers(handle: &mut Handle, processor: u32) -> Outco
 
 /// Answer i of a processor, from 0 in the order of answering.
 #[unsafe(no_mangle)]
-pub extern "C" fn torusmem_answer_at(handle: &mut Handle, processor: u32, i: u32) -> AnswerRecord
+pub extern "C" fn torusmem_answer_at(
+    handle: &mut MachineHandle,
+    processor: u32,
+    i: u32,
+) -> AnswerRecord
     ensures { OfHeld (no_answer code.Empty) (HandleTells (answer_told processor i)) (held handle.old)
         (held handle.new) result }
 {
@@ -152,7 +156,7 @@ fn answer_of(machine: &Machine, processor: u32, i: u32) -> AnswerRecord
 /// The answer of a processor to its operation of this index, from 0 in the order of issue.
 #[unsafe(no_mangle)]
 pub extern "C" fn torusmem_answer_of(
-    handle: &mut Handle,
+    handle: &mut MachineHandle,
     processor: u32,
     index: u32,
 ) -> AnswerRecord
@@ -180,7 +184,7 @@ fn answer_or_wait(machine: &AskedMachine, processor: u32, index: u32) -> AnswerR
 
 /// How many entries a bank has.
 #[unsafe(no_mangle)]
-pub extern "C" fn torusmem_entries(handle: &mut Handle, bank: u32) -> Outcome
+pub extern "C" fn torusmem_entries(handle: &mut MachineHandle, bank: u32) -> Outcome
     ensures { OnHeld (HandleTells (entries_told bank)) (held handle.old) (held handle.new) result }
 {
     match handle.machine() {
@@ -194,7 +198,7 @@ pub extern "C" fn torusmem_entries(handle: &mut Handle, bank: u32) -> Outcome
 
 /// Entry i of a bank, from 0 in the order of its services.
 #[unsafe(no_mangle)]
-pub extern "C" fn torusmem_entry_at(handle: &mut Handle, bank: u32, i: u32) -> EntryRecord
+pub extern "C" fn torusmem_entry_at(handle: &mut MachineHandle, bank: u32, i: u32) -> EntryRecord
     ensures { OfHeld (no_entry code.Empty) (HandleTells (entry_told bank i)) (held handle.old)
         (held handle.new) result }
 {
@@ -217,7 +221,12 @@ fn entry_of(machine: &Machine, bank: u32, i: u32) -> EntryRecord
 /// The number of the output at tile `at` by which a packet for tile `dst` goes on that came by this
 /// input.
 #[unsafe(no_mangle)]
-pub extern "C" fn torusmem_next(handle: &mut Handle, at: u32, input: u32, dst: u32) -> Outcome
+pub extern "C" fn torusmem_next(
+    handle: &mut MachineHandle,
+    at: u32,
+    input: u32,
+    dst: u32,
+) -> Outcome
     ensures { OnHeld (HandleTells (next_told at input dst)) (held handle.old) (held handle.new) result }
 {
     match handle.machine() {

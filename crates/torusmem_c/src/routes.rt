@@ -1,7 +1,7 @@
 //! The channels of routes, as C sees them.
 
 ghost use Rattle.std.specs.Prelude.{◌≡◌, ◌≤◌, All, None, length, map};
-ghost use Rattle.machine_handle.specs.Held.{held};
+ghost use Rattle.c_handles.specs.HeldMachine.{held};
 ghost use Rattle.dateline_route.specs.Walk.{IsChannel};
 ghost use Rattle.torusmem_c.specs.Channels.{PutsRoute, channel_record, class_named, put_route, route_outcome};
 ghost use Rattle.torusmem_c.specs.Held.{OnHeld};
@@ -10,9 +10,9 @@ use crate::outcome::Outcome;
 use crate::ports::dir_place;
 use crate::room::put_over;
 use arrayvec::ArrayVec;
+use c_handles::MachineHandle;
 use channel_number::number_of;
 use dateline_route::{Channel, Kind, route};
-use machine_handle::Handle;
 use torus::{Class, Torus};
 
 /// A channel of a route: an injection of a tile, a hop out of it, or an ejection.
@@ -105,7 +105,7 @@ fn put_route(torus: &Torus, src: u32, dst: u32, class: u32, out: &mut [ChannelRe
 /// Puts the route of a packet of a class, 0 requests or 1 replies, from tile to tile into a buffer.
 #[unsafe(no_mangle)]
 pub extern "C" fn torusmem_route(
-    handle: &mut Handle,
+    handle: &mut MachineHandle,
     src: u32,
     dst: u32,
     class: u32,

@@ -2,7 +2,7 @@
 
 ghost use Rattle.std.specs.Prelude.{◌≡◌, ◌⊎◌, IfOk, None, map};
 ghost use Rattle.std.specs.Str.Lines.{lines};
-ghost use Rattle.machine_handle.specs.Held.{held};
+ghost use Rattle.c_handles.specs.HeldMachine.{held};
 ghost use Rattle.sentences.specs.Told.{scripts_read};
 ghost use Rattle.torusmem_c.specs.Held.{OnHeld};
 ghost use Rattle.torusmem_c.specs.Room.{LacksMemory};
@@ -10,7 +10,7 @@ ghost use Rattle.torusmem_c.specs.Spins.{PutsSpins, TellsSpins, spin_record};
 
 use crate::outcome::{Outcome, fault_outcome, no_memory};
 use crate::room::put_over;
-use machine_handle::Handle;
+use c_handles::MachineHandle;
 use machine_report::{Machine, answers_of};
 use sentences::{EndedSpin, ended_scripts};
 use std::alloc::{AllocError, Global};
@@ -82,7 +82,7 @@ fn put_spins(
 #[unsafe(no_mangle)]
 pub extern "C" fn torusmem_spins_out(
     alloc: Global,
-    handle: &mut Handle,
+    handle: &mut MachineHandle,
     machine: &[u8],
     scripts: &[u8],
     out: &mut [SpinRecord],

@@ -1,45 +1,45 @@
 //! Steps and rounds of the machine that a handle holds.
 
 ghost use Rattle.std.specs.Prelude.{◌≡◌};
-ghost use Rattle.machine_handle.specs.Held.{held};
-ghost use Rattle.torusmem_c.specs.Choices.{attempt_named};
-ghost use Rattle.torusmem_c.specs.Held.{OnCore, OnHeld};
+ghost use Rattle.c_handles.specs.HeldMachine.{held};
+ghost use Rattle.torusmem_c.specs.Held.{HandleTells, OnCore, OnHeld};
 ghost use Rattle.torusmem_c.specs.Outcome.{c_outcome};
-ghost use Rattle.torusmem_c.specs.Steps.{MakesAttempt, SaysFinished, MakesRound, MakesSteps, TellsEnabled, TellsFinished};
-ghost use Rattle.torusmem_c.specs.Steps.{TellsMovesLeft, c_enabled, moved_number, steps_named};
+ghost use Rattle.torusmem_c.specs.Steps.{MakesAll, MakesNamed, MakesRound, MakesSteps, SaysFinished, TellsFinished};
+ghost use Rattle.torusmem_c.specs.Steps.{TellsMovesLeft, enabled_told, first_unnamed, moved_number, steps_named};
 
-use crate::choice::attempt_named;
+use crate::choice::{attempt_named, step_named};
 use crate::outcome::{Code, Outcome};
+use c_handles::MachineHandle;
 use machine_asked::AskedMachine;
-use machine_handle::Handle;
 use machine_report::Machine;
-use torus::{Step, Stepped};
+use torus::{Stepped, Torus};
 
 /// Attempts one choice of one agent: 1 where it moved, 0 where it was idle.
+///
+/// Errors: there is no such agent, or it has no such choice. Nothing changes then.
 #[unsafe(no_mangle)]
 pub extern "C" fn torusmem_step(
-    handle: &mut Handle,
+    handle: &mut MachineHandle,
     agent: u32,
     choice: u32,
     number: u32,
 ) -> Outcome
-    ensures { OnHeld (MakesAttempt (attempt_named agent choice number)) (held handle.old)
-        (held handle.new) result }
+    ensures { OnHeld (MakesNamed agent choice number) (held handle.old) (held handle.new) result }
 {
     match handle.machine() {
-        Some(machine) => made(machine, attempt_named(agent, choice, number)),
+        Some(machine) => made(machine, agent, choice, number),
         None => Outcome::empty(),
     }
 }
 
-/// Makes the step that is named, if one is.
+/// Makes the step that is named, if there is one.
 #[inline(always)]
-fn made(machine: &mut AskedMachine, attempt: Option<Step>) -> Outcome
-    ensures { OnCore (MakesAttempt attempt) machine.old machine.new result }
+fn made(machine: &mut AskedMachine, agent: u32, choice: u32, number: u32) -> Outcome
+    ensures { OnCore (MakesNamed agent choice number) machine.old machine.new result }
 {
-    match attempt {
+    match step_named(machine.machine().torus(), agent, choice, number) {
         Some(attempt) => Outcome::done(moved(machine.step(attempt))),
-        None => Outcome::done(0),
+        None => Outcome::no_such(),
     }
 }
 
@@ -64,14 +64,39 @@ pub struct AttemptRecord {
     pub number: u32,
 }
 
+/// The place of the first attempt that names no step of a torus.
+fn first_unnamed(torus: &Torus, attempts: &[AttemptRecord]) -> Option<usize>
+    ensures { result ≡ first_unnamed torus.now attempts.now }
+{
+    let mut at = 0;
+    for it in attempts {
+        if step_named(torus, it.agent, it.choice, it.number).is_none() {
+            return Some(at);
+        }
+        at += 1;
+    }
+    None
+}
+
+/// Makes attempts, if all of them name steps.
+fn made_if_named(machine: &mut AskedMachine, attempts: &[AttemptRecord]) -> Outcome
+    ensures { OnCore (MakesAll attempts.now) machine.old machine.new result }
+{
+    match first_unnamed(machine.machine().torus(), attempts) {
+        Some(at) => Outcome::of(Code::NoSuch, at as u64),
+        None => Outcome::done(made_all(machine, attempts)),
+    }
+}
+
 /// Attempts choices of agents, one after the other, and answers how many of them moved.
+///
+/// Errors: one of them is no choice of an agent; the place of the first such is told, and none is made.
 #[unsafe(no_mangle)]
-pub extern "C" fn torusmem_run(handle: &mut Handle, attempts: &[AttemptRecord]) -> Outcome
-    ensures { OnHeld (MakesSteps (steps_named attempts.now)) (held handle.old) (held handle.new)
-        result }
+pub extern "C" fn torusmem_run(handle: &mut MachineHandle, attempts: &[AttemptRecord]) -> Outcome
+    ensures { OnHeld (MakesAll attempts.now) (held handle.old) (held handle.new) result }
 {
     match handle.machine() {
-        Some(machine) => Outcome::done(made_all(machine, attempts)),
+        Some(machine) => made_if_named(machine, attempts),
         None => Outcome::empty(),
     }
 }
@@ -100,38 +125,37 @@ fn made_all(machine: &mut AskedMachine, attempts: &[AttemptRecord]) -> u64
 }
 
 /// Whether one choice of one agent is enabled: 1 or 0.
+///
+/// Errors: there is no such agent, or it has no such choice.
 #[unsafe(no_mangle)]
 pub extern "C" fn torusmem_enabled(
-    handle: &mut Handle,
+    handle: &mut MachineHandle,
     agent: u32,
     choice: u32,
     number: u32,
 ) -> Outcome
-    ensures { OnHeld (TellsEnabled (attempt_named agent choice number)) (held handle.old)
+    ensures { OnHeld (HandleTells (enabled_told agent choice number)) (held handle.old)
         (held handle.new) result }
 {
     match handle.machine() {
-        Some(machine) => Outcome::told(is_enabled(
-            machine.machine(),
-            attempt_named(agent, choice, number),
-        )),
+        Some(machine) => enabled_told(machine.machine(), agent, choice, number),
         None => Outcome::empty(),
     }
 }
 
-/// Whether the step that is named is enabled.
-fn is_enabled(machine: &Machine, attempt: Option<Step>) -> bool
-    ensures { result ≡ c_enabled attempt machine.now }
+/// Whether the step that is named is enabled, if there is one.
+fn enabled_told(machine: &Machine, agent: u32, choice: u32, number: u32) -> Outcome
+    ensures { result ≡ enabled_told agent choice number machine.now }
 {
-    match attempt {
-        Some(attempt) => machine.enabled(attempt),
-        None => false,
+    match step_named(machine.torus(), agent, choice, number) {
+        Some(attempt) => Outcome::told(machine.enabled(attempt)),
+        None => Outcome::no_such(),
     }
 }
 
 /// Makes one round.
 #[unsafe(no_mangle)]
-pub extern "C" fn torusmem_round(handle: &mut Handle) -> Outcome
+pub extern "C" fn torusmem_round(handle: &mut MachineHandle) -> Outcome
     ensures { OnHeld MakesRound (held handle.old) (held handle.new) result }
 {
     match handle.machine() {
@@ -145,7 +169,7 @@ pub extern "C" fn torusmem_round(handle: &mut Handle) -> Outcome
 
 /// Makes rounds until every script is finished, and answers how many.
 #[unsafe(no_mangle)]
-pub extern "C" fn torusmem_finish(handle: &mut Handle) -> Outcome
+pub extern "C" fn torusmem_finish(handle: &mut MachineHandle) -> Outcome
     ensures { OnHeld SaysFinished (held handle.old) (held handle.new) result }
 {
     match handle.machine() {
@@ -156,7 +180,7 @@ pub extern "C" fn torusmem_finish(handle: &mut Handle) -> Outcome
 
 /// Whether every script is finished: 1 or 0.
 #[unsafe(no_mangle)]
-pub extern "C" fn torusmem_finished(handle: &mut Handle) -> Outcome
+pub extern "C" fn torusmem_finished(handle: &mut MachineHandle) -> Outcome
     ensures { OnHeld TellsFinished (held handle.old) (held handle.new) result }
 {
     match handle.machine() {
@@ -167,7 +191,7 @@ pub extern "C" fn torusmem_finished(handle: &mut Handle) -> Outcome
 
 /// How many moves the scripts still allow.
 #[unsafe(no_mangle)]
-pub extern "C" fn torusmem_moves_left(handle: &mut Handle) -> Outcome
+pub extern "C" fn torusmem_moves_left(handle: &mut MachineHandle) -> Outcome
     ensures { OnHeld TellsMovesLeft (held handle.old) (held handle.new) result }
 {
     match handle.machine() {

@@ -3,7 +3,7 @@
 ghost use Rattle.std.specs.Prelude.{◌≡◌, ◌⊎◌, IfErr, IfOk, None};
 ghost use Rattle.std.specs.Str.Lines.{lines};
 ghost use Rattle.machine_report.specs.Report.{machine_report};
-ghost use Rattle.machine_handle.specs.Held.{held};
+ghost use Rattle.c_handles.specs.HeldMachine.{held};
 ghost use Rattle.machine_core.specs.Loading.{load_by};
 ghost use Rattle.report_check.specs.Good.{GoodReport};
 ghost use Rattle.report_lines.specs.Line.{text_of};
@@ -14,8 +14,8 @@ ghost use Rattle.torusmem_c.specs.Texts.{check_outcome};
 
 use crate::outcome::{Code, Outcome, fault_outcome, no_memory};
 use crate::room::put_over;
+use c_handles::MachineHandle;
 use machine_asked::AskedMachine;
-use machine_handle::Handle;
 use machine_report::{Machine, Out, check_report, of_run, write_report};
 use report_check::CheckFault;
 use std::alloc::{AllocError, Global};
@@ -63,7 +63,7 @@ fn check_outcome(fault: CheckFault) -> Outcome
 #[unsafe(no_mangle)]
 pub extern "C" fn torusmem_load(
     alloc: Global,
-    handle: &mut Handle,
+    handle: &mut MachineHandle,
     machine: &[u8],
     scripts: &[u8],
 ) -> Outcome
@@ -84,7 +84,7 @@ pub extern "C" fn torusmem_load(
 
 /// Lets go of the machine that the handle holds, if any.
 #[unsafe(no_mangle)]
-pub extern "C" fn torusmem_free(alloc: Global, handle: &mut Handle)
+pub extern "C" fn torusmem_free(alloc: Global, handle: &mut MachineHandle)
     ensures { held handle.new ≡ None }
 {
     let _ = alloc;
@@ -121,7 +121,11 @@ fn put_report(alloc: Global, machine: &Machine, out: &mut [u8]) -> Outcome
 
 /// Puts the report of the run so far into a buffer.
 #[unsafe(no_mangle)]
-pub extern "C" fn torusmem_report(alloc: Global, handle: &mut Handle, out: &mut [u8]) -> Outcome
+pub extern "C" fn torusmem_report(
+    alloc: Global,
+    handle: &mut MachineHandle,
+    out: &mut [u8],
+) -> Outcome
     ensures held { OnHeld (PutsReport out.old out.new) (held handle.old) (held handle.new) result }
     ensures empty { held handle.old ≡ None → out.new ≡ out.old }
 {

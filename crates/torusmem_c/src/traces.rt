@@ -2,18 +2,18 @@
 
 ghost use Rattle.std.specs.Prelude.{◌≡◌, ◌⊎◌, IfOk, length};
 ghost use Rattle.trace_laws.specs.Traces.{IsTrace};
-ghost use Rattle.trace_records.specs.Gathered.{trace_of_records};
+ghost use Rattle.c_handles.specs.Gathered.{trace_of_records};
 ghost use Rattle.torusmem_c.specs.Room.{LacksMemory};
 ghost use Rattle.torusmem_c.specs.Traces.{PutsOrder, TellsTrace, TellsUnjudged, TellsVerdict, numbers_in};
 ghost use Rattle.torusmem_c.specs.Traces.{undecided_outcome};
 
 use crate::outcome::{Code, Outcome, fault_outcome, no_memory};
 use crate::room::put_over;
+use c_handles::{EventRecord, trace_of_records};
 use std::alloc::{AllocError, Global};
 use trace_judge::Undecided;
 use trace_judge::judge::{Verdict, judge};
 use trace_laws::{Call, Event};
-use trace_records::{EventRecord, trace_of_records};
 
 /// The numbers of an order's operations.
 fn numbers_in(alloc: Global, order: &[Call]) -> Result<Vec<u64>, AllocError>

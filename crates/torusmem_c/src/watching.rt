@@ -1,17 +1,17 @@
 //! A watch of a trace that goes on, as C sees it.
 
 ghost use Rattle.std.specs.Prelude.{◌≡◌, None};
-ghost use Rattle.watch_handle.specs.Held.{held};
+ghost use Rattle.c_handles.specs.HeldWatch.{held};
 ghost use Rattle.torusmem_c.specs.Watching.{BeginsWatch, OnWatch, TakesEvent, answer_named, issue_named};
 ghost use Rattle.torusmem_c.specs.Watching.{told_outcome};
 
 use crate::outcome::{Code, Outcome, no_memory};
+use c_handles::record::{op_numbered, reply_numbered};
+use c_handles::{Kept, WatchHandle};
 use packet::Operation;
 use std::alloc::Global;
 use trace_laws::{Call, Event};
-use trace_records::record::{op_numbered, reply_numbered};
 use trace_watch::{Full, Seen, begin};
-use watch_handle::{Handle, Kept};
 
 /// Begins a watch of a trace over a memory that opens with these words, before its first event, in an
 /// empty handle.
@@ -20,7 +20,7 @@ use watch_handle::{Handle, Kept};
 #[unsafe(no_mangle)]
 pub extern "C" fn torusmem_watch_begin(
     alloc: Global,
-    handle: &mut Handle,
+    handle: &mut WatchHandle,
     opening: &[u64],
 ) -> Outcome
     ensures { BeginsWatch opening.now (held handle.old) (held handle.new) result }
@@ -39,7 +39,7 @@ pub extern "C" fn torusmem_watch_begin(
 
 /// Lets go of the watch that the handle holds, if any.
 #[unsafe(no_mangle)]
-pub extern "C" fn torusmem_watch_end(alloc: Global, handle: &mut Handle)
+pub extern "C" fn torusmem_watch_end(alloc: Global, handle: &mut WatchHandle)
     ensures { held handle.new ≡ None }
 {
     let _ = alloc;
@@ -99,7 +99,7 @@ fn taken(alloc: Global, watch: &mut Kept, event: Option<Event>, configurations: 
 #[unsafe(no_mangle)]
 pub extern "C" fn torusmem_watch_issue(
     alloc: Global,
-    handle: &mut Handle,
+    handle: &mut WatchHandle,
     number: u64,
     operation: u32,
     address: u32,
@@ -128,7 +128,7 @@ pub extern "C" fn torusmem_watch_issue(
 #[unsafe(no_mangle)]
 pub extern "C" fn torusmem_watch_answer(
     alloc: Global,
-    handle: &mut Handle,
+    handle: &mut WatchHandle,
     number: u64,
     has_old: u32,
     old: u64,

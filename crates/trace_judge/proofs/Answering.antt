@@ -56,7 +56,8 @@ slot_known {A} opening trace whole k s id call seen t holds now is e none =
     (λ (a : (u : ℕ) × (o : Open) × IsAt (lists_of s.tables.items call.operation.address) u o × (o.call ≡ call)).
     none a.0 a.1 (subst (λ (ts : List (Option Open)). IsAt ts a.0 a.1) (sym e) a.2)
     (ap (λ (c : Call). c.id) a.3 ∙ is.3))
-    ((holds.searched.tabled call.operation.address inside).known is.0 call is.1 is.2 refl)
+    ((holds.searched.tabled call.operation.address inside).known is.0 call is.1 is.2 refl
+    (λ lost. lost.never (k, now.0, subst (λ (n : ℕ). TraceAnswersAt trace k n now.0) (sym is.3) now.1)))
 
 -- which is in the table of its word
 pub slot_there : {A : Type 0} (opening : List ℕ) (trace whole : List Event) (k : ℕ) (s : Search A) (w slot : ℕ) (o : Open)

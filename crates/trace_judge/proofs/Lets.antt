@@ -25,9 +25,9 @@ complete_stays : (opening : List ℕ) (trace : List Event) (k : ℕ) (tables : �
     → ((w : ℕ) → w < length opening → others w ≡ renumbered_all marks (sets w))
     → IsComplete opening trace k tables (λ w. configs_of (sets w))
     → IsComplete opening trace k tables (λ w. configs_of (others w))
-complete_stays opening trace k tables sets others marks same complete = λ order o w l.
+complete_stays opening trace k tables sets others marks same complete = λ order o heard w l.
     subst (λ (cs : List Config). IsCovered opening trace k (tables w) w order cs)
-    (sym (ap configs_of (same w l) ∙ configs_stay marks (sets w))) (complete order o w l)
+    (sym (ap configs_of (same w l) ∙ configs_stay marks (sets w))) (complete order o heard w l)
 
 pub holds_lets : {A : Type 0} (opening : List ℕ) (trace whole : List Event) (k most : ℕ) (s : Search A)
     (words : Vec (Vec Branch A) A) (nodes : Vec Node A) (shown : List (Vec Branch A)) (seen : List Node)

@@ -5,16 +5,19 @@ use Rattle.std.proofs.Common.{get_or-set_other, length-set}
 use Rattle.std.proofs.lemmas.Bool.{cases_eq}
 use Rattle.std.proofs.lemmas.List.{map-set, length-map, length-replicate, get_or-map, length_push}
 use Rattle.std.proofs.Common.{◌-◌, length-append, append-nil, append_assoc}
+use Rattle.packet.specs.declared.kinds.Op.TheVariants.{Load}
 use Rattle.packet.specs.declared.kinds.Reply.{Reply}
 use Rattle.trace_laws.specs.declared.event.Call.{Call}
 use Rattle.trace_laws.specs.declared.event.Event.{Event}
 use Rattle.trace_laws.specs.declared.opened.Open.{Open}
 use Rattle.trace_laws.specs.declared.opened.Branch.{Branch}
 use Rattle.trace_laws.specs.declared.opened.Node.{Node}
-use Rattle.trace_laws.specs.Traces.{IsTrace, TraceIssuesAt, TraceAnswersAt}
+use Rattle.trace_laws.specs.Traces.{IsTrace, TraceIssuesAt, TraceAnswersAt, IsAnswered}
+use Rattle.trace_laws.proofs.Issues.{one_issue}
 use Rattle.trace_laws.specs.Configs.{IsIn}
 use Rattle.trace_laws.specs.Searches.{IsAt, IsPending, IsIndexTable, Fits, IsCovered, IsSearched, first_branch, configs_of, order_of}
-use Rattle.trace_laws.proofs.Start.{none_at, searched_none, searched_issue, searched_more, pending_now}
+use Rattle.trace_laws.specs.Unanswered.{IsUnansweredLoad}
+use Rattle.trace_laws.proofs.Start.{none_at, searched_none, searched_issue, searched_more, searched_unanswered, pending_now}
 use Rattle.trace_laws.proofs.Trails.{put, put_same, put_other}
 use Rattle.trace_laws.proofs.Lists.{get_push}
 use Rattle.trace_judge.specs.declared.search.Search.{Search}
@@ -103,9 +106,9 @@ searched_as opening trace k tables others sets nodes same is = record {
               (sym (same v)) (x.fits v l);
         };
   };
-  complete = λ order o v l.
+  complete = λ order o heard v l.
       subst (λ (ts : List (Option Open)). IsCovered opening trace k ts v order (configs_of (sets v))) (sym (same v))
-      (is.complete order o v l);
+      (is.complete order o heard v l);
 }
 
 -- a new slot at the end
@@ -221,4 +224,41 @@ holds_issue {A} opening trace whole k s tables old table first call promise seen
           (holds.parted w) t p (subst (λ (u : ℕ). IsAt (lists_of tables.items u) t p) e h))
           (λ (ne : v ≢ w). holds.parted v t p (subst (λ (ts : List (Option Open)). IsAt ts t p) (others v ne) h))
           (cases_eq v w);
+    }
+
+-- what is not answered behind its issue never is
+pub never_answered : (words : ℕ) (trace : List Event) (k : ℕ) (call : Call) (promise : Option Reply) → IsTrace words trace
+    → TraceIssuesAt trace k call → promise ≡ None
+    → MatchOption promise ((i : ℕ) (reply : Reply) → k + 1 ≤ i → TraceAnswersAt trace i call.id reply → ⊥)
+    (λ reply. (i : ℕ) × (k + 1 ≤ i) × TraceAnswersAt trace i call.id reply)
+    → IsAnswered trace call.id → ⊥
+never_answered words trace k call promise t now none tells answer =
+    let late : (j : ℕ) (s : Reply) → k + 1 ≤ j → TraceAnswersAt trace j call.id s → ⊥ =
+    subst (λ (p : Option Reply). MatchOption p ((j : ℕ) (s : Reply) → k + 1 ≤ j → TraceAnswersAt trace j call.id s → ⊥)
+    (λ s. (j : ℕ) × (k + 1 ≤ j) × TraceAnswersAt trace j call.id s)) none tells in
+    let issue = t.issued answer.0 call.id answer.1 answer.2 in
+    let same = one_issue words trace t issue.0 k issue.1 call issue.4 now issue.3 in
+    let before = issue.2 in
+    late answer.0 answer.1 (omega arith) answer.2
+
+-- a load that is never answered is issued
+pub holds_unanswered : {A : Type 0} (opening : List ℕ) (trace whole : List Event) (k : ℕ) (s : Search A) (call : Call)
+    (promise : Option Reply) → IsTrace (length opening) trace → TraceIssuesAt trace k call
+    → call.operation.op ≡ Load → promise ≡ None
+    → MatchOption promise ((i : ℕ) (reply : Reply) → k + 1 ≤ i → TraceAnswersAt trace i call.id reply → ⊥)
+    (λ reply. (i : ℕ) × (k + 1 ≤ i) × TraceAnswersAt trace i call.id reply)
+    → HasSearched {A = A} opening trace whole k s → HasSearched {A = A} opening trace whole (k + 1) s
+holds_unanswered {A} opening trace whole k s call promise t now load none tells holds =
+    let lost : IsUnansweredLoad trace call =
+    record { load = load; never = never_answered (length opening) trace k call promise t now none tells } in
+    record {
+      sized = holds.sized;
+      tabled = holds.tabled;
+      searched =
+          subst (λ (n : ℕ). IsSearched opening trace n (lists_of s.tables.items) (lists_of s.words.items) s.nodes.items)
+          (sym (add-one k))
+          (searched_unanswered opening trace k (lists_of s.tables.items) (lists_of s.words.items) s.nodes.items call now lost
+          holds.searched);
+      filled = holds.filled;
+      parted = holds.parted;
     }

@@ -11,9 +11,11 @@ ghost use Rattle.trace_judge.specs.Verdicts.{IsGoodUntil, Tells};
 ghost use Rattle.trace_judge.specs.Marks.{AreNodes, IsBelow, AreMarked, ArePicked};
 ghost use Rattle.trace_judge.specs.Sets.{lists_of};
 
+use crate::likely::{are_all_answered, is_silent, likely};
 use crate::nodes::no_marks;
 use crate::search::{Search, start};
 use crate::stuck::answer_from;
+use crate::trace::is_trace;
 use crate::undecided::Undecided;
 use std::alloc::{AllocError, Allocator};
 use trace_laws::{Call, Event, Node};
@@ -148,6 +150,88 @@ fn find_order<A: Allocator + Copy>(
     Ok(Some(order))
 }
 
+/// How many configurations of a word a likely trace may have at once.
+const LIKELY: usize = 10_000;
+
+/// An order that explains the trace, if a likely one has an order.
+fn try_likely<A: Allocator + Copy>(
+    alloc: A,
+    opening: &[u64],
+    events: &[Event],
+    unclear: bool,
+    bound: usize,
+) -> Result<Option<Vec<Call, A>>, AllocError>
+    requires { IsTrace (length opening.now) events.now }
+    ensures { IfOk result (λ found. MatchOption found (Unit {0})
+        (λ order. IsOrder opening.now events.now order.items)) }
+{
+    let other = likely(alloc, opening, events, unclear)?;
+    if !is_trace(opening.len(), &other) {
+        return Ok(None);
+    }
+    let mut ended = Ended::default();
+    let found = find_order(
+        alloc,
+        opening,
+        &other,
+        &other,
+        bound.min(LIKELY),
+        &mut ended,
+    );
+    match found {
+        Ok(order) => Ok(order),
+        Err(_) => Ok(None),
+    }
+}
+
+/// An order that explains the trace: none of its operations, if nothing is answered; or one of a likely trace,
+/// if operations are never answered and that has one.
+fn likely_order<A: Allocator + Copy>(
+    alloc: A,
+    opening: &[u64],
+    events: &[Event],
+    bound: usize,
+) -> Result<Option<Vec<Call, A>>, AllocError>
+    requires { IsTrace (length opening.now) events.now }
+    ensures { IfOk result (λ found. MatchOption found (Unit {0})
+        (λ order. IsOrder opening.now events.now order.items)) }
+{
+    if are_all_answered(events) {
+        return Ok(None);
+    }
+    if is_silent(events) {
+        return Ok(Some(Vec::new(alloc)));
+    }
+    if let Some(order) = try_likely(alloc, opening, events, false, bound)? {
+        return Ok(Some(order));
+    }
+    try_likely(alloc, opening, events, true, bound)
+}
+
+/// An order that explains the trace, if there is one, found with or without a guess; else the event at which
+/// the search ended is noted.
+fn explain<A: Allocator + Copy>(
+    alloc: A,
+    opening: &[u64],
+    events: &[Event],
+    bound: usize,
+    ended: &mut Ended,
+) -> Result<Option<Vec<Call, A>>, Undecided>
+    requires { IsTrace (length opening.now) events.now }
+    ensures undecided { IfErr result (IsUndecided events.now) }
+    ensures full { IfErr result (TellsMany opening.now events.now bound) }
+    ensures ended { IfOk result (λ found. found ≡ None
+        → IsGoodUntil opening.now events.now ended.new.event) }
+    ensures decided { IfOk result (λ found. MatchOption found
+        (IsLinearizable opening.now events.now → ⊥)
+        (λ order. IsOrder opening.now events.now order.items)) }
+{
+    if let Some(order) = likely_order(alloc, opening, events, bound)? {
+        return Ok(Some(order));
+    }
+    find_order(alloc, opening, events, events, bound, ended)
+}
+
 /// An order that explains the trace, if there is one, found with at most so many configurations of a
 /// word at once. An `Err` tells why it isn't decided, and where: an answer at which a word has more
 /// configurations, or an issue beside 64 open operations
@@ -166,7 +250,7 @@ pub fn decide<A: Allocator + Copy>(
         (λ order. IsOrder opening.now events.now order.items)) }
 {
     let mut ended = Ended::default();
-    find_order(alloc, opening, events, events, bound, &mut ended)
+    explain(alloc, opening, events, bound, &mut ended)
 }
 
 /// The beginning to look at next, between a good one and a bad one: one that is guessed, or half way.
@@ -197,7 +281,7 @@ pub fn judge<A: Allocator + Copy>(
     ensures judged { IfOk result (λ verdict. Tells opening.now events.now verdict) }
 {
     let mut ended = Ended::default();
-    if let Some(order) = find_order(alloc, opening, events, events, bound, &mut ended)? {
+    if let Some(order) = explain(alloc, opening, events, bound, &mut ended)? {
         return Ok(Verdict::Linearizable(order));
     }
     // What comes before the event at which the search ended has an order. Most often the first bad event

@@ -1,12 +1,13 @@
 //! Looks things up in a trace.
 
-ghost use Rattle.std.specs.Prelude.{◌≡◌, ◌<◌, ◌≤◌, ℕ, MatchOption, length};
+ghost use Rattle.std.specs.Prelude.{◌≡◌, ◌<◌, ◌≤◌, ℕ, true, None, MatchOption, length};
+ghost use Rattle.packet.specs.declared.kinds.Op.TheVariants.{Load};
 ghost use Rattle.packet.specs.declared.kinds.Reply.{Reply};
 ghost use Rattle.trace_laws.specs.declared.event.Call.{Call};
 ghost use Rattle.trace_laws.specs.Traces.{TraceAnswersAt, TraceIssuesAt};
 ghost use Rattle.trace_judge.specs.Slots.{IsBegun};
 
-use packet::Reply;
+use packet::{Op, Reply};
 use trace_laws::{Call, Event};
 
 /// The reply to the operation of this number, if it is answered from this event on.
@@ -42,6 +43,16 @@ pub fn issue_of(events: &[Event], k: usize, id: u64) -> Option<Call>
         }
     }
     None
+}
+
+/// Whether an operation with this promise is a load that is never answered.
+pub fn is_unanswered_load(op: Op, promise: Option<Reply>) -> bool
+    ensures { result ≡ true → (op ≡ Load) × (promise ≡ None) }
+{
+    match promise {
+        Some(_) => false,
+        None => op == Op::Load,
+    }
 }
 
 /// The slot from which on operations are put that the trace never answers.

@@ -13,7 +13,7 @@ ghost use Rattle.trace_judge.specs.Stops.{IsBeginning, IsUndecided, TellsMany};
 use crate::closing::{close, keep};
 use crate::index::{Index, empty_index};
 use crate::nodes::kept;
-use crate::reading::{first_slot, issue_of, promise_of};
+use crate::reading::{first_slot, is_unanswered_load, issue_of, promise_of};
 use crate::slots::{free, put, slot_of};
 use crate::stuck::stuck_in;
 use crate::undecided::{Undecided, at_event};
@@ -97,7 +97,7 @@ pub fn start<A: Allocator + Copy>(
 }
 
 impl<A: Allocator + Copy> Search<A> {
-    /// An operation is issued.
+    /// An operation is issued. Of a load that is never answered nothing is kept, since it says nothing.
     fn issue(
         &mut self,
         opening: &[u64],
@@ -116,6 +116,9 @@ impl<A: Allocator + Copy> Search<A> {
         ensures full { IfErr result (λ why. (bound : ℕ) → TellsMany opening.now whole.now bound why) }
     {
         let promise = promise_of(events, k + 1, call.id);
+        if is_unanswered_load(call.operation.op, promise) {
+            return Ok(());
+        }
         let word = call.operation.address as usize;
         let first = first_slot(whole, events.len(), call.id, promise);
         if put(&mut self.tables[word], first, Open { call, promise })? {

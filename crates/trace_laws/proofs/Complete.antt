@@ -13,6 +13,7 @@ use Rattle.trace_laws.specs.Orders.{IsLinearizable}
 use Rattle.trace_laws.specs.Configs.{IsLeft, HasTakenEffect, IsIn, HasAsGood, IsExpanded, release}
 use Rattle.trace_laws.specs.Searches.{IsAt, IsPending, IsIndexTable, AreTables, KeepsUp, WasIdle, IsCut, IsCovered, IsComplete}
 use Rattle.trace_laws.proofs.Lists.{take_get}
+use Rattle.trace_laws.proofs.Unanswered.{heard_order}
 use Rattle.trace_laws.proofs.Issues.{one_issue, one_call}
 use Rattle.trace_laws.proofs.Table.{at_within}
 use Rattle.trace_laws.proofs.Dominance.{good_more, good_issued, good_answer, good_widened}
@@ -27,8 +28,8 @@ pub complete_issue : (opening : List ℕ) (trace : List Event) (k : ℕ) (tables
     → ((v : ℕ) → v ≢ b.call.operation.address → later v ≡ tables v)
     → IsComplete opening trace k tables sets
     → IsComplete opening trace (suc k) later sets
-complete_issue opening trace k tables later sets s b t now l free new same_table complete = λ order o w inside.
-    let was = complete order o w inside in
+complete_issue opening trace k tables later sets s b t now l free new same_table complete = λ order o heard w inside.
+    let was = complete order o heard w inside in
     let n = was.0 in
     let c : Config = was.1 in
     let up : KeepsUp opening (tables w) w (take n order) c = was.3 in
@@ -80,7 +81,7 @@ pub complete_answer : (opening : List ℕ) (trace : List Event) (k : ℕ) (table
     → ((c : Config) → IsIn configs c → HasTakenEffect c s → IsIn (later a.call.operation.address) (release c s))
     → ((v : ℕ) → v ≢ a.call.operation.address → later v ≡ sets v)
     → IsComplete opening trace k tables sets → IsComplete opening trace (suc k) emptied later
-complete_answer opening trace k tables emptied sets later s a reply t are now inside there gone same_table configs kept closed released same complete = λ order o v l.
+complete_answer opening trace k tables emptied sets later s a reply t are now inside there gone same_table configs kept closed released same complete = λ order o heard v l.
     let w = a.call.operation.address in
     let table : List (Option Open) = tables w in
     let is : IsIndexTable trace k w table = are w inside in
@@ -93,10 +94,10 @@ complete_answer opening trace k tables emptied sets later s a reply t are now in
     (one_call (length opening) trace t issue.0 p.at on.1 a.call issue.1 p.issue on.3) on.2 in
     ⊎_elim {C = IsCovered opening trace (suc k) (emptied v) v order (later v)}
     (λ (e : v ≡ w).
-    let was : IsCovered opening trace k (tables w) w order (sets w) = complete order o w inside in
+    let was : IsCovered opening trace k (tables w) w order (sets w) = complete order o heard w inside in
     let better : HasAsGood table w configs was.1 = kept was.1 was.2 in
     let was_up : KeepsUp opening table w (take was.0 order) was.1 = was.3 in
-    let far = walk opening trace k table t order o s a reply is now there inside on.0 at configs closed
+    let far = walk opening trace k table t order o heard s a reply is now there inside on.0 at configs closed
     (suc on.0) was.0 better.0 (omega arith) better.1
     (was_up.0, was_up.1, good_more table w better.0 was.1 was_up.0 better.2 was_up.2) was.4 in
     let m = far.0 in
@@ -115,7 +116,7 @@ complete_answer opening trace k tables emptied sets later s a reply t are now in
       cut_answered opening trace k table order o s a reply is now there on.0 at m d far.3 up cut,
     ))
     (λ (ne : v ≢ w).
-    let was : IsCovered opening trace k (tables v) v order (sets v) = complete order o v l in
+    let was : IsCovered opening trace k (tables v) v order (sets v) = complete order o heard v l in
     let cut : IsCut trace k v order was.0 = was.4 in (
       was.0,
       was.1,
@@ -146,8 +147,8 @@ pub complete_more : (opening : List ℕ) (trace : List Event) (k : ℕ) (tables 
     (sets : ℕ → List Config) (w : ℕ) → later w ≡ tables w ++ None ∷ []
     → ((v : ℕ) → v ≢ w → later v ≡ tables v)
     → IsComplete opening trace k tables sets → IsComplete opening trace k later sets
-complete_more opening trace k tables later sets w new same complete = λ order o v l.
-    let was : IsCovered opening trace k (tables v) v order (sets v) = complete order o v l in
+complete_more opening trace k tables later sets w new same complete = λ order o heard v l.
+    let was : IsCovered opening trace k (tables v) v order (sets v) = complete order o heard v l in
     let up : KeepsUp opening (tables v) v (take was.0 order) was.1 = was.3 in (
       was.0,
       was.1,
@@ -165,8 +166,8 @@ pub complete_as_good : (opening : List ℕ) (trace : List Event) (k : ℕ) (tabl
     (sets others : ℕ → List Config)
     → ((w : ℕ) → w < length opening → (d : Config) → IsIn (sets w) d → HasAsGood (tables w) w (others w) d)
     → IsComplete opening trace k tables sets → IsComplete opening trace k tables others
-complete_as_good opening trace k tables sets others better complete = λ order o v l.
-    let was : IsCovered opening trace k (tables v) v order (sets v) = complete order o v l in
+complete_as_good opening trace k tables sets others better complete = λ order o heard v l.
+    let was : IsCovered opening trace k (tables v) v order (sets v) = complete order o heard v l in
     let up : KeepsUp opening (tables v) v (take was.0 order) was.1 = was.3 in
     let is = better v l was.1 was.2 in
     (was.0, is.0, is.1, (up.0, up.1, good_more (tables v) v is.0 was.1 up.0 is.2 up.2), was.4)
@@ -178,5 +179,30 @@ pub complete_none : (opening : List ℕ) (trace : List Event) (k : ℕ) (tables 
     → ((c : Config) → IsIn (sets w) c → ⊥) → IsComplete opening trace k tables sets
     → IsLinearizable opening trace → ⊥
 complete_none opening trace k tables sets w inside none complete is =
-    let was = complete is.0 is.1 w inside in
+    let spare = heard_order opening trace is.0 is.1 in
+    let was = complete spare.0 spare.1 spare.2 w inside in
     none was.1 was.2
+
+-- the next event issues a load that is never answered
+pub complete_unanswered : (opening : List ℕ) (trace : List Event) (k : ℕ) (tables : ℕ → List (Option Open))
+    (sets : ℕ → List Config) (call : Call) → TraceIssuesAt trace k call
+    → IsComplete opening trace k tables sets → IsComplete opening trace (suc k) tables sets
+complete_unanswered opening trace k tables sets call now complete = λ order o heard v l.
+    let was = complete order o heard v l in
+    let cut : IsCut trace k v order was.0 = was.4 in (
+      was.0,
+      was.1,
+      was.2,
+      was.3,
+      record {
+        before = λ x d m h here. let r = cut.before x d m h here in (r.0, omega arith, r.2);
+        behind = λ x d m h here. ⊎_elim
+            (λ (open_still : IsUnanswered trace k d.id). inl (λ i reply answer. ⊎_elim
+            (λ (e : i ≡ k). absurd
+            (let there : slice_get trace i ≡ Some (Issue call) = ap (λ (j : ℕ). slice_get trace j) e ∙ now in cc))
+            (λ (ne : i ≢ k). let r = open_still i reply answer in omega arith)
+            (cases_eq i k)))
+            (λ (idle : WasIdle trace k d). inr (idle_later trace k d idle))
+            (cut.behind x d m h here);
+      },
+    )

@@ -21,3 +21,5 @@ pub mod Complete
 pub mod Start
 pub mod Fewer
 mod SearchExamples
+pub mod Without
+pub mod Unanswered

@@ -11,7 +11,7 @@ use Rattle.trace_laws.specs.declared.opened.Branch.{Branch}
 use Rattle.trace_laws.specs.declared.opened.Node.{Node}
 use Rattle.trace_laws.specs.Traces.{IsTrace, TraceIssuesAt, TraceAnswersAt}
 use Rattle.trace_laws.specs.Orders.{IsOrder, memory_of}
-use Rattle.trace_laws.specs.Configs.{MayTake, IsIn, effect, release}
+use Rattle.trace_laws.specs.Configs.{MayTake, IsIn, release}
 use Rattle.trace_laws.specs.Searches.{IsAt, AreTables, IsPending, Fits, order_of, IsTrail, Picks, IsExplained, IsSoundSearch, AreReleased}
 use Rattle.trace_laws.proofs.Lists.{get_push_cases}
 use Rattle.trace_laws.proofs.Legal.{legal_all, legal_issue, legal_answer, legal_effect}
@@ -44,6 +44,18 @@ sound_issue opening trace k tables later sets nodes s b t now l free new same_ta
             omega arith)
             (was.fits w inside);
       };
+}
+
+-- the next event issues an operation that no table takes up
+pub sound_unanswered : (opening : List ℕ) (trace : List Event) (k : ℕ) (tables : ℕ → List (Option Open))
+    (sets : ℕ → List Branch) (nodes : List Node) (call : Call) → TraceIssuesAt trace k call
+    → IsSoundSearch opening trace k tables sets nodes → IsSoundSearch opening trace (suc k) tables sets nodes
+sound_unanswered opening trace k tables sets nodes call now sound = record {
+  back = sound.back;
+  inside = sound.inside;
+  explained = λ pick trails marks picks.
+      let was = sound.explained pick trails marks picks in
+      record { legal = legal_issue opening trace k (order_of nodes marks) call now was.legal; fits = was.fits };
 }
 
 -- the tables have more slots

@@ -11,16 +11,18 @@ use Rattle.trace_laws.specs.declared.opened.Config.{Config}
 use Rattle.trace_laws.specs.declared.opened.Branch.{Branch}
 use Rattle.trace_laws.specs.declared.opened.Node.{Node}
 use Rattle.trace_laws.specs.Traces.{IsTrace, TraceIssuesAt, TraceAnswersAt}
+use Rattle.trace_laws.specs.declared.event.Call.{Call}
+use Rattle.trace_laws.specs.Unanswered.{IsUnansweredLoad}
 use Rattle.trace_laws.specs.Configs.{IsIn, IsLeft, HasTakenEffect, HasAsGood, IsExpanded, release}
 use Rattle.trace_laws.specs.Searches.{IsAt, IsPending, IsIndexTable, Fits, KeepsUp, IsSoundSearch, IsSearched, configs_of, first_branch, AreReleased}
 use Rattle.trace_laws.proofs.Lists.{get_within}
 use Rattle.trace_laws.proofs.Legal.{legal_none}
 use Rattle.trace_laws.proofs.Issues.{one_issue}
-use Rattle.trace_laws.proofs.Table.{table_issue, table_issue_other, table_answer, table_answer_other, table_more}
+use Rattle.trace_laws.proofs.Table.{table_issue, table_issue_other, table_answer, table_answer_other, table_more, table_unanswered}
 use Rattle.trace_laws.proofs.Dominance.{good_same}
 use Rattle.trace_laws.proofs.Fits.{fits_none}
-use Rattle.trace_laws.proofs.Sound.{sound_issue, sound_more, sound_answer}
-use Rattle.trace_laws.proofs.Complete.{complete_issue, complete_more, complete_answer}
+use Rattle.trace_laws.proofs.Sound.{sound_issue, sound_more, sound_answer, sound_unanswered}
+use Rattle.trace_laws.proofs.Complete.{complete_issue, complete_more, complete_answer, complete_unanswered}
 
 -- what is in a mapped list
 pub in_map : {A B : Type 0} (f : A → B) (xs : List A) (x : A) → IsIn xs x → IsIn (map f xs) (f x)
@@ -51,7 +53,7 @@ searched_none opening trace tables sets empty start = record {
     pending = λ s o h. absurd (none_at s o h);
     here = λ s o h. absurd (none_at s o h);
     distinct = λ s u o p h m same. absurd (none_at s o h);
-    known = λ i call less h on. absurd (omega arith);
+    known = λ i call less h on asked. absurd (omega arith);
   });
   sound = record {
     back = λ i j n h e. absurd (let d : None ≡ Some n = h in cc);
@@ -71,7 +73,7 @@ searched_none opening trace tables sets empty start = record {
           (λ s. ap (λ (c : Branch). bit_at c.config.taken s) (sym same) ∙ bit_at-zero s));
     };
   };
-  complete = λ order o w l. (
+  complete = λ order o heard w l. (
     0,
     (first_branch (get_or opening w 0)).config,
     subst (λ (bs : List Branch). IsIn (configs_of bs) (first_branch (get_or opening w 0)).config) (sym (start w l))
@@ -136,6 +138,17 @@ searched_issue opening trace k tables later sets nodes s b t now free new writte
       sound = sound_issue opening trace k tables later sets nodes s b t now l free written same is.sound;
       complete = complete_issue opening trace k tables later (λ w. configs_of (sets w)) s b t now l free written same is.complete;
     }
+
+-- the next event issues a load that is never answered, and nothing is kept of it
+pub searched_unanswered : (opening : List ℕ) (trace : List Event) (k : ℕ) (tables : ℕ → List (Option Open))
+    (sets : ℕ → List Branch) (nodes : List Node) (call : Call) → TraceIssuesAt trace k call
+    → IsUnansweredLoad trace call → IsSearched opening trace k tables sets nodes
+    → IsSearched opening trace (suc k) tables sets nodes
+searched_unanswered opening trace k tables sets nodes call now lost is = record {
+  tabled = λ v l. table_unanswered trace k v (tables v) call now lost (is.tabled v l);
+  sound = sound_unanswered opening trace k tables sets nodes call now is.sound;
+  complete = complete_unanswered opening trace k tables (λ w. configs_of (sets w)) call now is.complete;
+}
 
 -- a word's table has one more slot
 pub searched_more : (opening : List ℕ) (trace : List Event) (k : ℕ) (tables later : ℕ → List (Option Open))

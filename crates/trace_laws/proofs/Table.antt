@@ -10,6 +10,7 @@ use Rattle.trace_laws.specs.declared.opened.Open.{Open}
 use Rattle.trace_laws.specs.Traces.{IsTrace, TraceIssuesAt, TraceAnswersAt}
 use Rattle.trace_laws.proofs.Lists.{get_within, get_set_same, set_get_same, get_set_other, get_push_cases, get_append_left}
 use Rattle.trace_laws.proofs.Issues.{one_issue, one_call}
+use Rattle.trace_laws.specs.Unanswered.{IsUnansweredLoad}
 use Rattle.trace_laws.specs.Searches.{IsAt, IsPending, IsIndexTable}
 
 pub at_within : (trace : List Event) (k w : ℕ) (table : List (Option Open)) (s : ℕ) (o : Open)
@@ -77,7 +78,7 @@ table_issue words trace k table s b t now free new is = record {
       (λ (nv : v ≢ s). is.distinct u v o p (old u o nu h) (old v p nv m) same)
       (cases_eq v s))
       (cases_eq u s);
-  known = λ i call l h on. ⊎_elim
+  known = λ i call l h on asked. ⊎_elim
       (λ (e : i ≡ k).
       let there : slice_get trace i ≡ Some (Issue b.call) = ap (λ (n : ℕ). slice_get trace n) e ∙ now in
       let same : b.call ≡ call = cc in
@@ -86,7 +87,7 @@ table_issue words trace k table s b t now free new is = record {
       (λ r. inl (r.0, r.1, omega arith, r.3))
       (λ (r : (u : ℕ) × (o : Open) × IsAt table u o × (o.call ≡ call)). inr
       (r.0, r.1, get_set_other table s r.0 (Some b) (taken r.0 r.1 r.2) ∙ r.2, r.3))
-      (is.known i call (omega arith) h on))
+      (is.known i call (omega arith) h on asked))
       (cases_eq i k);
 }
   where
@@ -117,7 +118,7 @@ table_issue_other trace k w table c now away is = record {
   pending = λ u o h. pending_issue trace k c o now (is.pending u o h);
   here = is.here;
   distinct = is.distinct;
-  known = λ i call l h on. ⊎_elim
+  known = λ i call l h on asked. ⊎_elim
       (λ (e : i ≡ k).
       let there : slice_get trace i ≡ Some (Issue c) = ap (λ (n : ℕ). slice_get trace n) e ∙ now in
       let same : c ≡ call = cc in
@@ -125,7 +126,7 @@ table_issue_other trace k w table c now away is = record {
       (λ (ne : i ≢ k). ⊎_elim
       (λ r. inl (r.0, r.1, omega arith, r.3))
       (λ (r : (u : ℕ) × (o : Open) × IsAt table u o × (o.call ≡ call)). inr r)
-      (is.known i call (omega arith) h on))
+      (is.known i call (omega arith) h on asked))
       (cases_eq i k);
 }
 
@@ -139,7 +140,7 @@ table_answer trace k w table s a reply now there is = record {
       (λ same. other u o h (is.distinct u s o a (old u o h) there (sym same))) (is.pending u o (old u o h));
   here = λ u o h. is.here u o (old u o h);
   distinct = λ u v o p h m same. is.distinct u v o p (old u o h) (old v p m) same;
-  known = λ i call l h on. ⊎_elim
+  known = λ i call l h on asked. ⊎_elim
       (λ (e : i ≡ k). absurd
       (let at : slice_get trace k ≡ Some (Issue call) = ap (λ (n : ℕ). slice_get trace n) (sym e) ∙ h in cc))
       (λ (ne : i ≢ k). ⊎_elim
@@ -157,7 +158,7 @@ table_answer trace k w table s a reply now there is = record {
       ))
       (λ (nu : r.0 ≢ s). inr (r.0, r.1, get_set_other table s r.0 None nu ∙ r.2, r.3))
       (cases_eq r.0 s))
-      (is.known i call (omega arith) h on))
+      (is.known i call (omega arith) h on asked))
       (cases_eq i k);
 }
   where
@@ -185,13 +186,13 @@ table_answer_other words trace k w table a reply t now new away is = record {
       p;
   here = is.here;
   distinct = is.distinct;
-  known = λ i call l h on. ⊎_elim
+  known = λ i call l h on asked. ⊎_elim
       (λ (e : i ≡ k). absurd
       (let at : slice_get trace k ≡ Some (Issue call) = ap (λ (n : ℕ). slice_get trace n) (sym e) ∙ h in cc))
       (λ (ne : i ≢ k). ⊎_elim
       (λ r. inl (r.0, r.1, omega arith, r.3))
       (λ (r : (u : ℕ) × (o : Open) × IsAt table u o × (o.call ≡ call)). inr r)
-      (is.known i call (omega arith) h on))
+      (is.known i call (omega arith) h on asked))
       (cases_eq i k);
 }
 
@@ -212,8 +213,28 @@ table_more trace k w table small is = record {
   pending = λ s o h. is.pending s o (at_more table s o h);
   here = λ s o h. is.here s o (at_more table s o h);
   distinct = λ s u o p h m same. is.distinct s u o p (at_more table s o h) (at_more table u p m) same;
-  known = λ i call l h on. ⊎_elim
+  known = λ i call l h on asked. ⊎_elim
       (λ r. inl r)
       (λ (r : (u : ℕ) × (o : Open) × IsAt table u o × (o.call ≡ call)). inr (r.0, r.1, more_at table r.0 r.1 r.2, r.3))
-      (is.known i call l h on);
+      (is.known i call l h on asked);
+}
+
+-- the next event issues a load that is never answered
+pub table_unanswered : (trace : List Event) (k w : ℕ) (table : List (Option Open)) (c : Call) → TraceIssuesAt trace k c
+    → IsUnansweredLoad trace c → IsIndexTable trace k w table → IsIndexTable trace (suc k) w table
+table_unanswered trace k w table c now lost is = record {
+  slots = is.slots;
+  pending = λ u o h. pending_issue trace k c o now (is.pending u o h);
+  here = is.here;
+  distinct = is.distinct;
+  known = λ i call l h on asked. ⊎_elim
+      (λ (e : i ≡ k).
+      let there : slice_get trace i ≡ Some (Issue c) = ap (λ (n : ℕ). slice_get trace n) e ∙ now in
+      let same : c ≡ call = cc in
+      absurd (asked (subst (λ (d : Call). IsUnansweredLoad trace d) same lost)))
+      (λ (ne : i ≢ k). ⊎_elim
+      (λ r. inl (r.0, r.1, omega arith, r.3))
+      (λ (r : (u : ℕ) × (o : Open) × IsAt table u o × (o.call ≡ call)). inr r)
+      (is.known i call (omega arith) h on asked))
+      (cases_eq i k);
 }

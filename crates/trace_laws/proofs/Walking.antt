@@ -14,6 +14,7 @@ use Rattle.trace_laws.specs.Traces.{IsTrace, TraceIssuesAt, TraceAnswersAt, IsUn
 use Rattle.trace_laws.specs.Orders.{IsOrder, memory_of}
 use Rattle.trace_laws.specs.Configs.{IsOpen, IsLeft, HasTakenEffect, AgreesWithValue, IsIn, IsAsGood, HasAsGood, IsExpanded, effect}
 use Rattle.trace_laws.specs.Searches.{IsAt, IsPending, IsIndexTable, Fits, KeepsUp, WasIdle, IsCut}
+use Rattle.trace_laws.specs.Unanswered.{HasNoUnansweredLoad}
 use Rattle.trace_laws.proofs.Lists.{get_take, take_get, take_push, within_length, get_within}
 use Rattle.trace_laws.proofs.Bits.{bit_cases, not_both}
 use Rattle.std.specs.Int.{bit_at}
@@ -131,13 +132,14 @@ step_open opening trace k table order o w is inside configs n c expanded in' up 
 -- one more operation of the order: it takes effect, if it is on the word
 step : (opening : List ℕ) (trace : List Event) (k : ℕ) (table : List (Option Open))
     → IsTrace (length opening) trace
-    → (order : List Call) → IsOrder opening trace order → (w : ℕ) → IsIndexTable trace k w table → w < length opening
+    → (order : List Call) → IsOrder opening trace order → HasNoUnansweredLoad trace order
+    → (w : ℕ) → IsIndexTable trace k w table → w < length opening
     → (configs : List Config)
     → (n : ℕ) (c : Config) → IsExpanded table w configs c → IsIn configs c
     → KeepsUp opening table w (take n order) c → IsCut trace k w order n
     → (d : Call) → slice_get order n ≡ Some d → (i : ℕ) → i < k → TraceIssuesAt trace i d
     → GoesOnTo opening trace k table w order configs (suc n)
-step opening trace k table t order o w is inside configs n c expanded in' up cut d at i early issue =
+step opening trace k table t order o heard w is inside configs n c expanded in' up cut d at i early issue =
     let next : IsCut trace k w order (suc n) = cut_more trace k w order n d at i early issue cut in
     ⊎_elim {C = GoesOnTo opening trace k table w order configs (suc n)}
     (λ (here : d.operation.address ≡ w).
@@ -152,7 +154,7 @@ step opening trace k table t order o w is inside configs n c expanded in' up cut
     let more = step_open opening trace k table order o w is inside configs n c expanded in' up r.0 r.1 r.2
     (at ∙ ap (λ (f : Call). Some f) (sym r.3)) in
     (more.0, more.1, more.2, next))
-    (is.known i d early issue here))
+    (is.known i d early issue here (heard n d at)))
     (λ (away : d.operation.address ≢ w). (
       c,
       in',
@@ -187,7 +189,8 @@ answered_left trace k table w c d s a reply now is there good left = ⊎_elim
 -- From a cut, operations of the order take effect up to the one that is answered, at place x, in slot s.
 pub walk : (opening : List ℕ) (trace : List Event) (k : ℕ) (table : List (Option Open))
     → IsTrace (length opening) trace
-    → (order : List Call) → IsOrder opening trace order → (s : ℕ) (a : Open) (reply : Reply)
+    → (order : List Call) → IsOrder opening trace order → HasNoUnansweredLoad trace order
+    → (s : ℕ) (a : Open) (reply : Reply)
     → IsIndexTable trace k a.call.operation.address table
     → TraceAnswersAt trace k a.call.id reply → IsAt table s a
     → a.call.operation.address < length opening
@@ -198,14 +201,14 @@ pub walk : (opening : List ℕ) (trace : List Event) (k : ℕ) (table : List (Op
     → IsCut trace k a.call.operation.address order n
     → (m : ℕ) × (d : Config) × IsIn configs d × HasTakenEffect d s × KeepsUp opening table a.call.operation.address
     (take m order) d × IsCut trace k a.call.operation.address order m
-walk opening trace k table t order o s a reply is now there inside x at configs closed zero n c enough in' up cut = ⊎_elim
+walk opening trace k table t order o heard s a reply is now there inside x at configs closed zero n c enough in' up cut = ⊎_elim
     (λ (left : IsLeft c s). absurd
     (up.1.left s a (record { there = there; here = refl })
     (answered_left trace k table a.call.operation.address c up.0 s a reply now is there up.2 left)
     (x, a.call, get_take n order x a.call (omega arith) at, refl)))
     (λ (taken : HasTakenEffect c s). (n, c, in', taken, up, cut))
     (bit_cases c.taken s)
-walk opening trace k table t order o s a reply is now there inside x at configs closed
+walk opening trace k table t order o heard s a reply is now there inside x at configs closed
     (suc fuel) n c enough in' up cut = ⊎_elim
     (λ (left : IsLeft c s).
     let beyond : n ≤ x = ⊎_elim
@@ -218,9 +221,9 @@ walk opening trace k table t order o s a reply is now there inside x at configs 
     let l : n < length order = let m = get_within order x a.call at in omega arith in
     let d = within_length order n l in
     let issue = issued_early opening trace k order o a.call reply now x at n d.0 beyond d.1 in
-    let more = step opening trace k table t order o a.call.operation.address is inside configs n c
+    let more = step opening trace k table t order o heard a.call.operation.address is inside configs n c
     (closed c in' left) in' up cut d.0 d.1 issue.0 issue.1 issue.2 in
-    walk opening trace k table t order o s a reply is now there inside x at configs closed fuel (suc n) more.0
+    walk opening trace k table t order o heard s a reply is now there inside x at configs closed fuel (suc n) more.0
     (omega arith) more.1 more.2 more.3)
     (λ (taken : HasTakenEffect c s). (n, c, in', taken, up, cut))
     (bit_cases c.taken s)

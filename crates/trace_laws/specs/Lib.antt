@@ -5,3 +5,4 @@ pub mod Locality
 pub mod Paths
 pub mod Configs
 pub mod Searches
+pub mod Unanswered

@@ -8,6 +8,7 @@ use Rattle.trace_laws.specs.declared.event.Event.{Event}
 use Rattle.trace_laws.specs.Traces.{TraceIssuesAt, TraceAnswersAt, IsUnanswered}
 use Rattle.trace_laws.specs.Orders.{IsOn, IsOrder, memory_of}
 use Rattle.trace_laws.specs.Legal.{Legal}
+use Rattle.trace_laws.specs.Unanswered.{IsUnansweredLoad, HasNoUnansweredLoad}
 use Rattle.trace_laws.specs.declared.opened.Open.{Open}
 use Rattle.trace_laws.specs.declared.opened.Config.{Config}
 use Rattle.trace_laws.specs.declared.opened.Branch.{Branch}
@@ -34,7 +35,8 @@ IsKnown trace k table call =
     ((i : ℕ) × (reply : Reply) × (i < k) × TraceAnswersAt trace i call.id reply)
     ⊎ ((s : ℕ) × (o : Open) × IsAt table s o × (o.call ≡ call))
 
--- the table's operations are those on word w that are open before event k
+-- the table's operations are those on word w that are open before event k; a load that is never
+-- answered need not be among them
 pub record IsIndexTable (trace : List Event) (k w : ℕ) (table : List (Option Open)) : Type 0 where
   pub slots : length table ≤ 128
   pub pending : (s : ℕ) (o : Open) → IsAt table s o → IsPending trace k o
@@ -42,7 +44,7 @@ pub record IsIndexTable (trace : List Event) (k w : ℕ) (table : List (Option O
   pub distinct : (s u : ℕ) (o p : Open) → IsAt table s o → IsAt table u p → o.call.id ≡ p.call.id
       → s ≡ u
   pub known : (i : ℕ) (call : Call) → i < k → TraceIssuesAt trace i call
-      → call.operation.address ≡ w → IsKnown trace k table call
+      → call.operation.address ≡ w → (IsUnansweredLoad trace call → ⊥) → IsKnown trace k table call
 
 -- each word has a table
 abbrev pub AreTables : ℕ → List Event → ℕ → (ℕ → List (Option Open)) → Type 0
@@ -83,12 +85,12 @@ IsCovered opening trace k table w order configs =
     (n : ℕ) × (c : Config) × IsIn configs c × KeepsUp opening table w (take n order) c
     × IsCut trace k w order n
 
--- completeness: whatever order explains the trace, each word has a configuration that keeps up with
--- it up to a cut
+-- completeness: whatever order explains the trace, without loads that are never answered, each word
+-- has a configuration that keeps up with it up to a cut
 abbrev pub IsComplete : List ℕ → List Event → ℕ → (ℕ → List (Option Open)) → (ℕ → List Config)
     → Type 0
 IsComplete opening trace k tables sets = (order : List Call) → IsOrder opening trace order
-    → (w : ℕ) → w < length opening → IsCovered opening trace k (tables w) w order (sets w)
+    → HasNoUnansweredLoad trace order → (w : ℕ) → w < length opening → IsCovered opening trace k (tables w) w order (sets w)
 
 -- the operations of the marked nodes, in the order in which the nodes were made
 abbrev pub order_of : List Node → List Bool → List Call

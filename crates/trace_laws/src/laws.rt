@@ -7,6 +7,8 @@ ghost use Rattle.trace_laws.specs.Locality.{IsLinearizableOn};
 ghost use Rattle.trace_laws.specs.Orders.{IsOrder, IsLinearizable};
 ghost use Rattle.trace_laws.specs.Paths.{HasPath};
 ghost use Rattle.trace_laws.specs.Traces.{IsTrace};
+ghost use Rattle.trace_laws.specs.Unanswered.{IssuesUnanswered, IssuesUnansweredLoad};
+ghost use Rattle.trace_laws.specs.Unanswered.{IsResponse, IsWithout};
 
 /// What is linearizable was so at each event: once a trace isn't, it never is again.
 pub fn beginnings_are_linearizable()
@@ -29,4 +31,25 @@ pub fn linearizability_is_local()
     ensures { (opening : List ℕ) (trace : List Event) → IsTrace (length opening) trace
         → IsLinearizable opening trace
         ↔ ((w : ℕ) → w < length opening → IsLinearizableOn w opening trace) }
+{}
+
+/// A load that is never answered says nothing: with and without it a trace is linearizable alike.
+pub fn unanswered_loads_say_nothing()
+    ensures { (opening : List ℕ) (trace short : List Event) → IsTrace (length opening) trace
+        → IsWithout (IssuesUnansweredLoad trace) trace short
+        → IsLinearizable opening trace ↔ IsLinearizable opening short }
+{}
+
+/// An operation that is never answered may be left out: what explains the trace without it explains
+/// the trace.
+pub fn unanswered_operations_may_be_left_out()
+    ensures { (opening : List ℕ) (trace short : List Event) (order : List Call)
+        → IsTrace (length opening) trace → IsWithout (IssuesUnanswered trace) trace short
+        → IsOrder opening short order → IsOrder opening trace order }
+{}
+
+/// An answer only restrains: what explains a trace explains it without some of its answers.
+pub fn answers_may_be_left_out()
+    ensures { (opening : List ℕ) (trace fewer : List Event) (order : List Call)
+        → IsWithout IsResponse trace fewer → IsOrder opening trace order → IsOrder opening fewer order }
 {}

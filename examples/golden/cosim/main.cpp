@@ -46,15 +46,13 @@ struct Step {
 
 // What the library tells of a machine's shape.
 struct Shape {
-  uint32_t tiles, ports = 0, channels, places, depth;
+  uint32_t tiles, ports, channels, places, depth;
 
   explicit Shape(torusmem_machine *m) {
-    tiles = static_cast<uint32_t>(torusmem_tiles(m).value);
-    while (torusmem_next(m, 0, ports, 0).code == TORUSMEM_OK) ports++;
-    channels = ports + 2;
-    uint64_t words = torusmem_words(m).value;
-    places = static_cast<uint32_t>(torusmem_rows(m, nullptr, 0).value - words - 1);
-    depth = places / (tiles * channels);
+    struct torusmem_shape told;
+    if (torusmem_shape(m, &told).code != TORUSMEM_OK) std::abort();
+    tiles = told.tiles, ports = told.ports, depth = told.depth, channels = ports + 2;
+    places = tiles * channels * depth;
   }
 };
 

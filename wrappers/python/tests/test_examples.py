@@ -153,7 +153,8 @@ class Looks(unittest.TestCase):
         for name, tiles, each, depth in (("dateline", 8, 12, None), ("torus", 16, 20, None), ("cube", 24, 28, None)):
             machine = Machine(read(f"{name}.txt"))
             found = machine.channels()
-            depth = int(re.findall(r"(?m)^depth (\d+)", read(f"{name}.txt"))[0])
+            depth, shape = int(re.findall(r"(?m)^depth (\d+)", read(f"{name}.txt"))[0]), machine.shape
+            self.assertEqual((shape.depth, shape.tiles, shape.ports, 4 + 8 * len(shape.radices)), (depth, tiles, each - 2, each))
             wanted = [(tile, place, (0,) * depth) for tile in range(tiles) for place in range(each)]
             self.assertEqual(found, wanted, name)
 
@@ -169,12 +170,22 @@ class Looks(unittest.TestCase):
         hops = [(1, 8, 0), (2, 0, 1), (3, 1, 1), (4, 1, 8)]
         self.assertEqual([ring.next(at, port, 4) for at, port, _ in hops], [it for _, _, it in hops])
 
+    def test_the_order(self):
+        machine = first()
+        self.assertEqual(list(machine.order()), [])
+        machine.finish()
+        rows = [tuple(vars(it).values()) for it in machine.order()]
+        self.assertEqual(rows, [(1, 0, 0, 0, 1, 2, 3), (1, 1, 0, 1, 4, 5, 6)])
+        self.assertEqual([it.served for it in machine.order(1)], [5])
+        self.assertEqual(list(machine.order(2**32 - 1)), [])
+
     def test_what_is_not_there(self):
         machine = first()
         left = machine.moves_left
         for step in [(6, 0), (2**32 - 1, 1), (0, 6), (1, 0), (1, 2, 10), (1, 3, 2**32 - 1), (0, 9)]:
-            self.assertFalse(machine.enabled(*step))
-            self.assertFalse(machine.step(*step))
+            self.assertRaises(IndexError, machine.enabled, *step)
+            self.assertRaises(IndexError, machine.step, *step)
+            self.assertRaisesRegex(IndexError, "number 1 of the list", machine.run, [(0, Choice.SEND), step])
         self.assertEqual(machine.moves_left, left)
         for asked in [
             lambda: machine.word(8),

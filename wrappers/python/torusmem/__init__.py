@@ -32,7 +32,7 @@ from ._judges import Answered, Cycle, Event, Fill, Issued, Judged, Linearizable,
 from ._judges import Rising, Undecided, Verdict, check, linearize, network
 from ._library import LibraryNotFound
 from ._machine import Machine
-from ._records import Answer, Channel, Choice, Entry, FENCE, Kind, Line, Operation, SPIN, Spin, Steps
+from ._records import Answer, Channel, Choice, Entry, FENCE, Kind, Line, Operation, Ordered, SPIN, Shape, Spin, Steps
 from ._watch import Watch
 
 __version__ = "0.1.0"
@@ -62,9 +62,11 @@ __all__ = [
     "NoRoute",
     "NotLinearizable",
     "Operation",
+    "Ordered",
     "REASONS",
     "Rising",
     "SPIN",
+    "Shape",
     "Spin",
     "Steps",
     "TextFault",

@@ -53,8 +53,18 @@ class Attempt(Structure):
     _fields_ = [(it, c_uint32) for it in ("agent", "choice", "number")]
 
 
+class RawShape(Structure):
+    _fields_ = [("dims", c_uint32), ("radices", c_uint32 * 3), ("datelines", c_uint32 * 3)] + [
+        (it, c_uint32) for it in ("depth", "tags", "words", "tiles", "ports")
+    ]
+
+
 class RawChannel(Structure):
     _fields_ = [(it, c_uint32) for it in ("kind", "tile", "dim", "minus", "bit", "number")]
+
+
+class RawOrdered(Structure):
+    _fields_ = [(it, c_uint32) for it in ("bank", "place", "source", "index", "issued", "served", "answered")]
 
 
 class RawSpin(Structure):
@@ -92,6 +102,7 @@ CALLS = {
     "ask": (Outcome, [_M, c_uint32, c_uint32, c_uint32, c_uint64, c_uint64, c_uint32]),
     "finished": (Outcome, [_M]),
     "moves_left": (Outcome, [_M]),
+    "shape": (Outcome, [_M, POINTER(RawShape)]),
     "tiles": (Outcome, [_M]),
     "words": (Outcome, [_M]),
     "word": (Outcome, [_M, c_uint32]),
@@ -102,6 +113,7 @@ CALLS = {
     "answer_of": (RawAnswer, [_M, c_uint32, c_uint32]),
     "entries": (Outcome, [_M, c_uint32]),
     "entry_at": (RawEntry, [_M, c_uint32, c_uint32]),
+    "order": (Outcome, [_M, c_uint32, POINTER(RawOrdered), c_size_t]),
     "spins_out": (Outcome, [_M, c_char_p, c_size_t, c_char_p, c_size_t, POINTER(RawSpin), c_size_t]),
     "report": (Outcome, [_M, c_void_p, c_size_t]),
     "check": (Outcome, [c_char_p, c_size_t]),

@@ -2,13 +2,13 @@
 
 from __future__ import annotations
 
-from ctypes import Array, c_uint64, create_string_buffer
-from typing import Any, List, NoReturn, Optional
+from ctypes import Array, byref, c_uint64, create_string_buffer
+from typing import Any, Iterator, List, NoReturn, Optional
 
 from . import _library
 from ._faults import REASONS, Closed, fault_of
 from ._kept import Kept, alone
-from ._records import Answer, Channel, Entry, Kind, Line, Operation, Spin, Text
+from ._records import Answer, Channel, Entry, Kind, Line, Operation, Ordered, Shape, Spin, Text
 from ._records import answer_from, bytes_of, number_of, values_of
 
 
@@ -28,6 +28,15 @@ class Looks(Kept):
         if said.code != _library.OK:
             self._refuse(said.code, what)
         return int(said.value)
+
+    @property
+    @alone
+    def shape(self) -> Shape:
+        """What the machine is built to."""
+        raw = _library.RawShape()
+        self._value(self._calls.shape(self._at, byref(raw)))
+        radices, datelines = tuple(raw.radices[: raw.dims]), tuple(raw.datelines[: raw.dims])
+        return Shape(radices, datelines, raw.depth, raw.tags, raw.words, raw.tiles, raw.ports)
 
     @property
     @alone
@@ -77,14 +86,9 @@ class Looks(Kept):
     @alone
     def channels(self) -> List[Line]:
         """All channels in channel order, with the words at their places now."""
-        at, row = self._at, self.row()
-        tiles, words = self.tiles, self._value(self._calls.words(at))
-        ports = 0
-        while self._calls.next(at, 0, ports, 0).code == _library.OK:
-            ports += 1
-        each = ports + 2  # a tile has an ejection for each of its two injections besides the inputs of its router
-        depth = (len(row) - words - 1) // (tiles * each)
-        cut = [tuple(row[depth * it : depth * (it + 1)]) for it in range(tiles * each)]
+        row, shape = self.row(), self.shape
+        each = shape.ports + 2  # a tile has an ejection for each of its two injections besides the inputs of its router
+        cut = [tuple(row[shape.depth * it : shape.depth * (it + 1)]) for it in range(shape.tiles * each)]
         return [Line(it // each, it % each, words_now) for it, words_now in enumerate(cut)]
 
     @alone
@@ -137,6 +141,22 @@ class Looks(Kept):
         count = self._value(self._calls.entries(self._at, bank), f"bank {bank}")
         numbers = range(first, max(first, count))
         return (_library.RawEntry * len(numbers))(*(self._calls.entry_at(self._at, bank, it) for it in numbers))
+
+    def order(self, first: int = 0) -> Iterator[Ordered]:
+        """The operations that are served, in the one legal order, which is that of the services; those from row `first` on
+        that are there when the iterator begins."""
+        for it in self._rows_from(number_of(first, "first")):
+            yield Ordered(it.bank, it.place, it.source, it.index, it.issued, it.served, it.answered or None)
+
+    @alone
+    def _rows_from(self, first: int) -> List[Any]:
+        """The rows of the order as the library has them."""
+        out = (_library.RawOrdered * 1)()
+        said = self._calls.order(self._at, first, out, 0)
+        if said.code == _library.SHORT:
+            out = (_library.RawOrdered * said.value)()
+            said = self._calls.order(self._at, first, out, len(out))
+        return list(out[: self._value(said)])
 
     @alone
     def spins_out(self, machine: Text, scripts: Text) -> List[Spin]:

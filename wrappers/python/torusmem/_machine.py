@@ -56,7 +56,8 @@ class Machine(Looks):
     # Steps.
 
     def step(self, agent: int, choice: int, number: int = 0) -> bool:
-        """Attempts one choice of one agent; whether it moved. What isn't enabled, or isn't there, changes nothing.
+        """Attempts one choice of one agent; whether it moved. What isn't enabled changes nothing. IndexError: there is no such
+        agent, or it has no such choice.
 
         number: the router's input of TAKE_FROM and PUT, its output of CREDIT_OF; not looked at for other choices.
         """
@@ -70,16 +71,18 @@ class Machine(Looks):
 
     @alone
     def enabled(self, agent: int, choice: int, number: int = 0) -> bool:
-        """Whether such a step would move now."""
+        """Whether such a step would move now. IndexError, as of step()."""
         words = number_of(agent, "agent"), number_of(choice, "choice"), number_of(number, "number")
-        return self._value(self._calls.enabled(self._at, *words)) == 1
+        return self._value(self._calls.enabled(self._at, *words), "such step") == 1
 
     @alone
     def run(self, steps: Union[Steps, Iterable[Sequence[int]]]) -> int:
         """Makes these steps, (agent, choice) or (agent, choice, number) each, in one call; how many of them moved. What is
-        made again and again is best made ready as Steps. Such a call ends, and can't be interrupted before."""
+        made again and again is best made ready as Steps. Such a call ends, and can't be interrupted before. IndexError, as of
+        step(): then none is made."""
         made = steps if isinstance(steps, Steps) else Steps(steps)
-        return self._value(self._calls.run(self._at, made._attempts, len(made)))
+        said = self._calls.run(self._at, made._attempts, len(made))
+        return self._value(said, f"such step: number {said.value} of the list")
 
     @alone
     def round(self) -> None:

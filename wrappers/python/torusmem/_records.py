@@ -77,6 +77,23 @@ class Answer:
     old: Optional[int]
 
 
+class Shape(NamedTuple):
+    """What a machine is built to.
+
+    radices, datelines: of each dimension, dimension 0 first
+    depth, tags: the flits of a channel, and the tags of a processor
+    words, tiles, ports: how many words and tiles there are, and inputs of a router, and as many outputs
+    """
+
+    radices: Tuple[int, ...]
+    datelines: Tuple[int, ...]
+    depth: int
+    tags: int
+    words: int
+    tiles: int
+    ports: int
+
+
 class Entry(NamedTuple):
     """A service of a bank.
 
@@ -91,6 +108,25 @@ class Entry(NamedTuple):
     operation: Operation
     values: Tuple[int, ...]
     old: Optional[int]
+
+
+@dataclass(frozen=True)
+class Ordered:
+    """An operation that is served, in the one legal order.
+
+    bank, place: the tile of the bank that served it, and its place among the services there, from 0
+    source, index: the tile of the processor that asked, and its place among the operations of that, from 0
+    issued, served, answered: the numbers of its issue, service and answer among all such events, from 1; answered is None
+    while it has no answer
+    """
+
+    bank: int
+    place: int
+    source: int
+    index: int
+    issued: int
+    served: int
+    answered: Optional[int]
 
 
 class Spin(NamedTuple):

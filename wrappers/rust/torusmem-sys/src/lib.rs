@@ -109,6 +109,20 @@ pub struct torusmem_attempt {
     pub number: u32,
 }
 
+/// What a machine is built to.
+#[repr(C)]
+#[derive(Clone, Copy, Debug, Default)]
+pub struct torusmem_shape {
+    pub dims: u32,
+    pub radices: [u32; 3],
+    pub datelines: [u32; 3],
+    pub depth: u32,
+    pub tags: u32,
+    pub words: u32,
+    pub tiles: u32,
+    pub ports: u32,
+}
+
 /// An answer of a processor.
 #[repr(C)]
 #[derive(Clone, Copy, Debug)]
@@ -137,6 +151,19 @@ pub struct torusmem_entry {
     pub first: u64,
     pub second: u64,
     pub old: u64,
+}
+
+/// A row of the order.
+#[repr(C)]
+#[derive(Clone, Copy, Debug, Default)]
+pub struct torusmem_ordered {
+    pub bank: u32,
+    pub place: u32,
+    pub source: u32,
+    pub index: u32,
+    pub issued: u32,
+    pub served: u32,
+    pub answered: u32,
 }
 
 /// A channel of a route.
@@ -236,6 +263,7 @@ extern "C" {
     ) -> torusmem_outcome;
     pub fn torusmem_finished(m: *mut torusmem_machine) -> torusmem_outcome;
     pub fn torusmem_moves_left(m: *mut torusmem_machine) -> torusmem_outcome;
+    pub fn torusmem_shape(m: *mut torusmem_machine, out: *mut torusmem_shape) -> torusmem_outcome;
     pub fn torusmem_tiles(m: *mut torusmem_machine) -> torusmem_outcome;
     pub fn torusmem_words(m: *mut torusmem_machine) -> torusmem_outcome;
     pub fn torusmem_word(m: *mut torusmem_machine, address: u32) -> torusmem_outcome;
@@ -246,6 +274,12 @@ extern "C" {
     pub fn torusmem_answer_of(m: *mut torusmem_machine, processor: u32, index: u32) -> torusmem_answer;
     pub fn torusmem_entries(m: *mut torusmem_machine, bank: u32) -> torusmem_outcome;
     pub fn torusmem_entry_at(m: *mut torusmem_machine, bank: u32, i: u32) -> torusmem_entry;
+    pub fn torusmem_order(
+        m: *mut torusmem_machine,
+        from: u32,
+        out: *mut torusmem_ordered,
+        out_length: usize,
+    ) -> torusmem_outcome;
     pub fn torusmem_spins_out(
         m: *mut torusmem_machine,
         machine: *const u8,

@@ -210,6 +210,20 @@ pub struct Entry {
     pub reply: Reply,
 }
 
+/// A row of the one legal order of what is served so far: the service, the operation, and the numbers of its issue, its
+/// service and its answer among all such events, from 1.
+#[derive(Clone, Copy, Debug, PartialEq, Eq, Hash)]
+pub struct Ordered {
+    pub bank: u32,
+    pub place: u32,
+    pub source: u32,
+    pub index: u32,
+    pub issued: u32,
+    pub served: u32,
+    /// None while it isn't answered.
+    pub answered: Option<u32>,
+}
+
 /// A spin that ran out of loads: none of them found the number that it sought.
 #[derive(Clone, Copy, Debug, PartialEq, Eq, Hash)]
 pub struct Spin {
@@ -251,6 +265,22 @@ pub struct Channel {
     pub number: u32,
 }
 
+/// What a machine is built to.
+#[derive(Clone, Debug, PartialEq, Eq, Hash)]
+pub struct Shape {
+    /// Of each dimension, dimension 0 first; so are the datelines.
+    pub radices: Vec<u32>,
+    pub datelines: Vec<u32>,
+    /// The flits of a channel.
+    pub depth: u32,
+    /// The tags of a processor.
+    pub tags: u32,
+    pub words: u32,
+    pub tiles: u32,
+    /// The inputs of a router, and as many outputs.
+    pub ports: u32,
+}
+
 /// A machine: its tiles, their channels, and the memory. It may go from thread to thread, and isn't shared:
 ///
 /// ```
@@ -284,7 +314,7 @@ impl Machine {
     }
 
     /// Attempts one choice of one agent, and answers whether it moved. Tile t has the agents 3t (its processor),
-    /// 3t + 1 (its router) and 3t + 2 (its bank).
+    /// 3t + 1 (its router) and 3t + 2 (its bank). What isn't there doesn't move.
     pub fn step(&mut self, agent: u32, choice: Choice) -> bool {
         let (choice, number) = numbered(choice);
         self.raw.step(agent, choice, number).value == 1
@@ -306,7 +336,15 @@ impl Machine {
             if count == 0 {
                 return moved;
             }
-            moved += self.raw.run(&room[..count]).value;
+            let mut rest = &room[..count];
+            let mut said = self.raw.run(rest);
+            while said.code == sys::TORUSMEM_NONE {
+                let (named, others) = rest.split_at(said.value as usize);
+                moved += self.raw.run(named).value;
+                rest = &others[1..];
+                said = self.raw.run(rest);
+            }
+            moved += said.value;
         }
     }
 
@@ -334,6 +372,15 @@ impl Machine {
     /// How many moves any schedule can still make.
     pub fn moves_left(&mut self) -> u64 {
         self.raw.moves_left().value
+    }
+
+    /// What it is built to.
+    pub fn shape(&mut self) -> Shape {
+        let mut told = sys::torusmem_shape::default();
+        self.raw.shape(&mut told);
+        let sys::torusmem_shape { dims, radices, datelines, depth, tags, words, tiles, ports } = told;
+        let (radices, datelines) = (radices[..dims as usize].to_vec(), datelines[..dims as usize].to_vec());
+        Shape { radices, datelines, depth, tags, words, tiles, ports }
     }
 
     /// How many tiles there are.
@@ -387,6 +434,19 @@ impl Machine {
         let count = found(self.raw.entries(bank))? as u32;
         let entry = |i| entry_of(&self.raw.entry_at(bank, i));
         Some((0..count).map(entry).collect())
+    }
+
+    /// The operations served so far, in the one legal order, which is that of the services: those from row `from` on. The
+    /// only fault is that memory is refused.
+    pub fn order(&mut self, from: u32) -> Result<Vec<Ordered>, Fault> {
+        let mut room = Vec::new();
+        let mut said = self.raw.order(from, &mut room);
+        if said.code == sys::TORUSMEM_SHORT {
+            room.resize(said.value as usize, sys::torusmem_ordered::default());
+            said = self.raw.order(from, &mut room);
+        }
+        granted(said)?;
+        Ok(room.iter().map(ordered_of).collect())
     }
 
     /// The spins that ran out of loads in what was run so far, by processor, and of each in the order of its script: by
@@ -519,6 +579,11 @@ fn entry_of(entry: &sys::torusmem_entry) -> Entry {
         operation: operation_of(entry.operation, entry.first, entry.second),
         reply: reply_of(entry.has_old, entry.old),
     }
+}
+
+fn ordered_of(row: &sys::torusmem_ordered) -> Ordered {
+    let sys::torusmem_ordered { bank, place, source, index, issued, served, answered } = *row;
+    Ordered { bank, place, source, index, issued, served, answered: (answered != 0).then_some(answered) }
 }
 
 fn spin_of(spin: &sys::torusmem_spin) -> Spin {

@@ -118,9 +118,20 @@ impl Raw {
         unsafe { torusmem_run(&mut self.0, list_at(attempts, &none), attempts.len()) }
     }
 
+    pub fn shape(&mut self, out: &mut torusmem_shape) -> torusmem_outcome {
+        // SAFETY: the machine is this one's alone, and so is what is written.
+        unsafe { torusmem_shape(&mut self.0, out) }
+    }
+
     pub fn rows(&mut self, out: &mut [u64]) -> torusmem_outcome {
         // SAFETY: the machine is this one's alone, and so is the slice, which has as many words as it says.
         unsafe { torusmem_rows(&mut self.0, buffer_at(out, &mut 0), out.len()) }
+    }
+
+    pub fn order(&mut self, from: u32, out: &mut [torusmem_ordered]) -> torusmem_outcome {
+        let mut none = torusmem_ordered::default();
+        // SAFETY: the machine is this one's alone, and so is the slice, which has as many rows as it says.
+        unsafe { torusmem_order(&mut self.0, from, buffer_at(out, &mut none), out.len()) }
     }
 
     pub fn spins_out(&mut self, machine: &[u8], scripts: &[u8], out: &mut [torusmem_spin]) -> torusmem_outcome {

@@ -222,6 +222,17 @@ fn a_flit_on_its_way() {
 }
 
 #[test]
+fn the_order() {
+    let mut machine = first();
+    assert_eq!(machine.order(0), Ok(vec![]));
+    machine.finish();
+    let rows = machine.order(0).unwrap();
+    let told = |it: &torusmem::Ordered| (it.bank, it.place, it.source, it.index, it.issued, it.served, it.answered);
+    assert_eq!(rows.iter().map(told).collect::<Vec<_>>(), [(1, 0, 0, 0, 1, 2, Some(3)), (1, 1, 0, 1, 4, 5, Some(6))]);
+    assert_eq!((machine.order(1), machine.order(u32::MAX)), (Ok(rows[1..].to_vec()), Ok(vec![])));
+}
+
+#[test]
 fn what_is_not_there_is_idle() {
     let mut machine = first();
     let left = machine.moves_left();
@@ -234,6 +245,11 @@ fn what_is_not_there_is_idle() {
         }
     }
     assert_eq!((machine.moves_left(), machine.row(u32::MAX), machine.word(u32::MAX)), (left, None, None));
+    let steps = [(9, Choice::Send), (0, Choice::Send), (0, Choice::Serve), (1, Choice::TakeFrom(8))];
+    assert_eq!((machine.run(steps), machine.moves_left()), (2, left - 2));
+    let shape = machine.shape();
+    assert_eq!((shape.radices, shape.datelines, shape.depth), (vec![2], vec![1], 4));
+    assert_eq!((shape.tags, shape.words, shape.tiles, shape.ports), (4, 8, 2, 10));
 }
 
 #[test]

@@ -1,5 +1,4 @@
-use Rattle.memory_models.proofs.Runs.{run_is_order}
-use Rattle.memory_models.proofs.Scheduled.{order_is_run}
+use Rattle.memory_models.proofs.Buffers.{run_is_order, order_is_run}
 use Rattle.memory_models.proofs.Blocks.{made_at, left_at}
 use Rattle.memory_models.proofs.laws.total_store_order_is_buffers.Goals as goal
 

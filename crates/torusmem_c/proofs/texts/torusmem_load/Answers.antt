@@ -3,7 +3,7 @@ use Rattle.std.proofs.Common.{refl, inr, ap, ◌∙◌}
 use Rattle.std.specs.Str.Lines.{lines}
 use Rattle.torus.specs.declared.fault.Fault.TheVariants as fault
 use Rattle.machine_core.specs.Loading.{load_by}
-use Rattle.machine_handle.specs.Held.{held}
+use Rattle.c_handles.specs.HeldMachine.{held}
 use Rattle.torusmem_c.proofs.Loads.{nothing_kept}
 use Rattle.torusmem_c.proofs.texts.torusmem_load.Goals as goal
 

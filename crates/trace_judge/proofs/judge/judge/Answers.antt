@@ -3,7 +3,7 @@ use Rattle.std.proofs.lemmas.Result.{err_from_is_err_and}
 use Rattle.std.proofs.lemmas.Option.{MatchOption-at_none, MatchOption-at_some}
 use Rattle.trace_judge.specs.Stops.{IsUndecided, TellsMany}
 use Rattle.trace_judge.specs.declared.undecided.Undecided.{Undecided}
-use Rattle.trace_judge.proofs.Boundary.{boundary_found, boundary_from, trace_take, whole_beginning}
+use Rattle.trace_judge.proofs.Boundary.{boundary_found, boundary_from, trace_take}
 use Rattle.trace_judge.proofs.judge.judge.Goals as goal
 
 pub loop-good-init : goal.loop-good-init
@@ -11,17 +11,11 @@ loop-good-init g c = boundary_from c.args.opening.now c.args.events.now _
     (MatchOption-at_none {o = c.in_ok-order.field-0} _ _ c.in_default.is c.in_ok-order.ensures.decided)
     (c.in_ok-order.ensures.ended c.in_default.is)
 
-pub find_order-requires-clause-beginning : goal.find_order-requires-clause-beginning
-find_order-requires-clause-beginning g c = whole_beginning c.args.events.now
-
-pub find_order-requires-in-loop-good-clause-trace : goal.find_order-requires-in-loop-good-clause-trace
-find_order-requires-in-loop-good-clause-trace g c = trace_take (length c.args.opening.now) _ c.args.events.now c.requires
-
-pub find_order-requires-in-loop-good-clause-beginning : goal.find_order-requires-in-loop-good-clause-beginning
-find_order-requires-in-loop-good-clause-beginning g c = (_, refl)
-
 pub find_order-requires-clause-trace : goal.find_order-requires-clause-trace
-find_order-requires-clause-trace g c = c.requires
+find_order-requires-clause-trace g c = trace_take (length c.args.opening.now) _ c.args.events.now c.requires
+
+pub find_order-requires-clause-beginning : goal.find_order-requires-clause-beginning
+find_order-requires-clause-beginning g c = (_, refl)
 
 pub returns-in_err-order-clause-unjudged : goal.returns-in_err-order-clause-unjudged
 returns-in_err-order-clause-unjudged g c =

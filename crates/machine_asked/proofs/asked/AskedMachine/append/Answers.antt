@@ -1,5 +1,5 @@
 -- The machine stands where its moves lead from the load with the line.
-use Rattle.std.proofs.Common.{◌+◌, ◌≤◌, sym, subst}
+use Rattle.std.proofs.Common.{◌+◌, ◌≤◌, sym, subst, ◌∙◌}
 use Rattle.std.specs.Prelude.{slice_index}
 use Rattle.script.specs.Scripts.{operations_of}
 use Rattle.machine_asked.specs.Asked.{Asked}
@@ -30,5 +30,7 @@ invariant_of-self-2 g c =
     record {
       counts = counts_with v c.args.processor c.args.line h c.brings_words.ensures none c.self.inside.counts.items c.count_more.new.counts.items
           c.append.new.self c.self.invariant.counts c.count_more.ensures on;
+      depth = c.self.invariant.depth ∙ (h.after.depth ∙ sym on.depth);
+      tags = c.self.invariant.tags ∙ (h.after.tags ∙ sym on.tags);
       asked = asked_with v c.args.processor c.args.line h c.brings_words.ensures none c.append.new.self c.mark_spin.new.spins.items c.mark_spin.ensures on;
     }

@@ -1,11 +1,11 @@
-use Rattle.std.proofs.Common.{◌≡◌, ◌≤◌, ◌++◌, ◌+◌, length, refl, sym, ◌∙◌, ap, subst, drop}
+use Rattle.std.proofs.Common.{◌≡◌, ◌≤◌, ◌++◌, ◌+◌, length, sym, ◌∙◌, ap, subst, drop}
 use Rattle.std.proofs.lemmas.List.{at_drop_all, at_drop_more}
 use Rattle.machine_parts.specs.Machine.{Core, IsAfter, core_after}
 use Rattle.machine_parts.proofs.Machines.{after_steps}
 use Rattle.machine_core.proofs.machine.Machine.run.Goals as goal
 
 pub loop-step-init : goal.loop-step-init
-loop-step-init g c = refl
+loop-step-init g c = ap (λ (x : Core). core_after x c.args.steps.now) c.rouse.ensures
 
 pub loop-step-preserved : goal.loop-step-preserved
 loop-step-preserved g c =

@@ -1,4 +1,4 @@
-use Rattle.std.proofs.Common.{◌≡◌}
+use Rattle.std.proofs.Common.{◌≡◌, false}
 use Rattle.core_wake.specs.Waking.{processors}
 use Rattle.machine_parts.specs.Awake.{with_bits}
 use Rattle.machine_parts.proofs.flags.WakeFlags.wake_processors.Given as goal
@@ -6,6 +6,7 @@ use Rattle.machine_parts.proofs.flags.WakeFlags.wake_processors.Given as goal
 -- the processors so far are awake
 abbrev pub invariant-loop-tile : goal.invariant-loop-tile
 invariant-loop-tile g l = record {
+  all : l.self-inside.all ≡ false;
   torus : l.self-inside.torus ≡ l.initial.self-inside.torus;
   depth : l.self-inside.depth ≡ l.initial.self-inside.depth;
   words : l.self-inside.words ≡ l.initial.self-inside.words;

@@ -4,7 +4,7 @@ use Rattle.trace_judge.specs.Slots.{IsFull}
 use Rattle.trace_judge.specs.Sets.{lists_of}
 use Rattle.trace_judge.proofs.Crowds.{crowded}
 use Rattle.trace_judge.proofs.Parting.{begun_first, first_low}
-use Rattle.trace_judge.proofs.Searching.{holds_issue, read_set}
+use Rattle.trace_judge.proofs.Searching.{holds_issue, holds_unanswered, read_set}
 use Rattle.trace_judge.proofs.search.Search.issue.Goals as goal
 
 pub put-requires : goal.put-requires
@@ -34,3 +34,9 @@ returns-then-branch-clause-holds g c =
     holds_issue c.args.opening.now c.args.events.now c.args.whole.now c.args.k c.args.self.now _ c.index_mut.result.now c.put.new.table
     c.first_slot-first.result c.args.call c.promise_of-promise.result c.index_mut.ensures.value refl c.requires.trace c.requires.issued
     c.requires.beginning c.first_slot-first.ensures (c.in_ok-put.ensures.put c.if-branch.true) c.promise_of-promise.ensures c.requires.holds
+
+pub returns-then-is_unanswered_load-clause-holds : goal.returns-then-is_unanswered_load-clause-holds
+returns-then-is_unanswered_load-clause-holds g c =
+    let is = c.is_unanswered_load.ensures c.if-is_unanswered_load.true in
+    holds_unanswered c.args.opening.now c.args.events.now c.args.whole.now c.args.k c.args.self.now c.args.call
+    c.promise_of-promise.result c.requires.trace c.requires.issued is.0 is.1 c.promise_of-promise.ensures c.requires.holds

@@ -1,0 +1,6 @@
+pub mod Steps
+pub mod Boxes
+pub mod MachineParts
+pub mod WatchParts
+mod Events
+mod Stands

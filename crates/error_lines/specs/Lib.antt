@@ -1,0 +1,4 @@
+pub mod Causes
+pub mod EndLines
+pub mod FaultLines
+pub mod Unread

@@ -1,0 +1,119 @@
+//! A trace that likely has an order: what explains it explains the trace that it is made from.
+
+ghost use Rattle.std.specs.Prelude.{◌≡◌, ◌⊎◌, ◌<◌, ◌∷◌, ◌++◌, ℕ, [], true, Some, IfOk, OnOk, length, slice_get};
+ghost use Rattle.packet.specs.declared.kinds.Reply.{Reply};
+ghost use Rattle.trace_laws.specs.declared.event.Event.TheVariants.{Answer};
+ghost use Rattle.trace_laws.specs.declared.event.Event.{Event};
+ghost use Rattle.trace_laws.specs.Traces.{IsTrace, TraceAnswersAt};
+ghost use Rattle.trace_laws.specs.Unanswered.{IssuesUnanswered};
+ghost use Rattle.trace_judge.specs.Guesses.{IsLikely, IsKeptOrLeft, HasAnswer};
+
+use crate::reading::promise_of;
+use crate::sights::{Guess, guess_of};
+use packet::Reply;
+use std::alloc::{AllocError, Allocator};
+use trace_laws::Event;
+
+/// Whether there are as many answers as issues.
+pub fn are_all_answered(events: &[Event]) -> bool {
+    let mut open = 0u64;
+    for i in 0..events.len() {
+        open = match events[i] {
+            Event::Issue(_) => open.wrapping_add(1),
+            Event::Answer(..) => open.wrapping_sub(1),
+        };
+    }
+    open == 0
+}
+
+/// Whether nothing is answered.
+pub fn is_silent(events: &[Event]) -> bool
+    ensures { result ≡ true → (i id : ℕ) (reply : Reply) → TraceAnswersAt events.now i id reply → ⊥ }
+{
+    for i in 0..events.len() {
+        if let Event::Answer(..) = events[i] {
+            return false;
+        }
+    }
+    true
+}
+
+/// Whether an event issues an operation that is never answered.
+fn is_left(opening: &[u64], events: &[Event], k: usize) -> bool
+    requires trace { IsTrace (length opening.now) events.now }
+    requires inside { k < length events.now }
+    ensures { result ≡ true → (event : Event) → slice_get events.now k ≡ Some event
+        → IssuesUnanswered events.now event }
+{
+    let Event::Issue(call) = events[k] else {
+        return false;
+    };
+    promise_of(events, k + 1, call.id).is_none()
+}
+
+/// Event k at the end, unless it is to be left out and issues an operation that is never answered.
+fn keep<A: Allocator>(
+    likely: &mut Vec<Event, A>,
+    opening: &[u64],
+    events: &[Event],
+    k: usize,
+    left: bool,
+) -> Result<(), AllocError>
+    requires trace { IsTrace (length opening.now) events.now }
+    requires inside { k < length events.now }
+    ensures { OnOk result (IsKeptOrLeft events.now k likely.old.items likely.new.items) }
+{
+    if left && is_left(opening, events, k) {
+        return Ok(());
+    }
+    likely.push(events[k])?;
+    Ok(())
+}
+
+/// An answer at the end, if there is one.
+fn answer<A: Allocator>(
+    likely: &mut Vec<Event, A>,
+    behind: Option<(u64, Reply)>,
+) -> Result<(), AllocError>
+    ensures { OnOk result (HasAnswer likely.old.items likely.new.items) }
+{
+    if let Some((id, reply)) = behind {
+        likely.push(Event::Answer(id, reply))?;
+    }
+    Ok(())
+}
+
+/// The events of a trace, as they are guessed: without some issues of operations that are never answered, and
+/// with some answers more.
+fn guessed<A: Allocator + Copy>(
+    alloc: A,
+    opening: &[u64],
+    events: &[Event],
+    guess: &Guess<A>,
+) -> Result<Vec<Event, A>, AllocError>
+    requires { IsTrace (length opening.now) events.now }
+    ensures { IfOk result (λ v. IsLikely events.now events.now v.items) }
+{
+    let mut likely = Vec::new(alloc);
+    for k in 0..events.len() {
+        let left = guess.left.get(k).copied().unwrap_or(false);
+        keep(&mut likely, opening, events, k, left)?;
+        answer(&mut likely, guess.behind.get(k).copied().unwrap_or(None))?;
+    }
+    Ok(likely)
+}
+
+/// A trace that likely has an order, if the trace does. Operations of which no answer shows whether they took
+/// effect are left out of it, if so asked.
+pub fn likely<A: Allocator + Copy>(
+    alloc: A,
+    opening: &[u64],
+    events: &[Event],
+    unclear: bool,
+) -> Result<Vec<Event, A>, AllocError>
+    requires { IsTrace (length opening.now) events.now }
+    ensures { IfOk result (λ v. IsLikely events.now events.now v.items) }
+{
+    let guess = guess_of(alloc, events, unclear)?;
+    guessed(alloc, opening, events, &guess)
+}

@@ -1,2 +1,0 @@
-mod Events
-mod Stands

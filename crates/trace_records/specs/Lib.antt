@@ -1,4 +1,0 @@
-pub mod Numbered
-pub mod Gathered
-pub mod Kept
-pub mod Views
