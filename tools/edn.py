@@ -13,7 +13,8 @@ from report import BadLine
 
 TOKEN = re.compile(r'[\s,]*([{}\[\]()]|:[^\s,{}\[\]()"]+|"(?:[^"\\]|\\.)*"|[^\s,{}\[\]()":]+)')
 ENDS = {"[": "]", "(": ")", "{": "}"}
-ATOM = r'(?:[^\s,{}\[\]()"#]+|"(?:[^"\\]|\\.)*")'
+# (A word to its end, so that there is one way to part a text into words.)
+ATOM = r'(?:[^\s,{}\[\]()"#]+(?![^\s,{}\[\]()"#])|"(?:[^"\\]|\\.)*")'
 VECTOR = rf"\[(?:{ATOM}|\[[^\[\]{{}}()\"#]*\]|[\s,])*\]"
 # A map of keywords, and of values without maps, and one of its pairs.
 FLAT = re.compile(rf"\s*\{{(?:[\s,]*:[^\s,{{}}\[\]()\"]+\s+(?:{ATOM}|{VECTOR}))*[\s,]*\}}\s*")
@@ -52,6 +53,8 @@ def form(tokens: List[str], at: int) -> Tuple[object, int]:
 
 def forms(text: str) -> List[object]:
     """The forms of a text, one behind the other."""
+    if other := TOKEN.sub("", text).strip(" \t\r,"):
+        raise BadLine(f"`{other[:20]}` is not understood")
     tokens, found, at = TOKEN.findall(text), [], 0
     try:
         while at < len(tokens):
