@@ -15,6 +15,7 @@ import exchange
 import jobs
 import table
 from pieces import ADDRESS, LINE, SERVED, Fault, Judge, pieces_of
+from progress import Progress
 
 # How many bytes are read at a time, and about how many rows there are in a range.
 CHUNK = 2**22
@@ -106,8 +107,8 @@ def sampled(found: Table, count: int) -> Tuple[List[Tuple[int, int]], List[int]]
 class Check:
     """The check of a table, in the steps in which it is made."""
 
-    def __init__(self, found: Table, judge: Judge, processes: int) -> None:
-        self.table, self.judge, self.processes = found, judge, processes
+    def __init__(self, found: Table, judge: Judge, processes: int, progress: Progress) -> None:
+        self.table, self.judge, self.processes, self.progress = found, judge, processes, progress
         self.chunks = chunks_of(found, processes)
         self.borders: List[Tuple[Any, ...]] = []
         self.name_borders: List[int] = []
@@ -189,14 +190,15 @@ class Check:
     def made(self) -> Verdict:
         """The whole check."""
         self.part()
-        self.reads = list(jobs.answers(self.read, self.chunks, self.processes))
+        counted = self.progress.counted
+        self.reads = list(counted(jobs.answers(self.read, self.chunks, self.processes), len(self.chunks), "parts read"))
         ranges = list(range(len(self.borders) + 1))
         self.ends = [exchange.ends([it.rows for it in self.reads], at) for at in ranges]
         names = list(range(len(self.name_borders) + 1))
         again = self.twice_told(set().union(*jobs.answers(self.twice, names, self.processes)))
         faults = [again] if again else []
         pieces, words, touched = 0, 0, set()
-        for fault, made, found, given in jobs.answers(self.judged, ranges, self.processes):
+        for fault, made, found, given in counted(jobs.answers(self.judged, ranges, self.processes), len(ranges), "parts judged"):
             faults += [fault] if fault else []
             pieces, words = pieces + made, words + found
             touched.update(given)

@@ -5,6 +5,7 @@ they are written: `:ok`, `"a b"`, `true`. A tag, as `#jepsen.history.Op`, is pas
 """
 from __future__ import annotations
 
+import functools
 import re
 from typing import List, Tuple
 
@@ -12,7 +13,8 @@ from report import BadLine
 
 TOKEN = re.compile(r'[\s,]*([{}\[\]()]|:[^\s,{}\[\]()"]+|"(?:[^"\\]|\\.)*"|[^\s,{}\[\]()":]+)')
 ENDS = {"[": "]", "(": ")", "{": "}"}
-ATOM = r'(?:[^\s,{}\[\]()"#]+|"(?:[^"\\]|\\.)*")'
+# (A word to its end, so that there is one way to part a text into words.)
+ATOM = r'(?:[^\s,{}\[\]()"#]+(?![^\s,{}\[\]()"#])|"(?:[^"\\]|\\.)*")'
 VECTOR = rf"\[(?:{ATOM}|\[[^\[\]{{}}()\"#]*\]|[\s,])*\]"
 # A map of keywords, and of values without maps, and one of its pairs.
 FLAT = re.compile(rf"\s*\{{(?:[\s,]*:[^\s,{{}}\[\]()\"]+\s+(?:{ATOM}|{VECTOR}))*[\s,]*\}}\s*")
@@ -21,12 +23,14 @@ PAIR = re.compile(rf"(:[^\s,{{}}\[\]()\"]+)\s+({ATOM}|{VECTOR})")
 
 def atom(token: str) -> object:
     """What a token stands for that is no bracket."""
+    if token[:1] == ":" and len(token) > 1 or token[:1] == '"':
+        return token
     if token == "nil":
         return None
     digits = token[1:] if token[:1] in ("-", "+") else token
     if digits.isascii() and digits.isdigit():
-        return int(token) if len(token) <= 21 else 10**21
-    if token[:1] == ":" and len(token) > 1 or token[:1] == '"' or re.fullmatch(r"[A-Za-z*!_?$%&=<>.][^\s]*", token):
+        return int(token) if len(token) <= 21 else token
+    if re.fullmatch(r"[A-Za-z*!_?$%&=<>.][^\s]*", token):
         return token
     raise BadLine(f"`{token}` is not understood" if token else "it ends too soon")
 
@@ -49,6 +53,8 @@ def form(tokens: List[str], at: int) -> Tuple[object, int]:
 
 def forms(text: str) -> List[object]:
     """The forms of a text, one behind the other."""
+    if other := TOKEN.sub("", text).strip(" \t\r,"):
+        raise BadLine(f"`{other[:20]}` is not understood")
     tokens, found, at = TOKEN.findall(text), [], 0
     try:
         while at < len(tokens):
@@ -67,6 +73,7 @@ def one(text: str) -> object:
     return found[0]
 
 
+@functools.lru_cache(maxsize=4096)
 def value(text: str) -> object:
     """The form of a text without space around it."""
     return one(text) if text[:1] in "[({#" else atom(text)

@@ -94,7 +94,7 @@ def drawn(why: verdict.NoOrder) -> str:
     left = max(LEFT, 24 + max(len(calls.who) + 1 + len(calls.processors[it.at]) for it in mine) * 7.5)
     at, right = places(mine, wide, found.failed.answered, left)
     right = max(right, LEAST_WIDTH - RIGHT)
-    key = names.shown_operation(calls.asked[found.failed.at]).split(" ")[1]
+    key = names.shown_key(calls.asked[found.failed.at].split(" ")[1])
     others = sum(it.issued < found.failed.answered for it in found.operations) - len(mine)
     can = story.possible(calls, why.reasons)
     parts = [drawing.text(12, 24, command.printable(str(why)), 14, font_weight="bold")]

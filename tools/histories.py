@@ -15,6 +15,7 @@ from numbered import MASK, NIL
 from progress import Progress
 from report import BadLine
 
+KEYS = (":process", ":type", ":f", ":value", ":key", ":error")
 TYPES = ("invoke", "ok", "fail", "info")
 KINDS = {"read": "load", "get": "load", "write": "store", "put": "store", "cas": "cas"}
 # `INFO  jepsen.util - 0 :invoke :write 2`, or with `jepsen.util:` in place of the dash.
@@ -50,10 +51,11 @@ def said_by_map(text: str) -> Said:
             raise BadLine("it is no JSON") from None
         found = {f":{key}": quoted(it) for key, it in found.items()} if isinstance(found, dict) else found
     elif edn.FLAT.fullmatch(text):
-        found = {key: edn.value(it) for key, it in edn.PAIR.findall(text)}
+        pairs = dict(edn.PAIR.findall(text))
+        found = {key: edn.value(pairs[key]) for key in KEYS if key in pairs}
     else:
         found = edn.one(text)
-    if not isinstance(found, dict) or any(it not in found for it in (":process", ":type", ":f", ":value")):
+    if not isinstance(found, dict) or any(it not in found for it in KEYS[:4]):
         raise BadLine("it is no map with :process, :type, :f and :value")
     process, error = found[":process"], found.get(":error")
     return Said(process, bare(found[":type"]), bare(found[":f"]), found[":value"], found.get(":key"), error is not None)

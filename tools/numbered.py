@@ -11,6 +11,7 @@ from dataclasses import dataclass, field
 from itertools import count, cycle, islice
 from typing import Dict, Iterable, List
 
+import command
 from report import BadLine
 
 MASK = 2**64 - 1
@@ -87,8 +88,13 @@ class Names:
 
     def comments(self) -> List[str]:
         """Lines of a trace text that say what is numbered."""
-        of_keys = [f"# key {number} is {name}" for number, name in self.key_names.items()]
-        return of_keys + [f"# value {number} is {name}" for number, name in self.value_names.items()]
+        of_keys = [f"# key {number} is {spelled(name)}" for number, name in self.key_names.items()]
+        return of_keys + [f"# value {number} is {spelled(name)}" for number, name in self.value_names.items()]
+
+
+def spelled(name: str) -> str:
+    """A name in one line of ASCII characters."""
+    return command.printable(name).encode("ascii", "backslashreplace").decode("ascii")
 
 
 def free(taken: set[int], wanted: int) -> List[str]:

@@ -122,6 +122,8 @@ class Reader:
         is_over = bool(said["answered"])
         answered = self.time(said["answered"], "answered") if is_over else OPEN
         reply = self.reply(kind, said["reply"]) if is_over and said["reply"] != "fail" else ""
+        if said["reply"] == "fail" and not is_over:
+            raise BadLine("it failed, and has no time `answered`")
         if is_over and answered < issued:
             raise BadLine("it is answered before it is issued")
         at = calls.add(said["processor"], asked, line)
