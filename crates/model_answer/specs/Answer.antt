@@ -29,6 +29,7 @@ use Rattle.model_answer.specs.declared.model.MemoryModel.{MemoryModel}
 use Rattle.model_answer.specs.declared.model.MemoryModel.TheVariants.{Coherent, Fenced, Pso, Tso, Sc}
 use Rattle.model_answer.specs.Judged.{AreVerdicts, TellsObeyed, is_ordered}
 use Rattle.model_answer.specs.Model.{model_word, rules_of_model}
+use Rattle.model_answer.specs.Replies.{TellsReplies}
 use Rattle.model_answer.specs.Texts.{cycle_text, obeys_text, turns_text, why_at}
 
 -- the reasons of the steps of a cycle
@@ -145,17 +146,30 @@ pub record IsAnswer {A : Type 0} (t : LogTrace A) (options : Options) (a : Answe
   pub told : TellsObeyed t.operations.items t.writes.items a.obeys
   pub text : IsAnswerText t verdicts options a.text.items
 
--- the answer to a log: it is one, its trace is the one that its lines say, each reply is due, and
--- the answer is that on the trace
+-- the answer on a log: its trace is the one that its lines say, each reply is due, the answer is
+-- that on the trace, and the machines of the models that are obeyed give the replies
+pub record IsAnswerOn {A : Type 0} (log : LogLines) (options : Options) (a : Answer A) : Type 0
+  where
+    pub trace : LogTrace A
+    pub traced : IsTraceOfLog log trace
+    pub due : AreDueReplies trace.steps.items trace.operations.items trace.writes.items
+    pub answer : IsAnswer trace options a
+    pub replies : TellsReplies trace.steps.items trace.operations.items trace.writes.items a.obeys
+
+-- the answer to a text: it is a log, and the answer is that on the log
 pub record IsAnswerTo {A : Type 0} (lines : List (List ℕ)) (options : Options) (a : Answer A) :
     Type 0
   where
     pub log : LogLines
     pub read : log_of lines ≡ Ok log
-    pub trace : LogTrace A
-    pub traced : IsTraceOfLog log trace
-    pub due : AreDueReplies trace.steps.items trace.operations.items trace.writes.items
-    pub answer : IsAnswer trace options a
+    pub is : IsAnswerOn log options a
+
+-- why there is no answer on a log: a reply isn't due, or memory was refused
+abbrev pub IsNoAnswerOn : LogLines → NoAnswer → Type 0
+IsNoAnswerOn log (Refused refusal) = ⊥
+IsNoAnswerOn log (Wrong wrong) =
+    IsWrongReply (steps_of_log log) (operations_of_log log) (writes_of_log log) wrong
+IsNoAnswerOn log Memory = Unit {0}
 
 -- a reply of a log that isn't due
 pub record IsWrongIn (lines : List (List ℕ)) (wrong : WrongReply) : Type 0 where

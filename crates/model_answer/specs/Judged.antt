@@ -9,6 +9,8 @@ use Rattle.memory_models.specs.Models.{sequential, total_store_order, partial_st
 use Rattle.memory_models.specs.Models.{coherent, fenced}
 use Rattle.memory_models.specs.Order.{IsMemoryOrder}
 use Rattle.memory_models.specs.Verdict.{IsModelVerdict}
+use Rattle.memory_models.specs.WordBuffers.{IsWordBufferRun}
+use Rattle.memory_models.specs.WordOrders.{IsSequentialOn}
 use Rattle.model_answer.specs.declared.judged.Verdicts.{Verdicts}
 use Rattle.model_answer.specs.declared.judged.Obeys.{Obeys}
 
@@ -34,12 +36,21 @@ pub record TellsOrder (rules : List Rule) (ops : List Operation) (writes : List 
     pub yes : b ≡ true → (turn : ℕ → ℕ) × IsMemoryOrder rules ops writes turn
     pub no : b ≡ false → (turn : ℕ → ℕ) → IsMemoryOrder rules ops writes turn → ⊥
 
--- the answers of the models: total store order in the words of the machine with a buffer of stores
--- for each processor, sequential consistency in those of one memory
+-- the answers of the models: coherence in the words of one memory for each word, partial and total
+-- store order in those of machines with buffers of stores, sequential consistency in those of one
+-- memory
 pub record TellsObeyed (ops : List Operation) (writes : List ℕ) (o : Obeys) : Type 0 where
   pub by_coherent : TellsOrder coherent ops writes o.coherent
+  pub word_memories : o.coherent ≡ true
+      → (turn : ℕ → ℕ) × ((word : ℕ) → IsSequentialOn word ops writes turn)
+  pub no_memories : o.coherent ≡ false → (turns : ℕ → ℕ → ℕ)
+      → ((word : ℕ) → IsSequentialOn word ops writes (turns word)) → ⊥
   pub by_fenced : TellsOrder fenced ops writes o.fenced
   pub by_pso : TellsOrder partial_store_order ops writes o.pso
+  pub word_runs : o.pso ≡ true
+      → (made : ℕ → ℕ) × (left : ℕ → ℕ) × IsWordBufferRun ops writes made left
+  pub no_word_run : o.pso ≡ false
+      → (made left : ℕ → ℕ) → IsWordBufferRun ops writes made left → ⊥
   pub runs : o.tso ≡ true
       → (made : ℕ → ℕ) × (left : ℕ → ℕ) × IsBufferRun ops writes made left
   pub no_run : o.tso ≡ false → (made left : ℕ → ℕ) → IsBufferRun ops writes made left → ⊥

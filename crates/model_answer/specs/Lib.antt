@@ -1,4 +1,5 @@
 pub mod Answer
 pub mod Judged
 pub mod Model
+pub mod Replies
 pub mod Texts

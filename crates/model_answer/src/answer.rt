@@ -4,7 +4,9 @@ ghost use Rattle.std.specs.Prelude.{◌≡◌, ◌+◌, IfOk, IfErr, OnOk};
 ghost use Rattle.std.specs.Str.Lines.{lines};
 ghost use Rattle.memory_models.specs.Trace.{IsMemoryTrace};
 ghost use Rattle.model_answer.specs.Answer.{AddsPart, IsAskedPart};
-ghost use Rattle.model_answer.specs.Answer.{IsAnswerTo, IsNoAnswerTo, IsAnswer, IsAnswerText};
+ghost use Rattle.model_answer.specs.Answer.{IsAnswerOn, IsNoAnswerOn, IsAnswerTo, IsNoAnswerTo};
+ghost use Rattle.model_answer.specs.Answer.{IsAnswer, IsAnswerText};
+ghost use Rattle.model_text.specs.Views.{log_so_far};
 ghost use Rattle.model_answer.specs.Judged.{AreVerdicts};
 
 use crate::cycle::put_failing;
@@ -12,7 +14,7 @@ use crate::judged::{Obeys, Verdicts, verdicts_of};
 use crate::order::put_strongest;
 use crate::text::put_obeys;
 use lexer::Refusal;
-use model_text::{LogReason, LogTrace, WrongReply, read_log, replies_of, trace_of_log};
+use model_text::{Log, LogReason, LogTrace, WrongReply, read_log, replies_of, trace_of_log};
 use std::alloc::{AllocError, Allocator, Global};
 
 /// What is asked beside the verdicts.
@@ -105,6 +107,31 @@ fn answer_on<A: Allocator + Copy>(
 /// Which memory models a log obeys, weakest first; a short cycle of the weakest that it breaks; and, if
 /// that is asked, an order of the strongest that it obeys.
 ///
+/// Errors: a reply that isn't what its operation does to its word, or memory.
+pub fn answer_to_log<A: Allocator + Copy>(
+    alloc: A,
+    log: &Log<A>,
+    options: Options,
+) -> Result<Answer<A>, NoAnswer>
+    ensures answer { IfOk result (IsAnswerOn (log_so_far log.now) options) }
+    ensures none { IfErr result (IsNoAnswerOn (log_so_far log.now)) }
+{
+    let Ok(trace) = trace_of_log(alloc, log) else {
+        return Err(NoAnswer::Memory);
+    };
+    match replies_of(alloc, &trace) {
+        Ok(None) => {}
+        Ok(Some(wrong)) => return Err(NoAnswer::Wrong(wrong)),
+        Err(_) => return Err(NoAnswer::Memory),
+    }
+    match answer_on(alloc, &trace, options) {
+        Ok(answer) => Ok(answer),
+        Err(_) => Err(NoAnswer::Memory),
+    }
+}
+
+/// The same of the log that a text is.
+///
 /// Errors: where and why the text is no log, a reply that isn't what its operation does to its word,
 /// or memory.
 pub fn model_answer<A: Allocator + Copy>(
@@ -119,16 +146,8 @@ pub fn model_answer<A: Allocator + Copy>(
         Ok(log) => log,
         Err(refusal) => return Err(NoAnswer::Refused(refusal)),
     };
-    let Ok(trace) = trace_of_log(alloc, &log) else {
-        return Err(NoAnswer::Memory);
-    };
-    match replies_of(alloc, &trace) {
-        Ok(None) => {}
-        Ok(Some(wrong)) => return Err(NoAnswer::Wrong(wrong)),
-        Err(_) => return Err(NoAnswer::Memory),
-    }
-    match answer_on(alloc, &trace, options) {
+    match answer_to_log(alloc, &log, options) {
         Ok(answer) => Ok(answer),
-        Err(_) => Err(NoAnswer::Memory),
+        Err(why) => Err(why),
     }
 }

@@ -12,7 +12,7 @@ pub mod sentence;
 mod shorten;
 mod text;
 
-pub use answer::{Answer, NoAnswer, Options, model_answer};
+pub use answer::{Answer, NoAnswer, Options, answer_to_log, model_answer};
 pub use judged::{Obeys, Verdicts, verdicts_of};
 pub use model::MemoryModel;
 pub use sentence::{LogSentence, WrongSentence};

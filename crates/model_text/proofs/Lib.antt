@@ -1,3 +1,5 @@
 pub mod Growing
 pub mod NumberLists
 pub mod Refusing
+pub mod Valued
+pub mod Replied

@@ -3,6 +3,7 @@ pub mod InsideRows
 pub mod Kinds
 pub mod Lines
 pub mod Made
+pub mod OneMemory
 pub mod Reasons
 pub mod Rows
 pub mod Sources

@@ -1,6 +1,6 @@
 -- The trace of a log: of each word that occurs an opening store, by a processor of its own; behind
 -- these the operations of each processor, in program order; and each word's writes in its order.
-use Rattle.std.specs.Prelude.{◌≡◌, ℕ, ◌+◌, ◌<◌, ◌==◌, nat_lt, if◌then◌else◌, List, ◌∷◌, ◌++◌}
+use Rattle.std.specs.Prelude.{◌≡◌, ℕ, ◌+◌, ◌<◌, ◌≤◌, ◌==◌, nat_lt, if◌then◌else◌, List, ◌∷◌, ◌++◌}
 use Rattle.std.specs.Prelude.{length, map, unwrap_or, slice_index, slice_index_or, Some, None, Option}
 use Rattle.std.specs.List.{concat, flat_map, position_or_len, range_with_len}
 use Rattle.packet.specs.declared.kinds.Operation.{Operation as Asked}
@@ -8,7 +8,7 @@ use Rattle.packet.specs.declared.kinds.Op.TheVariants as op
 use Rattle.memory_models.specs.declared.kinds.Kind.{Kind}
 use Rattle.memory_models.specs.declared.kinds.Kind.TheVariants.{Store, Fence}
 use Rattle.memory_models.specs.declared.kinds.Operation.{Operation}
-use Rattle.memory_models.specs.Trace.{IsMemoryTrace}
+use Rattle.memory_models.specs.Trace.{IsMemoryTrace, operation_at}
 use Rattle.trace_lines.specs.Head.{value_in}
 use Rattle.model_text.specs.declared.logged.Logged.{Logged}
 use Rattle.model_text.specs.declared.logged.Source.{Source}
@@ -126,7 +126,19 @@ pub record TellsLog {A : Type 0} (log : LogLines) (t : LogTrace A) : Type 0 wher
   pub operations : t.operations.items ≡ operations_of_log log
   pub writes : t.writes.items ≡ writes_of_log log
 
--- and it is a trace
+-- a write is an opening store, or stands behind a write of its word
+pub record IsOpenedAt (openings : ℕ) (ops : List Operation) (writes : List ℕ) (p : ℕ) : Type 0 where
+  pub behind : openings ≤ slice_index writes p → 0 < p
+  pub word : openings ≤ slice_index writes p → (b : ℕ) → b + 1 ≡ p
+      → (operation_at ops (slice_index writes b)).word
+      ≡ (operation_at ops (slice_index writes p)).word
+
+-- each word's writes begin with its opening store
+abbrev pub AreOpened : ℕ → List Operation → List ℕ → Type 0
+AreOpened openings ops writes = (p : ℕ) → p < length writes → IsOpenedAt openings ops writes p
+
+-- and it is a trace, each of whose words opens
 pub record IsTraceOfLog {A : Type 0} (log : LogLines) (t : LogTrace A) : Type 0 where
   pub tells : TellsLog log t
   pub trace : IsMemoryTrace (t.openings + 1) t.operations.items t.writes.items
+  pub opened : AreOpened t.openings t.operations.items t.writes.items

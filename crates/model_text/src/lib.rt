@@ -4,15 +4,17 @@
 
 mod form;
 mod kinds;
+pub mod laws;
 pub mod log;
 pub mod logged;
 mod made;
+mod opened;
 pub mod placing;
 mod reading;
 pub mod reason;
 mod replies;
 pub mod rows;
-mod sources;
+pub mod sources;
 pub mod text;
 pub mod trace;
 pub mod values;

@@ -29,7 +29,7 @@ pub struct Log<A: Allocator = Global> {
 
 impl<A: Allocator + Copy> Log<A> {
     /// Nothing is given.
-    pub(crate) fn none(alloc: A) -> Result<Log<A>, AllocError>
+    pub fn none(alloc: A) -> Result<Log<A>, AllocError>
         ensures { IfOk result (λ r. log_so_far r ≡ nothing_logged) }
     {
         let rows = Rows::empty(alloc, 4096)?;

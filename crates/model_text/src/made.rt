@@ -57,8 +57,8 @@ impl<A: Allocator + Copy> Log<A> {
         }
     }
 
-    /// Adds an operation.
-    fn add_operation(
+    /// Adds an operation, whose address is below the number of words.
+    pub fn add_operation(
         &mut self,
         alloc: A,
         line: u64,
@@ -112,7 +112,7 @@ impl<A: Allocator + Copy> Log<A> {
     }
 
     /// Adds an operation, or a fence, to those that are made.
-    fn add_logged(&mut self, logged: Logged) -> Result<(), LogReason>
+    pub fn add_logged(&mut self, logged: Logged) -> Result<(), LogReason>
         ensures { Makes (LogReason.Line LineReason.Memory) (log_so_far self.new) result
             (add_logged (log_so_far self.old) logged) }
     {

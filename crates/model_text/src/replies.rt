@@ -32,7 +32,12 @@ impl<A: Allocator + Copy> Log<A> {
     }
 
     /// An operation has a reply.
-    fn add_reply(&mut self, line: u64, found: Found, told: Option<u128>) -> Result<(), LogReason>
+    pub fn add_reply(
+        &mut self,
+        line: u64,
+        found: Found,
+        told: Option<u128>,
+    ) -> Result<(), LogReason>
         ensures { Makes (LogReason.Line LineReason.Memory) (log_so_far self.new) result
             (add_reply (log_so_far self.old) line found told) }
     {

@@ -4,7 +4,7 @@ ghost use Rattle.std.specs.Prelude.{◌≡◌, map, slice_get, slice_set};
 ghost use Rattle.lexer.specs.Outcome.{Makes};
 ghost use Rattle.model_text.specs.Sources.{found, found_of, with_logged, after_wrote_line};
 ghost use Rattle.model_text.specs.Sources.{add_write, after_served_line, after_read_line, read_opening};
-ghost use Rattle.model_text.specs.Sources.{read_write, add_source, is_told, last_source};
+ghost use Rattle.model_text.specs.Sources.{read_write, add_served, add_source, is_told, last_source};
 ghost use Rattle.model_text.specs.Sources.{source_wrong, load_wrong, write_wrong};
 ghost use Rattle.model_text.specs.Views.{log_so_far};
 
@@ -18,10 +18,13 @@ use trace_lines::LineReason;
 
 /// An operation that a line names.
 #[derive(Clone, Copy)]
-pub(crate) struct Found {
-    pub(crate) number: usize,
-    pub(crate) logged: Logged,
-    pub(crate) operation: Operation,
+pub struct Found {
+    /// Its number.
+    pub number: usize,
+    /// What the lines so far give of it.
+    pub logged: Logged,
+    /// What it is; no fence.
+    pub operation: Operation,
 }
 
 /// Whether a line says what an operation read, or where it stands among the writes.
@@ -96,7 +99,7 @@ pub(crate) fn set_logged(made: &mut [Logged], number: usize, logged: Logged)
 
 impl<A: Allocator + Copy> Log<A> {
     /// The operation of a processor at an index, from 0.
-    pub(crate) fn found(&self, p: u128, index: u128) -> Result<Found, LogReason>
+    pub fn found(&self, p: u128, index: u128) -> Result<Found, LogReason>
         ensures { result ≡ found (log_so_far self.now) p index }
     {
         let p = self.head.processor(p)?;
@@ -141,7 +144,7 @@ impl<A: Allocator + Copy> Log<A> {
     }
 
     /// A write is the next one of its word.
-    fn add_write(&mut self, found: Found) -> Result<(), LogReason>
+    pub fn add_write(&mut self, found: Found) -> Result<(), LogReason>
         ensures { Makes (LogReason.Line LineReason.Memory) (log_so_far self.new) result
             (add_write (log_so_far self.old) found) }
     {
@@ -176,7 +179,7 @@ impl<A: Allocator + Copy> Log<A> {
     }
 
     /// A load read from a source.
-    fn add_source(&mut self, found: Found, source: Source) -> Result<(), LogReason>
+    pub fn add_source(&mut self, found: Found, source: Source) -> Result<(), LogReason>
         ensures { Makes (LogReason.Line LineReason.Memory) (log_so_far self.new) result
             (add_source (log_so_far self.old) found source) }
     {
@@ -196,11 +199,19 @@ impl<A: Allocator + Copy> Log<A> {
             [processor, index] => {
                 let (p, index) = two_numbers(1, processor, index)?;
                 let found = self.found(p, index)?;
-                let source = last_source(self.orders.row(found.logged.word));
-                self.add_source(found, source)
+                self.add_served(found)
             }
             _ => Err(LogReason::WordCount(LogKeyword::Served)),
         }
+    }
+
+    /// A load stands behind the writes of its word so far.
+    pub fn add_served(&mut self, found: Found) -> Result<(), LogReason>
+        ensures { Makes (LogReason.Line LineReason.Memory) (log_so_far self.new) result
+            (add_served (log_so_far self.old) found) }
+    {
+        let source = last_source(self.orders.row(found.logged.word));
+        self.add_source(found, source)
     }
 
     /// Takes the load and the source of a `read` line.
@@ -238,7 +249,7 @@ impl<A: Allocator + Copy> Log<A> {
     }
 
     /// A load read what an operation wrote.
-    fn read_write(&mut self, found: Found, write: Found) -> Result<(), LogReason>
+    pub fn read_write(&mut self, found: Found, write: Found) -> Result<(), LogReason>
         ensures { Makes (LogReason.Line LineReason.Memory) (log_so_far self.new) result
             (read_write (log_so_far self.old) found write) }
     {

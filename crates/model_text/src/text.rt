@@ -3,7 +3,7 @@
 ghost use Rattle.std.specs.Prelude.{◌≡◌};
 ghost use Rattle.std.specs.Str.Lines.{lines};
 ghost use Rattle.lexer.specs.Outcome.{Gives};
-ghost use Rattle.model_text.specs.Lines.{log_of, first_untold};
+ghost use Rattle.model_text.specs.Lines.{log_of, log_ended, first_untold};
 ghost use Rattle.model_text.specs.Views.{log_so_far};
 
 use crate::log::Log;
@@ -27,6 +27,22 @@ fn first_untold(made: &[Logged]) -> Option<Logged>
     None
 }
 
+/// A log whose last line has the number before this one.
+///
+/// Errors: what the log lacks, at this line; or an operation of which no line says what it read.
+pub fn ended<A: Allocator + Copy>(log: Log<A>, number: u64) -> Result<Log<A>, Refusal<LogReason>>
+    ensures { Gives (LogReason.Line LineReason.Memory) log_so_far result
+        (log_ended (log_so_far log) number) }
+{
+    if let Some(reason) = log.head.missing() {
+        return Err(Refusal::at(number, LogReason::Line(reason)));
+    }
+    match first_untold(&log.made) {
+        None => Ok(log),
+        Some(logged) => Err(Refusal::at(logged.line, LogReason::SourceMissing)),
+    }
+}
+
 /// Reads a log text.
 ///
 /// Errors: where and why its first bad line is refused, or that a request for memory was.
@@ -46,11 +62,5 @@ pub fn read_log<A: Allocator + Copy>(alloc: A, text: &[u8]) -> Result<Log<A>, Re
         number += 1;
         rest = after;
     }
-    if let Some(reason) = log.head.missing() {
-        return Err(Refusal::at(number, LogReason::Line(reason)));
-    }
-    match first_untold(&log.made) {
-        None => Ok(log),
-        Some(logged) => Err(Refusal::at(logged.line, LogReason::SourceMissing)),
-    }
+    ended(log, number)
 }

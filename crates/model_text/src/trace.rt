@@ -14,6 +14,7 @@ ghost use Rattle.model_text.specs.Views.{log_so_far};
 use crate::kinds::kind_of_op;
 use crate::log::Log;
 use crate::logged::{Logged, Source};
+use crate::opened::are_opened;
 use crate::placing::{place_of, places_in};
 use memory_models::{Kind, Operation, is_trace};
 use packet::{Op, Operation as Asked};
@@ -280,6 +281,9 @@ pub fn trace_of_log<A: Allocator + Copy>(alloc: A, log: &Log<A>) -> Result<LogTr
 {
     let trace = filled(alloc, log)?;
     if !is_trace(&trace.operations, &trace.writes, trace.openings + 1) {
+        return Err(AllocError);
+    }
+    if !are_opened(&trace.operations, &trace.writes, trace.openings) {
         return Err(AllocError);
     }
     Ok(trace)

@@ -1,6 +1,6 @@
 //! The head of a trace or a log: its first line, the number of words, and opening words.
 
-ghost use Rattle.std.specs.Prelude.{◌≡◌, ◌≤◌, ◌<◌, ◌^◌, ◌&&◌, codes, map, unwrap_or, IfNone, IfOk};
+ghost use Rattle.std.specs.Prelude.{◌≡◌, ◌≤◌, ◌<◌, ◌^◌, ◌&&◌, true, codes, map, unwrap_or, IfNone, IfOk};
 ghost use Rattle.std.specs.Str.{bytes_eq};
 ghost use Rattle.lexer.specs.Outcome.{Makes};
 ghost use Rattle.trace_lines.specs.Head.{no_head, value_in, after_title, after_words_line};
@@ -136,17 +136,33 @@ impl<A: Allocator + Copy> Head<A> {
         match values {
             [count] => {
                 let words = number_at(1, count)?;
-                if self.words != 0 {
-                    return Err(LineReason::WordsTwice);
-                }
-                if !(1 <= words && words <= 1 << 32) {
-                    return Err(LineReason::WordsLimits);
-                }
-                self.words = words as u64;
-                Ok(())
+                self.set_count(words)
             }
             _ => Err(LineReason::WordCount(HeadKeyword::Words)),
         }
+    }
+
+    /// Sets the number of words.
+    ///
+    /// Errors: it is set already, or isn't 1 to 2^32.
+    pub fn set_count(&mut self, words: u128) -> Result<(), LineReason>
+        ensures { Makes LineReason.Memory self.new result (words_read self.old words) }
+    {
+        if self.words != 0 {
+            return Err(LineReason::WordsTwice);
+        }
+        if !(1 <= words && words <= 1 << 32) {
+            return Err(LineReason::WordsLimits);
+        }
+        self.words = words as u64;
+        Ok(())
+    }
+
+    /// The first line has come.
+    pub fn begin(&mut self)
+        ensures { self.new ≡ record (self.old) { begun = true } }
+    {
+        self.begun = true;
     }
 
     /// Takes the address and the value of an opening word. Behind an operation it is late.
@@ -188,8 +204,10 @@ impl<A: Allocator + Copy> Head<A> {
         None
     }
 
-    /// Sets an opening word.
-    fn set_word(&mut self, late: bool, address: u128, value: u128) -> Result<(), LineReason>
+    /// Sets an opening word. Behind an operation it is late.
+    ///
+    /// Errors: the first check that it fails.
+    pub fn set_word(&mut self, late: bool, address: u128, value: u128) -> Result<(), LineReason>
         ensures { Makes LineReason.Memory self.new result
             (init_read self.old late address value) }
     {

@@ -1,4 +1,4 @@
-use Rattle.std.proofs.Common.{◌≡◌, ℕ, ◌+◌, ◌∙◌, length, arith, subst, List}
+use Rattle.std.proofs.Common.{ℕ, arith, subst, List}
 use Rattle.memory_models.specs.declared.kinds.Operation.{Operation}
 use Rattle.memory_models.specs.declared.kinds.Why.{Why}
 use Rattle.memory_models.specs.Arcs.{IsWhy}

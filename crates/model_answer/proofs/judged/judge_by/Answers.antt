@@ -1,5 +1,4 @@
-use Rattle.std.proofs.Common.{◌∙◌, subst}
-use Rattle.memory_models.specs.declared.kinds.Rule.{Rule}
+use Rattle.std.proofs.Common.{◌∙◌}
 use Rattle.model_answer.proofs.Asked.{chained_so}
 use Rattle.model_answer.proofs.judged.judge_by.Goals as goal
 

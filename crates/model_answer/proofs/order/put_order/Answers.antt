@@ -1,5 +1,4 @@
-use Rattle.std.proofs.Common.{◌≡◌, ◌<◌, ◌∙◌, ◌++◌, ap, arith, length, List, ℕ}
-use Rattle.std.specs.List.{flat_map, range_with_len}
+use Rattle.std.proofs.Common.{◌≡◌, ◌<◌, ◌∙◌, ◌++◌, ap, arith, length, ℕ}
 use Rattle.model_text.specs.Traces.{place_in}
 use Rattle.model_text.proofs.Growing.{same_read}
 use Rattle.model_answer.specs.Texts.{turn_line}
