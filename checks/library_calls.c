@@ -592,8 +592,8 @@ static void traces_are_refused(void) {
   for (uint32_t at = 0; at < 65; at++) events[at] = issued(at, TORUSMEM_STORE, 0, at);
   MUST(says(torusmem_linearize(&word, 1, events, 64, 1, order, 70), TORUSMEM_OK, 0));
   MUST(says(torusmem_linearize(&word, 1, events, 65, 1, order, 70), TORUSMEM_OK, 0));
-  for (uint32_t at = 0; at < 65; at++) events[at] = issued(at, TORUSMEM_ADD, 0, 1);
-  events[65] = issued(65, TORUSMEM_LOAD, 0, 0), events[66] = found(65, 0, 9);
+  for (uint32_t at = 0; at < 65; at++) events[at] = issued(at, TORUSMEM_OR, 0, 1);
+  events[65] = issued(65, TORUSMEM_LOAD, 0, 0), events[66] = found(65, 0, 1);
   MUST(says(torusmem_linearize(&word, 1, events, 67, 1, order, 70), TORUSMEM_TOO_OPEN, 64));
   for (uint32_t at = 0; at < 4; at++) events[at] = issued(at, TORUSMEM_ADD, 0, 1);
   events[4] = found(0, 0, 1), events[5] = found(1, 0, 0), events[6] = found(2, 0, 2), events[7] = found(3, 0, 3);

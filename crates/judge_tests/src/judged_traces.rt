@@ -235,35 +235,31 @@ fn traces_are_judged(rt: HostRuntime) {
     assert!(rt; first_unlike(rt.alloc(), &TRACES).is_none());
 }
 
-/// A sum at address 0 that is answered while so many others are pending at this address.
-fn beside_pending_sums(
-    alloc: Global,
-    count: u64,
-    address: u32,
-    bound: usize,
-) -> Result<Seen, AllocError> {
+/// A load that finds 1, behind so many operations that are never answered, of which one at least has to have
+/// taken effect.
+fn behind_pending(alloc: Global, count: u64) -> Result<Seen, AllocError> {
     let mut events = Vec::new(alloc);
-    events.push(issue(0, 0, Op::Add(1)))?;
     for other in 0..count {
-        events.push(issue(other + 1, address, Op::Add(1)))?;
+        events.push(issue(other, 1, Op::Or(1)))?;
     }
-    events.push(read(0, 0))?;
-    Ok(verdict_on(alloc, &events, bound))
+    events.push(issue(count, 1, Op::Load))?;
+    events.push(read(count, 1))?;
+    Ok(verdict_on(alloc, &events, 1000))
 }
 
 #[test]
 fn bounds_are_kept(rt: HostRuntime) -> Result<(), Fail> {
     let alloc = rt.alloc();
-    // On another word 64 operations are open at once, and one more.
-    let most = beside_pending_sums(alloc, 64, 1, 1000)?;
-    let more = beside_pending_sums(alloc, 65, 1, 1000)?;
-    // Of three others each may have taken effect or not, or only the answered one has: nine configurations.
-    let nine = beside_pending_sums(alloc, 3, 0, 9)?;
-    let eight = beside_pending_sums(alloc, 3, 0, 8)?;
-    let undecided = Seen::Not(Undecided::Operations { event: 65 });
-    assert!(rt; is_same(most, Seen::Yes(1)) && is_same(more, undecided));
+    // Of one word 64 operations are open at once, and one more.
+    let most = behind_pending(alloc, 64)?;
+    let more = behind_pending(alloc, 65)?;
+    // Before the first answer its sum has taken effect or not: two configurations.
+    let two = open_at_once(alloc, 0, 4, 2)?;
+    let one = open_at_once(alloc, 0, 4, 1)?;
+    let undecided = Seen::Not(Undecided::Operations { event: 64 });
+    assert!(rt; is_same(most, Seen::Yes(2)) && is_same(more, undecided));
     let undecided = Seen::Not(Undecided::Configurations { event: 4 });
-    assert!(rt; is_same(nine, Seen::Yes(1)) && is_same(eight, undecided));
+    assert!(rt; is_same(two, Seen::Yes(4)) && is_same(one, undecided));
     Ok(())
 }
 
@@ -284,7 +280,12 @@ fn lose_loads(
 
 /// So many sums at one address, all of which are open until they are answered in turn, behind so many
 /// loads there that are never answered.
-fn open_at_once(alloc: Global, lost: u64, count: u64) -> Result<Seen, AllocError>
+fn open_at_once(
+    alloc: Global,
+    lost: u64,
+    count: u64,
+    bound: usize,
+) -> Result<Seen, AllocError>
     requires lost { lost < 1000 }
     requires count { count < 1000 }
 {
@@ -296,18 +297,18 @@ fn open_at_once(alloc: Global, lost: u64, count: u64) -> Result<Seen, AllocError
     for other in 0..count {
         events.push(read(lost + other, other))?;
     }
-    Ok(verdict_on(alloc, &events, 1000))
+    Ok(verdict_on(alloc, &events, bound))
 }
 
 #[test]
 fn open_operations_up_to_the_limits(rt: HostRuntime) -> Result<(), Fail> {
     let alloc = rt.alloc();
     // What is answered later has 64 slots, and loads that never are need none.
-    let most = open_at_once(alloc, 0, 64)?;
-    let more = open_at_once(alloc, 0, 65)?;
-    let both = open_at_once(alloc, 64, 64)?;
-    let lost = open_at_once(alloc, 65, 1)?;
-    let answered = open_at_once(alloc, 64, 65)?;
+    let most = open_at_once(alloc, 0, 64, 1000)?;
+    let more = open_at_once(alloc, 0, 65, 1000)?;
+    let both = open_at_once(alloc, 64, 64, 1000)?;
+    let lost = open_at_once(alloc, 65, 1, 1000)?;
+    let answered = open_at_once(alloc, 64, 65, 1000)?;
     assert!(rt; is_same(most, Seen::Yes(64)) && is_same(both, Seen::Yes(64)));
     let undecided = Seen::Not(Undecided::Operations { event: 64 });
     assert!(rt; is_same(more, undecided) && is_same(lost, Seen::Yes(1)));

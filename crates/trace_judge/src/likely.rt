@@ -103,8 +103,8 @@ fn guessed<A: Allocator + Copy>(
     Ok(likely)
 }
 
-/// A trace that likely has an order, if the trace does. Operations of which no answer shows whether they took
-/// effect are left out of it, if so asked.
+/// A trace that likely has an order, if the trace does. Operations that are never answered and of which it is
+/// unclear whether they took effect may do so in it; or that is guessed too, if so asked.
 pub fn likely<A: Allocator + Copy>(
     alloc: A,
     opening: &[u64],
@@ -114,6 +114,6 @@ pub fn likely<A: Allocator + Copy>(
     requires { IsTrace (length opening.now) events.now }
     ensures { IfOk result (λ v. IsLikely events.now events.now v.items) }
 {
-    let guess = guess_of(alloc, events, unclear)?;
+    let guess = guess_of(alloc, opening, events, unclear)?;
     guessed(alloc, opening, events, &guess)
 }

@@ -3,6 +3,7 @@
 ghost use Rattle.std.specs.Prelude.{◌≡◌, ◌<◌, ◌≤◌, true, ℕ, IfOk, length};
 
 use crate::reading::{issue_of, promise_of};
+use crate::sums::{Shown, Sums, shown_sums};
 use packet::{Op, Reply};
 use std::alloc::{AllocError, Allocator};
 use trace_laws::{Call, Event};
@@ -22,6 +23,8 @@ enum Sight {
 pub struct Guess<A: Allocator> {
     pub left: Vec<bool, A>,
     pub behind: Vec<Option<(u64, Reply)>, A>,
+    /// The sums that were looked at together.
+    pub summed: Vec<Sums, A>,
 }
 
 /// The word that an operation leaves, if that is one word.
@@ -102,9 +105,51 @@ impl<A: Allocator + Copy> Guess<A> {
         }
     }
 
-    /// Guesses of an operation that is issued at event k and never answered; what is unclear never takes
-    /// effect, if so asked.
-    fn look(&mut self, events: &[Event], k: usize, call: Call, unclear: bool) {
+    /// Whether the sums of a number at an address were looked at.
+    fn has_summed(&self, address: u32, number: u64) -> bool {
+        for i in 0..self.summed.len() {
+            if self.summed[i].address == address && self.summed[i].number == number {
+                return true;
+            }
+        }
+        false
+    }
+
+    /// Notes what is guessed of a sum.
+    fn note_sum(&mut self, sum: Shown) {
+        match sum.event {
+            Some(event) => note(&mut self.behind, event, sum.id, sum.reply),
+            None => self.leave_out(sum.issue),
+        }
+    }
+
+    /// Guesses of the sums of a number at an address that are never answered.
+    fn sum_up(
+        &mut self,
+        alloc: A,
+        opening: &[u64],
+        events: &[Event],
+        address: u32,
+        number: u64,
+    ) -> Result<(), AllocError> {
+        if self.has_summed(address, number) {
+            return Ok(());
+        }
+        let sums = Sums {
+            address,
+            number,
+            first: opening.get(address as usize).copied().unwrap_or(0),
+        };
+        self.summed.push(sums)?;
+        let shown = shown_sums(alloc, events, sums)?;
+        for i in 0..shown.len() {
+            self.note_sum(shown[i]);
+        }
+        Ok(())
+    }
+
+    /// Guesses of an operation that is issued at event k and never answered.
+    fn look(&mut self, events: &[Event], k: usize, call: Call) -> Sight {
         let sight = match left_word(call.operation.op) {
             Some(word) => sight_of(events, k, call, word),
             None => Sight::Unclear,
@@ -115,32 +160,42 @@ impl<A: Allocator + Copy> Guess<A> {
                 Some(reply) => note(&mut self.behind, event, call.id, reply),
                 None => {}
             },
-            Sight::Unclear => {
-                if unclear {
-                    self.leave_out(k);
-                }
-            }
+            Sight::Unclear => {}
         }
+        sight
     }
 }
 
 /// Guesses of each operation that is never answered: where its word is told, it has taken effect by then, and
-/// is answered there; where it is told nowhere, it never does; and where that is unclear, it may, unless asked
-/// otherwise.
+/// is answered there; where it is told nowhere, it never does. Where that is unclear, it may; or, if asked so,
+/// sums of one number take effect one after the other as words show, and others never do.
 pub fn guess_of<A: Allocator + Copy>(
     alloc: A,
+    opening: &[u64],
     events: &[Event],
     unclear: bool,
 ) -> Result<Guess<A>, AllocError> {
     let mut guess = Guess {
         left: vec![in alloc; false; events.len()]?,
         behind: vec![in alloc; None; events.len()]?,
+        summed: Vec::new(alloc),
     };
     for k in 0..events.len() {
         if let Event::Issue(call) = events[k]
             && promise_of(events, k + 1, call.id).is_none()
+            && let Sight::Unclear = guess.look(events, k, call)
+            && unclear
         {
-            guess.look(events, k, call, unclear);
+            match call.operation.op {
+                Op::Add(number) => guess.sum_up(
+                    alloc,
+                    opening,
+                    events,
+                    call.operation.address,
+                    number,
+                )?,
+                _ => guess.leave_out(k),
+            }
         }
     }
     Ok(guess)
