@@ -2,12 +2,12 @@ use crate::jobs::{
     CHANNELS, DATED, Job, OBLONG, PAIR, REPORT, SCRIPT, SQUARE, STEPS, Sink, done, is_good,
     line_count, says, writes,
 };
-use commands::{ProgramFault, channel_count, put_numbers, round_text};
+use commands::{ProgramFault, round_text};
 use linked_list_allocator::LocalHeap;
 use report_lines::Piped;
 use std::alloc::{AllocError, Allocator, Global};
 use std::test::Fail;
-use torus::{Class, Fault, Torus};
+use torus::{Class, Fault};
 
 /// Commands that write a text and end well; the routes of requests and replies, with and without a
 /// hop over the dateline, whose place may be stated.
@@ -85,77 +85,6 @@ fn first_unwritten(alloc: Global, jobs: &[(Job<'static>, &'static str)]) -> Opti
 fn commands_write_their_texts(rt: HostRuntime) {
     let unwritten = first_unwritten(rt.alloc(), &WRITTEN);
     assert!(rt; unwritten.is_none(), "{}", unwritten.unwrap_or(""));
-}
-
-/// Numbers of all channels of two tiles, and whether they rise along every route: those that `channels`
-/// prints; with other gaps between them; all alike; with an injection that is above the hop behind it,
-/// and an ejection that is below the hop ahead of it.
-const NUMBERS: [([u32; 24], bool); 5] = [
-    (
-        [
-            1, 4, 7, 10, 2, 3, 8, 9, 0, 6, 5, 11, 2, 3, 8, 9, 1, 4, 7, 10, 0, 6, 5, 11,
-        ],
-        true,
-    ),
-    (
-        [
-            10, 40, 70, 100, 20, 30, 80, 90, 0, 60, 50, 110, 20, 30, 80, 90, 10, 40, 70, 100, 0,
-            60, 50, 110,
-        ],
-        true,
-    ),
-    ([0; 24], false),
-    (
-        [
-            1, 4, 7, 10, 2, 3, 8, 9, 5, 6, 5, 11, 2, 3, 8, 9, 1, 4, 7, 10, 0, 6, 5, 11,
-        ],
-        false,
-    ),
-    (
-        [
-            1, 4, 7, 10, 2, 3, 8, 9, 0, 6, 5, 11, 2, 3, 8, 9, 1, 4, 7, 10, 0, 6, 5, 0,
-        ],
-        false,
-    ),
-];
-
-/// The lines of numbers of all channels of two tiles, and `rising` behind them or not.
-fn numbers_text(alloc: Global, numbers: &[u32], is_rising: bool) -> Result<String, AllocError> {
-    let mut text = String::new(alloc);
-    for (index, number) in numbers.iter().enumerate() {
-        writeln!(text, "channel {} {} {number}", index / 12, index % 12)?;
-    }
-    if is_rising {
-        text.push_str("rising\n")?;
-    }
-    Ok(text)
-}
-
-/// Whether numbers are written, and that they rise or not.
-fn puts_numbers(
-    alloc: Global,
-    torus: &Torus,
-    numbers: &[u32],
-    is_rising: bool,
-) -> Result<bool, AllocError> {
-    if numbers.len() != channel_count(torus) as usize {
-        return Ok(false);
-    }
-    let mut sink = Sink::whole();
-    let is_put = put_numbers(&mut sink, torus, numbers).is_ok();
-    let text = numbers_text(alloc, numbers, is_rising)?;
-    Ok(is_put && sink.bytes.as_slice() == text.as_bytes())
-}
-
-/// It is said that numbers rise exactly where they do, whatever numbers they are.
-#[test]
-fn rising_is_said_where_numbers_rise(rt: HostRuntime) -> Result<(), Fail> {
-    let torus = Torus::new(2, 1)?;
-    for (numbers, is_rising) in &NUMBERS {
-        let is_put = puts_numbers(rt.alloc(), &torus, numbers, *is_rising)?;
-        assert!(rt; is_put);
-    }
-    Ok(())
 }
 
 /// Jobs with the texts that they write, and in how many puts; and budgets of memory for them, of

@@ -1,8 +1,6 @@
-use crate::jobs::{Job, PAIR, printed, refuses, says};
-use commands::{ProgramFault, status_of};
-use script::LineFault;
+use crate::jobs::{Job, PAIR, refuses};
 use std::alloc::Global;
-use torus::{Class, Fault};
+use torus::Class;
 
 /// Texts of which one has a first fault: the machine, the scripts and the steps; what is printed of the
 /// fault; and what is wrong. A fault of the machine comes before one of the scripts, and that before one
@@ -227,56 +225,4 @@ fn first_unrefused(alloc: Global, jobs: &[(Job<'static>, &'static str)]) -> Opti
 fn commands_refuse(rt: HostRuntime) {
     let unrefused = first_unrefused(rt.alloc(), &REFUSALS);
     assert!(rt; unrefused.is_none(), "{}", unrefused.unwrap_or(""));
-}
-
-/// Answers, their statuses and what is printed of their faults.
-const ANSWERS: [(Result<bool, ProgramFault>, u8, &str); 8] = [
-    (Ok(true), 0, ""),
-    (Ok(false), 3, ""),
-    (
-        Err(ProgramFault::Line(LineFault {
-            fault: Fault::Address,
-            line: 1,
-        })),
-        1,
-        "fault F7 at line 1",
-    ),
-    (
-        Err(ProgramFault::Line(LineFault {
-            fault: Fault::Step,
-            line: u64::MAX,
-        })),
-        1,
-        "fault F11 at line 18446744073709551615",
-    ),
-    (Err(ProgramFault::Fault(Fault::Memory)), 1, "fault F12"),
-    (Err(ProgramFault::Output), 4, "output failed"),
-    (Err(ProgramFault::Tile), 2, "tile out of range"),
-    (Err(ProgramFault::Bad(4)), 1, "bad report at line 4"),
-];
-
-/// The first of some answers that has another status, or of which something else is printed.
-fn first_with_other_status(
-    answers: &[(Result<bool, ProgramFault>, u8, &'static str)],
-) -> Option<&'static str> {
-    for (answer, status, text) in answers {
-        if status_of(answer) != *status || printed(answer).as_str() != *text {
-            return Some(text);
-        }
-    }
-    None
-}
-
-/// A fault of memory that is found while a text is read is told without its line.
-fn unread() -> ProgramFault {
-    ProgramFault::from(LineFault {
-        fault: Fault::Memory,
-        line: 0,
-    })
-}
-
-#[test]
-fn answers_have_statuses(rt: HostRuntime) {
-    assert!(rt; first_with_other_status(&ANSWERS).is_none());
-    assert!(rt; says(&Err(unread()), "fault F12"));
 }

@@ -1,4 +1,4 @@
-//! Tests of the machine and of its parts, by their public calls: shapes, packets, channels, tags,
+//! Tests of the machine and of its parts, by their public calls: shapes, packets, channels,
 //! followers, banks, routers, processors and whole machines. They stand in a crate of their own, since a crate
 //! with tests is proved twice.
 #![tactic(auto)]
@@ -29,5 +29,3 @@ mod routers;
 mod service_lists;
 #[cfg(test)]
 mod shapes;
-#[cfg(test)]
-mod tags;

@@ -1,4 +1,3 @@
-use std::process::Abort;
 use std::test::Fail;
 use torus::{Dir, Fault, Torus};
 
@@ -98,49 +97,4 @@ fn dimensions_have_radices_datelines_and_digits(rt: HostRuntime) -> Result<(), F
     let pair = Torus::new(2, 1)?;
     assert!(rt; pair.tiles() == 2 && pair.home(5) == (1, 2) && pair.home(0) == (0, 0));
     Ok(())
-}
-
-/// The code of a refusal; none where the torus is made.
-fn code_of(made: Result<Torus, Fault>) -> &'static str {
-    match made {
-        Ok(_) => "",
-        Err(fault) => fault.code(),
-    }
-}
-
-/// Looks for a refusal.
-fn refused<R: Abort>(rt: &R, made: Result<Torus, Fault>, code: &str) {
-    assert!(rt; code_of(made) == code, "{code}");
-}
-
-#[test]
-fn radices_and_dimensions_are_refused(rt: HostRuntime) {
-    refused(&rt, Torus::new(1, 1), "F1");
-    refused(&rt, Torus::new(9, 1), "F1");
-    refused(&rt, Torus::new(2, 0), "F2");
-    refused(&rt, Torus::new(2, 4), "F2");
-    refused(&rt, Torus::new(5, 3), "F3");
-    refused(&rt, Torus::new(0, 0), "F1");
-    refused(&rt, Torus::new(u32::MAX, u32::MAX), "F1");
-}
-
-/// Lists of radices and of datelines that are refused, each with its first fault.
-const REFUSED: [(&[u32], &[u32], &str); 10] = [
-    (&[], &[], "F2"),
-    (&[2, 2, 2, 2], &[1, 1, 1, 1], "F2"),
-    (&[2, 9], &[1, 1], "F1"),
-    (&[8, 8, 2], &[1, 1, 1], "F3"),
-    (&[2, 4], &[1], "F13"),
-    (&[4], &[4], "F14"),
-    (&[9, 9, 9, 9], &[], "F2"),
-    (&[u32::MAX, u32::MAX, 8], &[], "F1"),
-    (&[8, 8, 8], &[], "F3"),
-    (&[2, 4], &[9], "F13"),
-];
-
-#[test]
-fn lists_are_refused(rt: HostRuntime) {
-    for &(radices, datelines, code) in &REFUSED {
-        refused(&rt, Torus::mixed(radices, datelines), code);
-    }
 }
