@@ -156,6 +156,7 @@ goes_by s r next false (Some key.Reply) ws plain made =
 goes_by s r next false (Some key.Router) ws plain made = absurd (cc)
 goes_by s r next false (Some key.Link) ws plain made = absurd (cc)
 goes_by s r next false (Some key.Name) ws plain made = absurd (cc)
+goes_by s r next false (Some key.Escape) ws plain made = absurd (cc)
 
 pub goes : (s : List GivenNames) (r next : Reading) (ws : List (List ℕ)) → words_name ws ≡ false → after_words r ws ≡ Ok next
     → Goes s (after_words (forget s r) ws) next

@@ -37,10 +37,12 @@ at_line (reason.NotRouter p) n = inr refl
 at_line reason.RouterTwice n = inr refl
 at_line reason.LinkTwice n = inr refl
 at_line reason.NameTwice n = inr refl
+at_line reason.SameChoice n = inr refl
+at_line reason.EscapeTwice n = inr refl
 at_line reason.Memory n = inl refl
 
 -- the refusal of a line is what the reader answers
-pub refused_at : (e : NetworkReason) (n : ℕ) (got : Refusal NetworkReason) (all : Result NetworkSpec (Refusal NetworkReason))
+pub refused_at : {N : Type 0} (e : NetworkReason) (n : ℕ) (got : Refusal NetworkReason) (all : Result N (Refusal NetworkReason))
     → got ≡ refusal_at (line_of_fault (network_fault_of e) n) e → (e ≡ reason.Memory) ⊎ (all ≡ Err (refusal_at n e))
     → (got ≡ refusal_at 0 reason.Memory) ⊎ (all ≡ Err got)
 refused_at e n got all is found =

@@ -68,6 +68,7 @@ first_six r (Some key.Reply) ws = two_six key.Reply (after_reply r) ws
 first_six r (Some key.Router) ws = router_six (after_router r) ws
 first_six r (Some key.Link) ws = link_six (after_link r) ws
 first_six r (Some key.Name) ws = name_six (after_name r) ws
+first_six r (Some key.Escape) ws = refl
 
 pub words_seven : (r : Reading) (ws : List (List ℕ)) → after_words r (take 7 ws) ≡ after_words r ws
 words_seven r [] = refl

@@ -10,28 +10,36 @@ use Rattle.network_text.specs.declared.before.Wanted.TheVariants as wanted
 use Rattle.network_text.specs.declared.reason.Keyword.{Keyword}
 use Rattle.network_text.specs.declared.reason.Keyword.TheVariants.{Channels, Inject, Eject}
 use Rattle.network_text.specs.declared.reason.Keyword.TheVariants.{Next, Reply, Router}
-use Rattle.network_text.specs.declared.reason.Keyword.TheVariants.{Link, Name}
+use Rattle.network_text.specs.declared.reason.Keyword.TheVariants.{Link, Name, Escape}
 use Rattle.network_text.specs.declared.reason.NetworkReason.{NetworkReason}
 use Rattle.network_text.specs.declared.reason.NetworkReason.TheVariants as reason
 use Rattle.network_text.specs.Reasons.{network_keyword_of}
 
+-- the number that the third of some words spells
+abbrev pub third_index : List (List ℕ) → ℕ
+third_index [] = 0
+third_index (a ∷ []) = 0
+third_index (a ∷ b ∷ more) = second_index (b ∷ more)
+
 -- whether a line of a keyword and these first numbers gives what is wanted
-abbrev pub numbers_give : Wanted → Keyword → ℕ → ℕ → Bool
-numbers_give wanted.Channels Channels a b = true
-numbers_give (wanted.Kind x) Inject a b = a == x
-numbers_give (wanted.Kind x) Eject a b = a == x
-numbers_give wanted.Next Next a b = true
-numbers_give (wanted.Choice x j) Next a b = (a == x) && (b == j)
-numbers_give (wanted.Reply x y) Reply a b = (a == x) && (b == y)
-numbers_give (wanted.Router r) Router a b = a == r
-numbers_give (wanted.Link x) Link a b = a == x
-numbers_give (wanted.Name x) Name a b = a == x
-numbers_give _ _ a b = false
+abbrev pub numbers_give : Wanted → Keyword → ℕ → ℕ → ℕ → Bool
+numbers_give wanted.Channels Channels a b c = true
+numbers_give (wanted.Kind x) Inject a b c = a == x
+numbers_give (wanted.Kind x) Eject a b c = a == x
+numbers_give wanted.Next Next a b c = true
+numbers_give (wanted.Choice x j) Next a b c = (a == x) && (b == j)
+numbers_give (wanted.Reply x y) Reply a b c = (a == x) && (b == y)
+numbers_give (wanted.Router r) Router a b c = a == r
+numbers_give (wanted.Link x) Link a b c = a == x
+numbers_give (wanted.Name x) Name a b c = a == x
+numbers_give (wanted.Same x j y) Next a b c = (a == x) && ((b == j) && (c == y))
+numbers_give (wanted.Escape x) Escape a b c = a == x
+numbers_give _ _ a b c = false
 
 -- whether a line of a keyword gives what is wanted
 abbrev pub keyword_gives : Wanted → Keyword → List (List ℕ) → Bool
 keyword_gives w keyword values =
-    numbers_give w keyword (first_index values) (second_index values)
+    numbers_give w keyword (first_index values) (second_index values) (third_index values)
 
 -- whether a line does whose first word may be a keyword
 abbrev pub word_gives : Wanted → Option Keyword → List (List ℕ) → Bool
@@ -56,6 +64,9 @@ wanted_of reason.ReplyTwice values =
 wanted_of reason.RouterTwice values = Some (wanted.Router (first_index values))
 wanted_of reason.LinkTwice values = Some (wanted.Link (first_index values))
 wanted_of reason.NameTwice values = Some (wanted.Name (first_index values))
+wanted_of reason.SameChoice values =
+    Some (wanted.Same (first_index values) (second_index values) (third_index values))
+wanted_of reason.EscapeTwice values = Some (wanted.Escape (first_index values))
 wanted_of _ values = None
 
 -- the number of the first line before the line `stop` that gave what is wanted; 0 where none did

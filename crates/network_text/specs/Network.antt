@@ -110,6 +110,15 @@ begun r = if r.begun then r else started r
 abbrev pub cell_of : Reading → ℕ → ℕ → ℕ
 cell_of r x j = x * columns_of r.table + column_of r.table j
 
+-- the place of the choice behind a channel for packets to an ejection channel, where one is given
+abbrev pub taken_cell : Reading → ℕ → ℕ → Option ℕ
+taken_cell r x j =
+    if not r.begun then None
+    else (if not (nat_lt x (count_of r)) then None
+    else (if not (is_receiver (slice_get r.table.kinds j)) then None
+    else (if slice_index r.table.choices (cell_of r x j) == count_of r then None
+    else Some (cell_of r x j))))
+
 -- the choice at a place is given once
 abbrev pub after_choice : Reading → ℕ → ℕ → Result Reading NetworkReason
 after_choice r cell y =
@@ -190,7 +199,7 @@ after_name r x = unless (lacks r 1 x)
       name = true;
     })))
 
--- what a line of a keyword and these words makes of it
+-- what a line of a keyword and these words makes of it; no line of escapes is one of fixed routes
 abbrev pub after_keyword : Reading → Keyword → List (List ℕ) → Result Reading NetworkReason
 after_keyword r key.Channels values = after_one key.Channels (after_channels r) values
 after_keyword r key.Inject values = after_one key.Inject (after_inject r) values
@@ -201,6 +210,7 @@ after_keyword r key.Reply values = after_two key.Reply (after_reply r) values
 after_keyword r key.Router values = after_router_words (after_router r) values
 after_keyword r key.Link values = after_link_words (after_link r) values
 after_keyword r key.Name values = after_name_words (after_name r) values
+after_keyword r key.Escape values = Err reason.UnknownKeyword
 
 -- what a line makes of it whose first word may be a keyword
 abbrev pub after_first : Reading → Option Keyword → List (List ℕ) → Result Reading NetworkReason

@@ -7,7 +7,7 @@ use Rattle.torus.specs.declared.fault.Fault.TheVariants as fault
 use Rattle.network_text.specs.declared.reason.Keyword.{Keyword}
 use Rattle.network_text.specs.declared.reason.Keyword.TheVariants.{Channels, Inject, Eject, Join}
 use Rattle.network_text.specs.declared.reason.Keyword.TheVariants.{Next, Reply, Router}
-use Rattle.network_text.specs.declared.reason.Keyword.TheVariants.{Link, Name}
+use Rattle.network_text.specs.declared.reason.Keyword.TheVariants.{Link, Name, Escape}
 use Rattle.network_text.specs.declared.reason.NetworkReason.{NetworkReason}
 use Rattle.network_text.specs.declared.reason.NetworkReason.TheVariants as reason
 
@@ -35,6 +35,8 @@ network_fault_of (reason.NotRouter place) = fault.Range
 network_fault_of reason.RouterTwice = fault.Setting
 network_fault_of reason.LinkTwice = fault.Setting
 network_fault_of reason.NameTwice = fault.Setting
+network_fault_of reason.SameChoice = fault.Setting
+network_fault_of reason.EscapeTwice = fault.Setting
 network_fault_of reason.Memory = fault.Memory
 
 -- the keyword that a word spells
@@ -49,4 +51,5 @@ network_keyword_of word =
     else (if bytes_eq word (codes "router") then Some Router
     else (if bytes_eq word (codes "link") then Some Link
     else (if bytes_eq word (codes "name") then Some Name
-    else None))))))))
+    else (if bytes_eq word (codes "escape") then Some Escape
+    else None)))))))))

@@ -53,7 +53,10 @@ pub fn judge_network<A: Allocator + Copy>(
 /// Judges a network, and makes the text of what is judged.
 ///
 /// Errors: memory.
-fn answered<A: Allocator + Copy>(alloc: A, network: &Network<A>) -> Result<Answer<A>, AllocError>
+pub fn answered<A: Allocator + Copy>(
+    alloc: A,
+    network: &Network<A>,
+) -> Result<Answer<A>, AllocError>
     ensures { IfOk result (Tells network.now) }
 {
     let verdict = judge_network(alloc, network)?;

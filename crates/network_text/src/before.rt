@@ -2,7 +2,7 @@
 
 ghost use Rattle.std.specs.Prelude.{◌≡◌, map};
 ghost use Rattle.std.specs.Str.Lines.{lines};
-ghost use Rattle.network_text.specs.Before.{numbers_give, keyword_gives, wanted_of};
+ghost use Rattle.network_text.specs.Before.{numbers_give, keyword_gives, third_index, wanted_of};
 ghost use Rattle.network_text.specs.Before.{line_giving, earlier_by_words, earlier_line};
 
 use crate::reason::{Keyword, NetworkReason};
@@ -27,6 +27,21 @@ pub(crate) enum Wanted {
     Link(u32),
     /// The name of a channel.
     Name(u32),
+    /// This choice behind a channel for packets to an ejection channel.
+    Same(u32, u32, u32),
+    /// That a channel is an escape.
+    Escape(u32),
+}
+
+/// The number that the third of some words spells.
+fn third_index(words: &[&[u8]]) -> u32
+    ensures { result ≡ third_index (map (λ word. word.now) words.now) }
+{
+    match words {
+        [] => 0,
+        [_] => 0,
+        [_, more @ ..] => second_index(more),
+    }
 }
 
 impl Sought for Wanted {
@@ -50,12 +65,17 @@ impl Wanted {
     fn keyword_gives(self, keyword: Keyword, values: &[&[u8]]) -> bool
         ensures { result ≡ keyword_gives self keyword (map (λ value. value.now) values.now) }
     {
-        self.numbers_give(keyword, first_index(values), second_index(values))
+        self.numbers_give(
+            keyword,
+            first_index(values),
+            second_index(values),
+            third_index(values),
+        )
     }
 
     /// Whether a line of a keyword and these first numbers gives it.
-    fn numbers_give(self, keyword: Keyword, a: u32, b: u32) -> bool
-        ensures { result ≡ numbers_give self keyword a b }
+    fn numbers_give(self, keyword: Keyword, a: u32, b: u32, c: u32) -> bool
+        ensures { result ≡ numbers_give self keyword a b c }
     {
         match keyword {
             Keyword::Channels => match self {
@@ -74,6 +94,7 @@ impl Wanted {
             Keyword::Next => match self {
                 Wanted::Next => true,
                 Wanted::Choice(x, j) => a == x && b == j,
+                Wanted::Same(x, j, y) => a == x && (b == j && c == y),
                 _ => false,
             },
             Keyword::Reply => match self {
@@ -90,6 +111,10 @@ impl Wanted {
             },
             Keyword::Name => match self {
                 Wanted::Name(x) => a == x,
+                _ => false,
+            },
+            Keyword::Escape => match self {
+                Wanted::Escape(x) => a == x,
                 _ => false,
             },
         }
@@ -112,6 +137,8 @@ fn wanted_of(reason: NetworkReason, values: &[&[u8]]) -> Option<Wanted>
         NetworkReason::RouterTwice => Some(Wanted::Router(a)),
         NetworkReason::LinkTwice => Some(Wanted::Link(a)),
         NetworkReason::NameTwice => Some(Wanted::Name(a)),
+        NetworkReason::SameChoice => Some(Wanted::Same(a, b, third_index(values))),
+        NetworkReason::EscapeTwice => Some(Wanted::Escape(a)),
         _ => None,
     }
 }

@@ -7,13 +7,13 @@ pub mod answer;
 pub mod before;
 pub mod jam;
 pub mod laws;
-mod lines;
+pub mod lines;
 mod naming;
 pub mod network;
-mod reading;
+pub mod reading;
 pub mod reason;
 pub mod sentence;
-mod taking;
+pub mod taking;
 pub mod verdict;
 
 pub use answer::{Answer, judge_network, network_answer};

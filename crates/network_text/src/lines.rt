@@ -16,7 +16,7 @@ use lexer::index;
 use std::alloc::Allocator;
 
 /// The number that a word spells where one belongs, of the word at this place of its line.
-pub(crate) fn number_at(place: u32, word: &[u8]) -> Result<u32, NetworkReason>
+pub fn number_at(place: u32, word: &[u8]) -> Result<u32, NetworkReason>
     ensures { result ≡ number_at place word.now }
 {
     match index(word) {
@@ -85,7 +85,9 @@ fn three_indexes(keyword: Keyword, values: &[&[u8]]) -> Result<(u32, u32, u32), 
 
 impl<A: Allocator + Copy> Reading<A> {
     /// Takes what the words of a line give.
-    pub(crate) fn take(&mut self, alloc: A, words: &[&[u8]]) -> Result<(), NetworkReason>
+    ///
+    /// Errors: why the line is refused.
+    pub fn take(&mut self, alloc: A, words: &[&[u8]]) -> Result<(), NetworkReason>
         requires { IsRead self.old }
         ensures value { Makes NetworkReason.Memory (reading_of self.new) result
             (after_words (reading_of self.old) (map (λ word. word.now) words.now)) }
@@ -123,6 +125,7 @@ impl<A: Allocator + Copy> Reading<A> {
             Keyword::Router => self.router_line(alloc, values),
             Keyword::Link => self.link_line(alloc, values),
             Keyword::Name => self.name_line(alloc, values),
+            Keyword::Escape => Err(NetworkReason::UnknownKeyword),
         }
     }
 

@@ -12,10 +12,10 @@ use std::alloc::{AllocError, Allocator};
 /// Which names are given under a number: that of the router, the routers at the ends of the channel,
 /// and that of the channel.
 #[derive(Clone, Copy)]
-pub(crate) struct GivenNames {
-    pub(crate) router: bool,
-    pub(crate) link: bool,
-    pub(crate) name: bool,
+pub struct GivenNames {
+    pub router: bool,
+    pub link: bool,
+    pub name: bool,
 }
 
 /// No name.
@@ -27,21 +27,21 @@ pub(crate) const UNNAMED: GivenNames = GivenNames {
 
 /// What the lines of a network text gave so far.
 #[derive(Drop)]
-pub(crate) struct Reading<A: Allocator> {
+pub struct Reading<A: Allocator> {
     /// The kind of each channel; none before the number of channels is given.
-    pub(crate) kinds: Vec<Kind, A>,
-    pub(crate) joins: Vec<Join, A>,
-    pub(crate) replies: Vec<Reply, A>,
+    pub kinds: Vec<Kind, A>,
+    pub joins: Vec<Join, A>,
+    pub replies: Vec<Reply, A>,
     /// How many ejection channels there are.
-    pub(crate) ejections: usize,
+    pub ejections: usize,
     /// Whether a choice was given.
-    pub(crate) begun: bool,
+    pub begun: bool,
     /// The column of each channel, once a choice was given.
-    pub(crate) columns: Vec<usize, A>,
+    pub columns: Vec<usize, A>,
     /// The choices, once one was given; where there is none, the number of channels.
-    pub(crate) choices: Vec<u32, A>,
+    pub choices: Vec<u32, A>,
     /// Which names are given under each number below 16384; none before the first.
-    pub(crate) names: Vec<GivenNames, A>,
+    pub names: Vec<GivenNames, A>,
 }
 
 /// Whether a kind is that of hops.
@@ -69,7 +69,7 @@ pub(crate) fn has_reply(replies: &[Reply], from: usize, to: usize) -> bool
 
 impl<A: Allocator + Copy> Reading<A> {
     /// Nothing is given.
-    pub(crate) fn none(alloc: A) -> Reading<A>
+    pub fn none(alloc: A) -> Reading<A>
         ensures none { reading_of result ≡ nothing_read }
         ensures read { IsRead result }
     {
@@ -86,7 +86,7 @@ impl<A: Allocator + Copy> Reading<A> {
     }
 
     /// Why the word at this place names no channel, where it doesn't.
-    pub(crate) fn lacks(&self, place: u32, x: usize) -> Option<NetworkReason>
+    pub fn lacks(&self, place: u32, x: usize) -> Option<NetworkReason>
         ensures value { result ≡ lacks (reading_of self.now) place x }
         ensures there { IfNone result (x < length self.now.kinds.items) }
     {
@@ -107,7 +107,7 @@ impl<A: Allocator + Copy> Reading<A> {
     }
 
     /// Whether a channel is an ejection channel.
-    pub(crate) fn ejects(&self, x: usize) -> bool
+    pub fn ejects(&self, x: usize) -> bool
         ensures { result ≡ is_receiver (slice_get self.now.kinds.items x) }
     {
         is_receiver(kind_at(&self.kinds, x))
@@ -116,7 +116,7 @@ impl<A: Allocator + Copy> Reading<A> {
     /// Has choices, none yet behind any channel, if none was given.
     ///
     /// Errors: memory.
-    pub(crate) fn begin(&mut self, alloc: A) -> Result<(), AllocError>
+    pub fn begin(&mut self, alloc: A) -> Result<(), AllocError>
         requires read { IsRead self.old }
         requires given { 0 < length self.old.kinds.items }
         ensures value { OnOk result (reading_of self.new ≡ begun (reading_of self.old)) }

@@ -19,6 +19,7 @@ pub enum Keyword {
     Router,
     Link,
     Name,
+    Escape,
 }
 
 /// Why a line of a network text is refused. A word of the line is named by its place, from 0.
@@ -68,6 +69,10 @@ pub enum NetworkReason {
     LinkTwice,
     /// The name of the channel is given already.
     NameTwice,
+    /// The same choice behind the channel for the ejection channel is given already.
+    SameChoice,
+    /// The channel is made an escape already.
+    EscapeTwice,
     /// A request for memory was refused while the text was read.
     Memory,
 }
@@ -101,6 +106,8 @@ impl Reason for NetworkReason {
             NetworkReason::RouterTwice => Fault::Setting,
             NetworkReason::LinkTwice => Fault::Setting,
             NetworkReason::NameTwice => Fault::Setting,
+            NetworkReason::SameChoice => Fault::Setting,
+            NetworkReason::EscapeTwice => Fault::Setting,
             NetworkReason::Memory => Fault::Memory,
         }
     }
@@ -148,6 +155,9 @@ impl Keyword {
         }
         if word == b"name".as_slice() {
             return Some(Keyword::Name);
+        }
+        if word == b"escape".as_slice() {
+            return Some(Keyword::Escape);
         }
         None
     }

@@ -52,6 +52,7 @@ fn numbers_text(keyword: Keyword) -> &'static str {
         Keyword::Router => "stand a number, a name of one word, and a place of two numbers or none",
         Keyword::Link => "stand a channel, two routers, and a virtual channel or none",
         Keyword::Name => "stand a channel and one to four words",
+        Keyword::Escape => "stands one channel",
     }
 }
 
@@ -59,7 +60,7 @@ fn numbers_text(keyword: Keyword) -> &'static str {
 fn text_of(reason: NetworkReason) -> &'static str {
     match reason {
         NetworkReason::UnknownKeyword => {
-            "A: a line begins with channels, inject, eject, join, next, reply, router, link or name"
+            "A: a line begins with channels, inject, eject, join, next, escape, reply, router, link or name"
         }
         NetworkReason::NumberCount(_) => "A: behind it K",
         NetworkReason::NotNumber(_) => "W: a number belongs there",
@@ -86,6 +87,8 @@ fn text_of(reason: NetworkReason) -> &'static str {
         NetworkReason::RouterTwice => "router B: it is given at line N already",
         NetworkReason::LinkTwice => "link B: it is given at line N already",
         NetworkReason::NameTwice => "name B: it is given at line N already",
+        NetworkReason::SameChoice => "next B C W: it is given at line N already",
+        NetworkReason::EscapeTwice => "escape B: it is given at line N already",
         NetworkReason::Memory => "a request for memory was refused while it was read",
     }
 }
@@ -98,6 +101,7 @@ fn place_of(reason: NetworkReason) -> u32 {
         NetworkReason::NotEjection(place) => place,
         NetworkReason::NotInjection(place) => place,
         NetworkReason::NotRouter(place) => place,
+        NetworkReason::SameChoice => 3,
         _ => 0,
     }
 }

@@ -1,9 +1,10 @@
 //! What a line gives, by its numbers.
 
-ghost use Rattle.std.specs.Prelude.{◌<◌, length, OnOk};
+ghost use Rattle.std.specs.Prelude.{◌≡◌, ◌<◌, length, OnOk, IfSome};
 ghost use Rattle.lexer.specs.Outcome.{Makes};
 ghost use Rattle.network_text.specs.Network.{after_channels, after_inject, after_eject, after_join};
 ghost use Rattle.network_text.specs.Network.{after_choice, after_next, after_reply};
+ghost use Rattle.network_text.specs.Network.{taken_cell};
 ghost use Rattle.network_text.specs.Reading.{reading_of, IsRead};
 
 use crate::reading::{Reading, has_reply, is_hop};
@@ -103,6 +104,28 @@ impl<A: Allocator + Copy> Reading<A> {
             return Err(NetworkReason::Memory);
         }
         Ok(())
+    }
+
+    /// The place of the choice behind a channel for packets to an ejection channel, where one is given.
+    pub fn taken_cell(&self, x: usize, j: usize) -> Option<usize>
+        requires { IsRead self.now }
+        ensures value { result ≡ taken_cell (reading_of self.now) x j }
+        ensures within { IfSome result (λ cell. cell < length self.now.choices.items) }
+    {
+        if !self.begun {
+            return None;
+        }
+        if x >= self.kinds.len() {
+            return None;
+        }
+        if !self.ejects(j) {
+            return None;
+        }
+        let cell = x * self.ejections + self.columns[j];
+        if self.choices[cell] as usize == self.kinds.len() {
+            return None;
+        }
+        Some(cell)
     }
 
     /// Takes the choice at a place.

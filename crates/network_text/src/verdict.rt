@@ -10,7 +10,7 @@ use network_judge::{By, Link, NoRoute, Verdict, Why};
 use std::alloc::{AllocError, Allocator};
 
 /// Adds a text and a number.
-pub(crate) fn put_number<A: Allocator>(
+pub fn put_number<A: Allocator>(
     out: &mut Vec<u8, A>,
     before: &str,
     number: usize,
@@ -23,7 +23,7 @@ pub(crate) fn put_number<A: Allocator>(
 }
 
 /// Adds a text, a number, a text, a number and a text.
-pub(crate) fn put_pair<A: Allocator>(
+pub fn put_pair<A: Allocator>(
     out: &mut Vec<u8, A>,
     before: &str,
     a: usize,
@@ -54,7 +54,7 @@ pub(crate) fn put_why<A: Allocator>(out: &mut Vec<u8, A>, why: Why) -> Result<()
 }
 
 /// Adds the line of a pair without a route.
-fn put_no_route<A: Allocator>(out: &mut Vec<u8, A>, r: &NoRoute) -> Result<(), AllocError>
+pub fn put_no_route<A: Allocator>(out: &mut Vec<u8, A>, r: &NoRoute) -> Result<(), AllocError>
     ensures { OnOk result (out.new.items ≡ out.old.items ++ no_route_line r.now) }
 {
     put_pair(out, "no route ", r.join.from, " ", r.join.to, ": ")?;
@@ -63,7 +63,7 @@ fn put_no_route<A: Allocator>(out: &mut Vec<u8, A>, r: &NoRoute) -> Result<(), A
 }
 
 /// Adds the line of each channel with its number.
-fn put_numbers<A: Allocator>(out: &mut Vec<u8, A>, numbers: &[usize]) -> Result<(), AllocError>
+pub fn put_numbers<A: Allocator>(out: &mut Vec<u8, A>, numbers: &[usize]) -> Result<(), AllocError>
     ensures { OnOk result
         (out.new.items ≡ out.old.items
         ++ first_lines (number_line numbers.now) (length numbers.now)) }
@@ -90,7 +90,7 @@ fn put_by<A: Allocator>(
 }
 
 /// The place of a cycle of so many links that comes after a place.
-pub(crate) fn next_place(count: usize, k: usize) -> usize
+pub fn next_place(count: usize, k: usize) -> usize
     requires { k < count }
     ensures value { result ≡ next_place count k }
     ensures within { result < count }

@@ -34,7 +34,7 @@ fn first_untold(
 const WORDS: [(&str, &str); 9] = [
     (
         "channel 3\n",
-        "F4 n:1: channel: a line begins with channels, inject, eject, join, next, reply, router, link or name",
+        "F4 n:1: channel: a line begins with channels, inject, eject, join, next, escape, reply, router, link or name",
     ),
     (
         "channels\n",

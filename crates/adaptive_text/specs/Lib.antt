@@ -1,0 +1,4 @@
+pub mod Choosing
+pub mod Read
+pub mod Tables
+pub mod Printed
