@@ -3,8 +3,8 @@
 A cas that failed says that the word was another than the one it expected, and changes nothing. A trace text has no such
 reply. So the rest is judged first. Where there is an order of it, each failed cas is put between its operations, where its time
 allows and the word is another (which words of one key there are says the order alone: linearizability is local, Herlihy and
-Wing, TOPLAS 12(3), 1990, theorem 1). Where there is no such place, the values that the word can have there are asked of the
-program, and the trace is judged again with each of them as the reply.
+Wing, TOPLAS 12(3), 1990, theorem 1). Where there is no such place, tools/failed.py looks for a word that each of them found, and
+the trace is judged again with these as replies.
 """
 from __future__ import annotations
 
@@ -13,13 +13,13 @@ from dataclasses import dataclass, field
 from typing import Dict, List, Optional, Tuple
 
 import command
+import failed
 import story
 import table
 from events import Calls, Trace, trace_of
 from progress import Progress
 
 NO = re.compile("(not linearizable|undecided) at line ([0-9]+)(.*)", re.DOTALL)
-MOST_TRIED = 64
 
 
 @dataclass
@@ -31,11 +31,6 @@ class Answer:
     is_undecided: bool = False
     more: str = ""
     reasons: List[str] = field(default_factory=list)
-
-    def values(self) -> Optional[List[str]]:
-        """The values that the answer could have told; None where they aren't all known."""
-        found = re.search(" can be ([0-9]+(?:, [0-9]+)*(?: or [0-9]+)?)$", self.reasons[0]) if self.reasons else None
-        return re.findall("[0-9]+", found[1]) if found else None
 
 
 @dataclass
@@ -94,53 +89,46 @@ def refused(calls: Calls, trace: Trace, said: Answer, wants_story: bool) -> NoOr
 
 def judged(judge: Judge, wants_story: bool) -> str:
     """The verdict. Refused with the line from which on there is no order."""
-    calls, fixed = judge.calls, {}  # type: Calls, Dict[int, str]
-    for _ in range(MOST_TRIED):
-        said, trace = judge.answer(fixed, wants_story)
+    calls = judge.calls
+    said, trace = judge.answer({}, wants_story)
+    if said.event is not None:
+        raise refused(calls, trace, said, wants_story)
+    count = len(said.order) + len(calls.failed)
+    if unplaced(judge, trace, said.order):
+        judge.progress.say("looking for the words that failed operations found")
+        words = all_words(judge, wants_story)
+        said, trace = judge.answer(words, wants_story)
         if said.event is not None:
             raise refused(calls, trace, said, wants_story)
-        stuck = unplaced(judge, trace, said.order, fixed)
-        if stuck is None:
-            count = len(said.order) + len(calls.failed) - len(fixed)
-            more = f", {len(calls.failed)} cas that found another word among them" if calls.failed else ""
-            return f"linearizable: {count} operation{'' if count == 1 else 's'} in one order{more}\n"
-        word = other_word(judge, stuck, fixed, wants_story)
-        if word is None:
-            break
-        fixed[stuck] = word
-    line = f"{calls.path}, line {calls.answers[stuck]}"
-    raise command.Refusal(f"{line}: undecided: there is an order without this cas, which failed; with it none is found")
+        count = len(said.order)
+    more = f", {len(calls.failed)} cas that found another word among them" if calls.failed else ""
+    return f"linearizable: {count} operation{'' if count == 1 else 's'} in one order{more}\n"
 
 
-def other_word(judge: Judge, at: int, fixed: Dict[int, str], wants_story: bool) -> Optional[str]:
-    """A word with which a failed cas has an order; None where none is found. Refused where there is surely none."""
-    values = {word for it in judge.calls.asked for word in it.split(" ")[2:]} | set(judge.calls.replies)
-    absent = next(str(it) for it in range(2**64 - 1, 0, -1) if str(it) not in values)
-    first, trace = judge.answer({**fixed, at: absent}, True)
-    possible = first.values()
-    if first.event != ~at or first.is_undecided or possible is None:
-        return None
-    worst, refusal, is_sure = -1, (first, trace), not fixed
-    expected = judge.calls.asked[at].split(" ")[2]
-    for word in possible:
-        if word == expected:
-            continue
-        said, trace = judge.answer({**fixed, at: word}, wants_story)
-        if said.event is None:
-            return word
-        is_sure = is_sure and not said.is_undecided
-        if trace.events.index(said.event) > worst:
-            worst, refusal = trace.events.index(said.event), (said, trace)
-    if is_sure:
-        raise refused(judge.calls, refusal[1], refusal[0], wants_story)
-    return None
+def all_words(judge: Judge, wants_story: bool) -> Dict[int, str]:
+    """The word that each failed cas found, so that there is an order. Refused where there is none, or none is found."""
+    calls, found, worst = judge.calls, {}, None  # type: Calls, Dict[int, str], Optional[Tuple[int, failed.Search]]
+    trace = judge.trace(dict.fromkeys(calls.failed, "0"))
+    place = {event: at for at, event in enumerate(calls.order)}
+    for key in sorted({calls.asked[it].split(" ", 2)[1] for it in calls.failed}, key=int):
+        search, event = failed.words_found(trace, key, calls.failed, judge.opening.get(int(key), 0))
+        if event is None:
+            found.update(search.told())
+        elif worst is None or place[event] < place[worst[0]]:
+            worst = event, search
+    if worst is None:
+        return found
+    event, search = worst
+    numbers = [str(it) for it in search.words]
+    reasons = [f" can be {' or '.join(filter(None, [', '.join(numbers[:-1]), numbers[-1]]))}"] if 0 < len(numbers) <= 16 else []
+    raise refused(calls, trace, Answer([], event, search.is_undecided, "", reasons), wants_story)
 
 
-def unplaced(judge: Judge, trace: Trace, order: List[str], fixed: Dict[int, str]) -> Optional[int]:
-    """The first failed cas that has no place in an order of the others; None where each has one."""
-    left = judge.calls.failed.difference(fixed)
+def unplaced(judge: Judge, trace: Trace, order: List[str]) -> bool:
+    """Whether some failed cas has no place in an order of the others."""
+    left = judge.calls.failed
     if not left:
-        return None
+        return False
     names = {(trace.lanes[it], str(trace.indexes[it])): it for it in trace.events if it >= 0}
     row_of = [names[tuple(it.split(" ", 3)[1:3])] for it in order]
     key_of = lambda at: judge.calls.asked[at].split(" ", 2)[1]
@@ -149,11 +137,10 @@ def unplaced(judge: Judge, trace: Trace, order: List[str], fixed: Dict[int, str]
     for it in row_of:
         if key_of(it) in keys:
             by_key[key_of(it)].append(it)
-    stuck = [it for key in sorted(keys, key=int) for it in [without_place(judge, key, by_key[key], left)] if it is not None]
-    return min(stuck, default=None)
+    return any(without_place(judge, key, by_key[key], left) for key in keys)
 
 
-def without_place(judge: Judge, key: str, rows: List[int], left: set[int]) -> Optional[int]:
+def without_place(judge: Judge, key: str, rows: List[int], left: set[int]) -> bool:
     """The same of the operations on one key, in their order."""
     calls, place, words = judge.calls, {it: at for at, it in enumerate(rows, 1)}, [judge.opening.get(int(key), 0)]
     for it in rows:
@@ -173,12 +160,12 @@ def without_place(judge: Judge, key: str, rows: List[int], left: set[int]) -> Op
             expected = int(calls.asked[at].split(" ")[2])
             found[at] = latest if words[latest] != expected else change[latest]
             if found[at] == len(words):
-                return at
+                return True
     first = len(words)
     for it in reversed(mine):
         at = ~it if it < 0 else it
         if it >= 0 and at in place:
             first = min(first, place[at])
         elif it < 0 and at in left and found[at] >= first:
-            return at
-    return None
+            return True
+    return False
