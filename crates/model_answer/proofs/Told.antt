@@ -1,19 +1,14 @@
 -- The machines of the models that a log's trace obeys give its replies.
 use Rattle.std.proofs.Common.{◌≡◌, ℕ, List, length, sym, subst}
-use Rattle.std.specs.Prelude.{Ok}
 use Rattle.memory_models.specs.declared.kinds.Operation.{Operation}
 use Rattle.memory_models.specs.Trace.{IsMemoryTrace}
 use Rattle.memory_models.proofs.InTurns.{list_in_turns}
 use Rattle.model_text.specs.declared.logged.Logged.{Logged}
-use Rattle.model_text.specs.Lines.{log_of}
 use Rattle.model_text.specs.Made.{LogLines}
 use Rattle.model_text.specs.Traces.{AreOpened, operations_of_log, steps_of_log}
 use Rattle.model_text.specs.Values.{AreDueReplies}
 use Rattle.model_text.proofs.Replied.{one_memory, by_buffers, by_word_buffers}
-use Rattle.model_answer.specs.declared.answer.NoAnswer.{NoAnswer}
-use Rattle.model_answer.specs.declared.answer.NoAnswer.TheVariants.{Refused, Wrong, Memory}
 use Rattle.model_answer.specs.declared.judged.Obeys.{Obeys}
-use Rattle.model_answer.specs.Answer.{IsNoAnswerOn, IsNoAnswerTo}
 use Rattle.model_answer.specs.Judged.{TellsObeyed}
 use Rattle.model_answer.specs.Replies.{TellsReplies}
 
@@ -49,9 +44,3 @@ replies_told log words openings steps ops writes o e f g t opened due told =
     (subst (λ (z : List Operation). TellsReplies (steps_of_log log) z writes o) (sym g)
     (told_of_log log words writes o (subst (λ (z : List Operation). IsMemoryTrace words z writes) g t) open_at all_due
     (subst (λ (z : List Operation). TellsObeyed z writes o) g told)))
-
--- why there is no answer to a text
-pub unanswered : (lines : List (List ℕ)) (log : LogLines) (why : NoAnswer) → log_of lines ≡ Ok log → IsNoAnswerOn log why → IsNoAnswerTo lines why
-unanswered lines log (Refused refusal) read none = absurd none
-unanswered lines log (Wrong wrong) read is = record { log = log; read = read; is = is }
-unanswered lines log Memory read is = tt
