@@ -31,7 +31,7 @@ likely_kept trace old new k event at is was =
     ))
     (is event at)))
 
-likely_answer : (trace events old new : List Event) → HasAnswer old new → IsLikely trace events old
+pub likely_answer : (trace events old new : List Event) → HasAnswer old new → IsLikely trace events old
     → IsLikely trace events new
 likely_answer trace events old new is was = ⊎_elim {C = IsLikely trace events new}
     (λ (e : new ≡ old). subst (λ (es : List Event). IsLikely trace events es) (sym e) was)

@@ -14,7 +14,7 @@ ghost use Rattle.trace_judge.specs.Sets.{lists_of};
 use crate::likely::{are_all_answered, is_silent, likely};
 use crate::nodes::no_marks;
 use crate::search::{Search, start};
-use crate::stuck::answer_from;
+use crate::stuck::{answer_from, between};
 use crate::trace::is_trace;
 use crate::undecided::Undecided;
 use std::alloc::{AllocError, Allocator};
@@ -251,19 +251,6 @@ pub fn decide<A: Allocator + Copy>(
 {
     let mut ended = Ended::default();
     explain(alloc, opening, events, bound, &mut ended)
-}
-
-/// The beginning to look at next, between a good one and a bad one: one that is guessed, or half way.
-fn between(good: usize, bad: usize, guess: usize) -> usize
-    requires { good + 1 < bad }
-    ensures above { good < result }
-    ensures below { result < bad }
-{
-    if good < guess && guess < bad {
-        guess
-    } else {
-        good + (bad - good) / 2
-    }
 }
 
 /// Judges a trace over a memory that opens with these words, with at most so many configurations

@@ -1,6 +1,6 @@
 //! A trace that likely has an order: what explains it explains the trace that it is made from.
 
-ghost use Rattle.std.specs.Prelude.{◌≡◌, ◌⊎◌, ◌<◌, ◌∷◌, ◌++◌, ℕ, [], true, Some, IfOk, OnOk, length, slice_get};
+ghost use Rattle.std.specs.Prelude.{◌≡◌, ◌⊎◌, ◌<◌, ◌∷◌, ◌++◌, ℕ, List, [], true, Some, IfOk, OnOk, length, slice_get};
 ghost use Rattle.packet.specs.declared.kinds.Reply.{Reply};
 ghost use Rattle.trace_laws.specs.declared.event.Event.TheVariants.{Answer};
 ghost use Rattle.trace_laws.specs.declared.event.Event.{Event};
@@ -103,6 +103,21 @@ fn guessed<A: Allocator + Copy>(
     Ok(likely)
 }
 
+/// The answers behind the last event at the end.
+fn answer_rest<A: Allocator>(
+    likely: &mut Vec<Event, A>,
+    behind: &[Option<(u64, Reply)>],
+    from: usize,
+) -> Result<(), AllocError>
+    ensures { OnOk result ((whole events : List Event) → IsLikely whole events likely.old.items
+        → IsLikely whole events likely.new.items) }
+{
+    for k in from..behind.len() {
+        answer(likely, behind[k])?;
+    }
+    Ok(())
+}
+
 /// A trace that likely has an order, if the trace does. Operations that are never answered and of which it is
 /// unclear whether they took effect may do so in it; or that is guessed too, if so asked.
 pub fn likely<A: Allocator + Copy>(
@@ -115,5 +130,7 @@ pub fn likely<A: Allocator + Copy>(
     ensures { IfOk result (λ v. IsLikely events.now events.now v.items) }
 {
     let guess = guess_of(alloc, opening, events, unclear)?;
-    guessed(alloc, opening, events, &guess)
+    let mut other = guessed(alloc, opening, events, &guess)?;
+    answer_rest(&mut other, &guess.behind, events.len())?;
+    Ok(other)
 }

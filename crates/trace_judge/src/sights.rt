@@ -18,7 +18,8 @@ enum Sight {
     Unclear,
 }
 
-/// What is guessed of a trace: which issues are left out, and which answers come behind which event.
+/// What is guessed of a trace: which issues are left out, and which answers come behind which event, with as many
+/// places behind the last one.
 #[derive(Drop)]
 pub struct Guess<A: Allocator> {
     pub left: Vec<bool, A>,
@@ -177,7 +178,7 @@ pub fn guess_of<A: Allocator + Copy>(
 ) -> Result<Guess<A>, AllocError> {
     let mut guess = Guess {
         left: vec![in alloc; false; events.len()]?,
-        behind: vec![in alloc; None; events.len()]?,
+        behind: vec![in alloc; None; events.len().saturating_mul(2)]?,
         summed: Vec::new(alloc),
     };
     for k in 0..events.len() {

@@ -1,6 +1,6 @@
 //! Guesses where the first bad event is, for a trace that isn't linearizable: nothing rests on it.
 
-ghost use Rattle.std.specs.Prelude.{◌≤◌, length};
+ghost use Rattle.std.specs.Prelude.{◌<◌, ◌≤◌, ◌+◌, length};
 
 use crate::bits::has;
 use trace_laws::{Branch, Event, Open};
@@ -62,4 +62,17 @@ pub fn answer_from(events: &[Event], k: usize, stuck: Option<u64>) -> usize {
         }
     }
     k
+}
+
+/// The beginning to look at next, between a good one and a bad one: one that is guessed, or half way.
+pub fn between(good: usize, bad: usize, guess: usize) -> usize
+    requires { good + 1 < bad }
+    ensures above { good < result }
+    ensures below { result < bad }
+{
+    if good < guess && guess < bad {
+        guess
+    } else {
+        good + (bad - good) / 2
+    }
 }
