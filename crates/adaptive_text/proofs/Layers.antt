@@ -10,7 +10,7 @@ use Rattle.lexer.specs.Outcome.{Makes}
 use Rattle.lexer.specs.Numbers.{index_of}
 use Rattle.network_text.specs.Network.{Reading, count_of, lacks, taken_cell}
 use Rattle.adaptive_text.specs.declared.reading.Second.{Second}
-use Rattle.adaptive_text.specs.Choosing.{ChoosingText, choosing_with, first_place, further_at, cells_of, with_fixed, after_escape, second_by, second_of}
+use Rattle.adaptive_text.specs.Choosing.{ChoosingText, choosing_with, free_layer, further_at, cells_of, with_fixed, after_escape, second_by, second_of}
 
 -- a place of a layer
 pub place_low : (layers cells layer cell size : ℕ) → size ≡ layers * cells → layer < layers → cell < cells → layer * cells + cell < size
@@ -22,31 +22,31 @@ place_low layers cells layer cell size is low inside =
 -- one layer is looked at
 pub place_more : (t : ChoosingText) (cell y layer n m : ℕ) → n ≡ suc m
     → (further_at t layer cell == count_of t.fixed) ≡ false → (further_at t layer cell == y) ≡ false
-    → first_place t cell y layer n ≡ first_place t cell y (layer + 1) m
+    → free_layer t cell y layer n ≡ free_layer t cell y (layer + 1) m
 place_more t cell y layer n m is taken other =
-    ap (first_place t cell y layer) is
+    ap (free_layer t cell y layer) is
     ∙ ap (λ b. if b then Ok layer
-    else (if further_at t layer cell == y then Err reason.SameChoice else first_place t cell y (layer + 1) m)) taken
-    ∙ ap (λ b. if b then Err reason.SameChoice else first_place t cell y (layer + 1) m) other
+    else (if further_at t layer cell == y then Err reason.SameChoice else free_layer t cell y (layer + 1) m)) taken
+    ∙ ap (λ b. if b then Err reason.SameChoice else free_layer t cell y (layer + 1) m) other
 
 pub place_here : (t : ChoosingText) (cell y layer n m : ℕ) → n ≡ suc m → (further_at t layer cell == count_of t.fixed) ≡ true
-    → first_place t cell y layer n ≡ Ok layer
+    → free_layer t cell y layer n ≡ Ok layer
 place_here t cell y layer n m is free =
-    ap (first_place t cell y layer) is
+    ap (free_layer t cell y layer) is
     ∙ ap (λ b. if b then Ok layer
-    else (if further_at t layer cell == y then Err reason.SameChoice else first_place t cell y (layer + 1) m)) free
+    else (if further_at t layer cell == y then Err reason.SameChoice else free_layer t cell y (layer + 1) m)) free
 
 pub place_same : (t : ChoosingText) (cell y layer n m : ℕ) → n ≡ suc m → (further_at t layer cell == count_of t.fixed) ≡ false
-    → (further_at t layer cell == y) ≡ true → first_place t cell y layer n ≡ Err reason.SameChoice
+    → (further_at t layer cell == y) ≡ true → free_layer t cell y layer n ≡ Err reason.SameChoice
 place_same t cell y layer n m is taken same =
-    ap (first_place t cell y layer) is
+    ap (free_layer t cell y layer) is
     ∙ ap (λ b. if b then Ok layer
-    else (if further_at t layer cell == y then Err reason.SameChoice else first_place t cell y (layer + 1) m)) taken
-    ∙ ap (λ b. if b then Err reason.SameChoice else first_place t cell y (layer + 1) m) same
+    else (if further_at t layer cell == y then Err reason.SameChoice else free_layer t cell y (layer + 1) m)) taken
+    ∙ ap (λ b. if b then Err reason.SameChoice else free_layer t cell y (layer + 1) m) same
 
 -- where none is left, it is the next
-pub place_end : (t : ChoosingText) (cell y layer n : ℕ) → n ≡ 0 → first_place t cell y layer n ≡ Ok layer
-place_end t cell y layer n is = ap (first_place t cell y layer) is
+pub place_end : (t : ChoosingText) (cell y layer n : ℕ) → n ≡ 0 → free_layer t cell y layer n ≡ Ok layer
+place_end t cell y layer n is = ap (free_layer t cell y layer) is
 
 -- a channel that is an escape already
 pub escape_twice : (t : ChoosingText) (y : ℕ) → lacks t.fixed 1 y ≡ None → list_any (λ e. e == y) t.escapes ≡ true

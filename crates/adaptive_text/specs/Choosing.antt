@@ -48,12 +48,12 @@ layer_with t cell y = slice_set (replicate (cells_of t) (count_of t.fixed)) cell
 
 -- the first layer that has no choice at a place, of n from a layer on, or the one behind them; but
 -- each choice is given once
-abbrev pub first_place : ChoosingText → ℕ → ℕ → ℕ → ℕ → Result ℕ NetworkReason
-first_place t cell y layer zero = Ok layer
-first_place t cell y layer (suc n) =
+abbrev pub free_layer : ChoosingText → ℕ → ℕ → ℕ → ℕ → Result ℕ NetworkReason
+free_layer t cell y layer zero = Ok layer
+free_layer t cell y layer (suc n) =
     if further_at t layer cell == count_of t.fixed then Ok layer
     else (if further_at t layer cell == y then Err reason.SameChoice
-    else first_place t cell y (layer + 1) n)
+    else free_layer t cell y (layer + 1) n)
 
 -- a choice is put into a layer, or into a new one behind them
 abbrev pub put_at : ChoosingText → ℕ → ℕ → ℕ → ChoosingText
@@ -65,7 +65,7 @@ put_at t cell y layer = if layer == t.layers
 abbrev pub after_further : ChoosingText → ℕ → ℕ → Result ChoosingText NetworkReason
 after_further t cell y =
     if slice_index t.fixed.table.choices cell == y then Err reason.SameChoice
-    else (first_place t cell y 0 t.layers >>= λ layer. Ok (put_at t cell y layer))
+    else (free_layer t cell y 0 t.layers >>= λ layer. Ok (put_at t cell y layer))
 
 -- a channel is made an escape, once
 abbrev pub after_escape : ChoosingText → ℕ → Result ChoosingText NetworkReason

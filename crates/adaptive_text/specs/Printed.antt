@@ -50,13 +50,13 @@ travel_line Bounded = codes "bounded\n"
 travel_line (Round r) = pair_line (codes "round ") r.to (codes " ") r.at (codes "\n")
 
 -- the line of a channel of a cycle
-abbrev pub channel_line : List ℕ → ℕ → List ℕ
-channel_line channels k = (codes "channel " ++ decimal (slice_index channels k)) ++ codes "\n"
+abbrev pub circuit_line : List ℕ → ℕ → List ℕ
+circuit_line channels k = (codes "channel " ++ decimal (slice_index channels k)) ++ codes "\n"
 
 -- what is written of a cycle
-abbrev pub cycle_text : List ℕ → List ℕ
-cycle_text channels =
-    codes "cycle\n" ++ (first_lines (channel_line channels) (length channels)
+abbrev pub circuit_text : List ℕ → List ℕ
+circuit_text channels =
+    codes "cycle\n" ++ (first_lines (circuit_line channels) (length channels)
     ++ codes "may lock up\n")
 
 -- what is written of a verdict
@@ -65,7 +65,7 @@ choosing_verdict_text (Rising numbers travel) =
     first_lines (number_line numbers.items) (length numbers.items)
     ++ (travel_line travel ++ codes "rising\n")
 choosing_verdict_text (NoEscape f) = no_escape_line f
-choosing_verdict_text (Cycle channels) = cycle_text channels.items
+choosing_verdict_text (Cycle channels) = circuit_text channels.items
 
 -- what is written of what is judged
 abbrev pub judgement_text : {A : Type 0} → JudgedNet A → List ℕ

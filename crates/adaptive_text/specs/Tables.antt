@@ -13,25 +13,25 @@ use Rattle.adaptive_text.specs.declared.lists.Lists as lists
 use Rattle.adaptive_text.specs.Choosing.{ChoosingText, cells_of, further_at}
 
 -- the choice that comes after so many others, in the order of the text
-abbrev pub choice_at : ChoosingText → ℕ → ℕ → ℕ
-choice_at t cell place =
+abbrev pub listed_choice : ChoosingText → ℕ → ℕ → ℕ
+listed_choice t cell place =
     if place == 0 then slice_index t.fixed.table.choices cell else further_at t (place - 1) cell
 
 -- that behind channel x for packets to channel j; where there is none, the number of channels
-abbrev pub choice_of : ChoosingText → ℕ → ℕ → ℕ → ℕ
-choice_of t j x place =
+abbrev pub choice_toward : ChoosingText → ℕ → ℕ → ℕ → ℕ
+choice_toward t j x place =
     if is_receiver (slice_get t.fixed.table.kinds j)
-    then choice_at t (cell_of t.fixed x j) place else count_of t.fixed
+    then listed_choice t (cell_of t.fixed x j) place else count_of t.fixed
 
 -- all behind a channel, all for packets to a channel, and all
-abbrev pub row_of : ChoosingText → ℕ → ℕ → List ℕ
-row_of t j x = first_lines (λ place. choice_of t j x place ∷ []) (t.layers + 1)
+abbrev pub choice_row : ChoosingText → ℕ → ℕ → List ℕ
+choice_row t j x = first_lines (λ place. choice_toward t j x place ∷ []) (t.layers + 1)
 
 abbrev pub block_of : ChoosingText → ℕ → List ℕ
-block_of t j = first_lines (row_of t j) (count_of t.fixed)
+block_of t j = first_lines (choice_row t j) (count_of t.fixed)
 
-abbrev pub choices_of : ChoosingText → List ℕ
-choices_of t = first_lines (block_of t) (count_of t.fixed)
+abbrev pub choice_list : ChoosingText → List ℕ
+choice_list t = first_lines (block_of t) (count_of t.fixed)
 
 -- whether a channel is an escape: one that a line makes one, and any where no line does
 abbrev pub is_made_escape : List ℕ → ℕ → Bool
@@ -46,7 +46,7 @@ pub record AreEscapesOf (t : ChoosingText) (flags : List Bool) : Type 0 where
 -- the lists of a text with these marks
 abbrev pub choice_table : ChoosingText → List Bool → ChoiceTable
 choice_table t marks =
-    choosing_of t.fixed.table.kinds t.fixed.table.joins (t.layers + 1) (choices_of t) marks
+    choosing_of t.fixed.table.kinds t.fixed.table.joins (t.layers + 1) (choice_list t) marks
 
 -- flags of the escapes, and of the injection and ejection channels
 pub record AreMarks (t : ChoosingText) (marks : List Bool) : Type 0 where

@@ -3,7 +3,7 @@
 ghost use Rattle.std.specs.Prelude.{◌≡◌, ◌++◌, codes, decimal, length, IfOk, OnOk};
 ghost use Rattle.network_text.specs.Answer.{first_lines};
 ghost use Rattle.adaptive_text.specs.Printed.{misfit_words, no_choice_line, no_escape_line};
-ghost use Rattle.adaptive_text.specs.Printed.{travel_line, channel_line, cycle_text};
+ghost use Rattle.adaptive_text.specs.Printed.{travel_line, circuit_line, circuit_text};
 ghost use Rattle.adaptive_text.specs.Printed.{choosing_verdict_text, judgement_text};
 
 use adaptive_judge::accepting::JudgedNet;
@@ -63,7 +63,7 @@ fn put_channel<A: Allocator>(out: &mut Vec<u8, A>, channel: usize) -> Result<(),
 fn put_channels<A: Allocator>(out: &mut Vec<u8, A>, channels: &[usize]) -> Result<(), AllocError>
     ensures { OnOk result
         (out.new.items ≡ out.old.items
-        ++ first_lines (channel_line channels.now) (length channels.now)) }
+        ++ first_lines (circuit_line channels.now) (length channels.now)) }
 {
     for k in 0..channels.len() {
         put_channel(out, channels[k])?;
@@ -73,7 +73,7 @@ fn put_channels<A: Allocator>(out: &mut Vec<u8, A>, channels: &[usize]) -> Resul
 
 /// Adds the text of a cycle.
 fn put_cycle<A: Allocator>(out: &mut Vec<u8, A>, channels: &[usize]) -> Result<(), AllocError>
-    ensures { OnOk result (out.new.items ≡ out.old.items ++ cycle_text channels.now) }
+    ensures { OnOk result (out.new.items ≡ out.old.items ++ circuit_text channels.now) }
 {
     out.extend_from_slice(b"cycle\n")?;
     put_channels(out, channels)?;

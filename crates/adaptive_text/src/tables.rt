@@ -3,7 +3,7 @@
 ghost use Rattle.std.specs.Prelude.{◌≡◌, ◌+◌, ◌*◌, ◌<◌, ◌≤◌, ◌++◌, true, length, IfOk, OnOk};
 ghost use Rattle.network_text.specs.Network.{count_of};
 ghost use Rattle.adaptive_text.specs.Read.{choosing_text_of, IsChoosingRead};
-ghost use Rattle.adaptive_text.specs.Tables.{choice_of, row_of, block_of, choices_of};
+ghost use Rattle.adaptive_text.specs.Tables.{choice_toward, choice_row, block_of, choice_list};
 ghost use Rattle.adaptive_text.specs.Tables.{is_made_escape, AreEscapesOf};
 
 use crate::reading::{Choosing, is_escape};
@@ -16,7 +16,7 @@ impl<A: Allocator + Copy> Choosing<A> {
         requires begun { self.now.fixed.begun ≡ true }
         requires at { at < length self.now.fixed.kinds.items }
         requires place { place ≤ self.now.layers }
-        ensures { result ≡ choice_of (choosing_text_of self.now) to at place }
+        ensures { result ≡ choice_toward (choosing_text_of self.now) to at place }
     {
         if !self.fixed.ejects(to) {
             return self.fixed.kinds.len() as u32;
@@ -35,7 +35,7 @@ impl<A: Allocator + Copy> Choosing<A> {
         requires begun { self.now.fixed.begun ≡ true }
         requires at { at < length self.now.fixed.kinds.items }
         ensures { OnOk result
-            (out.new.items ≡ out.old.items ++ row_of (choosing_text_of self.now) to at) }
+            (out.new.items ≡ out.old.items ++ choice_row (choosing_text_of self.now) to at) }
     {
         for place in 0..self.layers + 1 {
             out.push(self.choice(to, at, place))?;
@@ -63,7 +63,7 @@ impl<A: Allocator + Copy> Choosing<A> {
     pub(crate) fn choices(&self, alloc: A) -> Result<Vec<u32, A>, AllocError>
         requires read { IsChoosingRead self.now }
         requires begun { self.now.fixed.begun ≡ true }
-        ensures { IfOk result (λ v. v.items ≡ choices_of (choosing_text_of self.now)) }
+        ensures { IfOk result (λ v. v.items ≡ choice_list (choosing_text_of self.now)) }
     {
         let mut out = Vec::new(alloc);
         for to in 0..self.fixed.kinds.len() {

@@ -7,7 +7,7 @@ ghost use Rattle.network_text.specs.declared.reason.Keyword.{Keyword};
 ghost use Rattle.network_text.specs.Shapes.{after_one};
 ghost use Rattle.network_text.specs.Network.{after_words};
 ghost use Rattle.adaptive_text.specs.Choosing.{after_choosing_words, after_escape, after_second};
-ghost use Rattle.adaptive_text.specs.Choosing.{first_place, put_at, second_of, with_fixed};
+ghost use Rattle.adaptive_text.specs.Choosing.{free_layer, put_at, second_of, with_fixed};
 ghost use Rattle.adaptive_text.specs.Read.{choosing_text_of, IsChoosingRead};
 
 use crate::reading::{Choosing, Second, is_escape, second_of};
@@ -38,7 +38,7 @@ impl<A: Allocator + Copy> Choosing<A> {
         requires read { IsChoosingRead self.now }
         requires cell { cell < length self.now.fixed.choices.items }
         ensures value { result
-            ≡ first_place (choosing_text_of self.now) cell choice 0 self.now.layers }
+            ≡ free_layer (choosing_text_of self.now) cell choice 0 self.now.layers }
         ensures within { IfOk result (λ layer. layer ≤ self.now.layers) }
     {
         for layer in 0..self.layers {

@@ -21,7 +21,7 @@ pub record IsAnswerToEntries {A : Type 0} (words : ℕ) (entries : List LogEntry
     pub is : IsAnswerOn log options a
 
 -- they are one, on which there is no answer
-pub record IsUnanswered (words : ℕ) (entries : List LogEntry) (why : NoAnswer) : Type 0 where
+pub record HasNoAnswer (words : ℕ) (entries : List LogEntry) (why : NoAnswer) : Type 0 where
   pub log : LogLines
   pub read : log_of_entries words entries ≡ Ok log
   pub is : IsNoAnswerOn log why
@@ -30,5 +30,5 @@ pub record IsUnanswered (words : ℕ) (entries : List LogEntry) (why : NoAnswer)
 abbrev pub IsNoAnswerToEntries : ℕ → List LogEntry → NoAnswer → Type 0
 IsNoAnswerToEntries words entries (Refused refusal) =
     (refusal ≡ refusal_at 0 (reason.Line line.Memory)) ⊎ (log_of_entries words entries ≡ Err refusal)
-IsNoAnswerToEntries words entries (Wrong wrong) = IsUnanswered words entries (Wrong wrong)
+IsNoAnswerToEntries words entries (Wrong wrong) = HasNoAnswer words entries (Wrong wrong)
 IsNoAnswerToEntries words entries Memory = Unit {0}

@@ -27,8 +27,8 @@ reply_told Stored = None
 reply_told (Old word) = Some word
 
 -- the operation that is named
-abbrev pub found_by : LogLines → Named → Result Found LogReason
-found_by r name = found r name.processor name.index
+abbrev pub found_named : LogLines → Named → Result Found LogReason
+found_named r name = found r name.processor name.index
 
 -- a fence is the next in a processor's program
 abbrev pub fence_made : LogLines → ℕ → ℕ → Result LogLines LogReason
@@ -47,20 +47,20 @@ operation_made r number p o =
     map_err reason.Line (processor_read r.head p) >>= made_at r number o
 
 abbrev pub wrote : LogLines → Named → Result LogLines LogReason
-wrote r name = found_by r name >>= add_write r
+wrote r name = found_named r name >>= add_write r
 
 abbrev pub read_from : LogLines → Named → Named → Result LogLines LogReason
-read_from r load write = found_by r load >>= λ f. found_by r write >>= λ w. read_write r f w
+read_from r load write = found_named r load >>= λ f. found_named r write >>= λ w. read_write r f w
 
 abbrev pub opening_read : LogLines → Named → Result LogLines LogReason
-opening_read r name = found_by r name >>= λ f. add_source r f Opening
+opening_read r name = found_named r name >>= λ f. add_source r f Opening
 
-abbrev pub served : LogLines → Named → Result LogLines LogReason
-served r name = found_by r name >>= add_served r
+abbrev pub entry_served : LogLines → Named → Result LogLines LogReason
+entry_served r name = found_named r name >>= add_served r
 
-abbrev pub replied : LogLines → ℕ → Named → Reply → Result LogLines LogReason
-replied r number name reply =
-    found_by r name >>= λ f. add_reply r number f (reply_told reply)
+abbrev pub entry_replied : LogLines → ℕ → Named → Reply → Result LogLines LogReason
+entry_replied r number name reply =
+    found_named r name >>= λ f. add_reply r number f (reply_told reply)
 
 -- what an entry makes of it, the one of this number
 abbrev pub after_entry : LogLines → ℕ → LogEntry → Result LogLines LogReason
@@ -71,8 +71,8 @@ after_entry r number (entry.Made p (Some o)) = operation_made r number p o
 after_entry r number (entry.Wrote name) = wrote r name
 after_entry r number (entry.Read load write) = read_from r load write
 after_entry r number (entry.ReadOpening name) = opening_read r name
-after_entry r number (entry.Served name) = served r name
-after_entry r number (entry.Replied name reply) = replied r number name reply
+after_entry r number (entry.Served name) = entry_served r name
+after_entry r number (entry.Replied name reply) = entry_replied r number name reply
 
 -- the log of these entries, of which the first has this number, after what was read
 abbrev pub entries_from : LogLines → ℕ → List LogEntry → Result LogLines (Refusal LogReason)

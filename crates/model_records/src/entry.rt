@@ -6,7 +6,7 @@ ghost use Rattle.trace_lines.specs.Head.{init_read};
 ghost use Rattle.model_text.specs.Lines.{head_logged};
 ghost use Rattle.model_text.specs.Views.{log_so_far};
 ghost use Rattle.model_records.specs.Entries.{after_entry, fence_made, operation_made};
-ghost use Rattle.model_records.specs.Entries.{found_by, wrote, read_from, opening_read, served, replied};
+ghost use Rattle.model_records.specs.Entries.{found_named, wrote, read_from, opening_read, entry_served, entry_replied};
 ghost use Rattle.model_records.specs.Entries.{reply_told};
 
 use model_text::sources::Found;
@@ -54,8 +54,8 @@ fn reply_told(reply: Reply) -> Option<u128>
 }
 
 /// The operation that is named.
-fn found_by<A: Allocator + Copy>(log: &Log<A>, name: Named) -> Result<Found, LogReason>
-    ensures { result ≡ found_by (log_so_far log.now) name }
+fn found_named<A: Allocator + Copy>(log: &Log<A>, name: Named) -> Result<Found, LogReason>
+    ensures { result ≡ found_named (log_so_far log.now) name }
 {
     log.found(u128::from(name.processor), u128::from(name.index))
 }
@@ -116,7 +116,7 @@ fn take_wrote<A: Allocator + Copy>(log: &mut Log<A>, name: Named) -> Result<(), 
     ensures { Makes (LogReason.Line LineReason.Memory) (log_so_far log.new) result
         (wrote (log_so_far log.old) name) }
 {
-    let found = found_by(log, name)?;
+    let found = found_named(log, name)?;
     log.add_write(found)
 }
 
@@ -129,8 +129,8 @@ fn take_read<A: Allocator + Copy>(
     ensures { Makes (LogReason.Line LineReason.Memory) (log_so_far log.new) result
         (read_from (log_so_far log.old) load write) }
 {
-    let load = found_by(log, load)?;
-    let write = found_by(log, write)?;
+    let load = found_named(log, load)?;
+    let write = found_named(log, write)?;
     log.read_write(load, write)
 }
 
@@ -139,16 +139,16 @@ fn take_opening<A: Allocator + Copy>(log: &mut Log<A>, name: Named) -> Result<()
     ensures { Makes (LogReason.Line LineReason.Memory) (log_so_far log.new) result
         (opening_read (log_so_far log.old) name) }
 {
-    let found = found_by(log, name)?;
+    let found = found_named(log, name)?;
     log.add_source(found, Source::Opening)
 }
 
 /// Takes a load that comes behind the writes of its word so far.
 fn take_served<A: Allocator + Copy>(log: &mut Log<A>, name: Named) -> Result<(), LogReason>
     ensures { Makes (LogReason.Line LineReason.Memory) (log_so_far log.new) result
-        (served (log_so_far log.old) name) }
+        (entry_served (log_so_far log.old) name) }
 {
-    let found = found_by(log, name)?;
+    let found = found_named(log, name)?;
     log.add_served(found)
 }
 
@@ -160,9 +160,9 @@ fn take_replied<A: Allocator + Copy>(
     reply: Reply,
 ) -> Result<(), LogReason>
     ensures { Makes (LogReason.Line LineReason.Memory) (log_so_far log.new) result
-        (replied (log_so_far log.old) line name reply) }
+        (entry_replied (log_so_far log.old) line name reply) }
 {
-    let found = found_by(log, name)?;
+    let found = found_named(log, name)?;
     log.add_reply(line, found, reply_told(reply))
 }
 
