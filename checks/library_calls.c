@@ -206,7 +206,7 @@ static void machines_of_numbers(torusmem_machine *m) {
   torusmem_machine fresh = TORUSMEM_MACHINE_INIT;
   struct torusmem_shape told;
   for (size_t at = 0; at < sizeof rows / sizeof *rows; at++)
-    MUST(says(torusmem_open(m, &rows[at].shape, words, rows[at].given), rows[at].fault, 0) && is_new(m));
+    MUST(says(torusmem_open(m, &rows[at].shape, words, rows[at].given), rows[at].fault, 0) && !m->full && live == 0);
   MUST(says(torusmem_open(m, &right, words, 3), TORUSMEM_OK, 0) && says(torusmem_finished(m), TORUSMEM_OK, 1));
   MUST(says(torusmem_open(m, &right, words, 3), TORUSMEM_FULL, 0) && says(torusmem_shape(m, &told), TORUSMEM_OK, 0));
   MUST(told.dims == 2 && told.radices[0] == 3 && told.radices[1] == 4 && told.radices[2] == 0 && told.datelines[0] == 2);
