@@ -127,6 +127,8 @@ static void every_call_says_empty(torusmem_machine *m) {
   MUST(says(torusmem_words(m), TORUSMEM_EMPTY, 0));
   struct torusmem_shape shape = { 7, { 7, 7, 7 }, { 7, 7, 7 }, 7, 7, 7, 7, 7 }, same = shape;
   MUST(says(torusmem_shape(m, &shape), TORUSMEM_EMPTY, 0) && memcmp(&shape, &same, sizeof shape) == 0);
+  torusmem_machine fresh = TORUSMEM_MACHINE_INIT;
+  MUST(says(torusmem_reopen(m, &fresh), TORUSMEM_EMPTY, 0) && !fresh.full);
   torusmem_ordered ordered = { 7, 7, 7, 7, 7, 7, 7 };
   MUST(says(torusmem_order(m, 0, &ordered, 1), TORUSMEM_EMPTY, 0) && ordered.bank == 7);
   MUST(says(torusmem_word(m, 99), TORUSMEM_EMPTY, 0));
@@ -180,6 +182,52 @@ static void texts_that_meet(torusmem_machine *m) {
   torusmem_free(m);
   MUST(!m->full && live == 0);
   MUST(says(torusmem_load(m, machine, length, NULL, 0), TORUSMEM_OK, 0) && says(torusmem_finished(m), TORUSMEM_OK, 1));
+  torusmem_free(m);
+  MUST(!m->full && live == 0);
+}
+
+/* Machines that are opened by numbers: each fault, in its order; the words; and another that goes on. */
+static void machines_of_numbers(torusmem_machine *m) {
+  static const struct torusmem_shape right = { 2, { 3, 4, 9 }, { 2, 0, 9 }, 8, 16, 5, 7, 7 };
+  static const struct {
+    uint32_t fault;
+    size_t given;
+    struct torusmem_shape shape;
+  } rows[] = {
+    { 2, 0, { 0, { 9, 9, 9 }, { 9, 9, 9 }, 0, 0, 0, 0, 0 } },     { 2, 0, { 4, { 2, 2, 2 }, { 1, 1, 1 }, 1, 1, 1, 0, 0 } },
+    { 1, 0, { 1, { 1, 0, 0 }, { 9, 0, 0 }, 0, 0, 0, 0, 0 } },     { 1, 0, { 2, { 2, 9, 0 }, { 1, 1, 0 }, 1, 1, 1, 0, 0 } },
+    { 3, 0, { 3, { 5, 4, 4 }, { 9, 9, 9 }, 0, 0, 0, 0, 0 } },     { 14, 0, { 2, { 2, 3, 0 }, { 1, 3, 0 }, 0, 0, 0, 0, 0 } },
+    { 6, 9, { 1, { 2, 0, 0 }, { 0, 0, 0 }, 0, 1, 1, 0, 0 } },     { 6, 9, { 1, { 2, 0, 0 }, { 0, 0, 0 }, 9, 1, 1, 0, 0 } },
+    { 6, 9, { 1, { 2, 0, 0 }, { 0, 0, 0 }, 1, 0, 1, 0, 0 } },     { 6, 9, { 1, { 2, 0, 0 }, { 0, 0, 0 }, 1, 17, 1, 0, 0 } },
+    { 6, 0, { 1, { 2, 0, 0 }, { 0, 0, 0 }, 1, 1, 0, 0, 0 } },     { 6, 9, { 1, { 2, 0, 0 }, { 0, 0, 0 }, 1, 1, 65537, 0, 0 } },
+    { 7, 2, { 1, { 2, 0, 0 }, { 0, 0, 0 }, 1, 1, 1, 0, 0 } },
+  };
+  static const uint64_t words[9] = { 1, 0, UINT64_MAX, 4, 5, 6, 7, 8, 9 };
+  torusmem_machine fresh = TORUSMEM_MACHINE_INIT;
+  struct torusmem_shape told;
+  for (size_t at = 0; at < sizeof rows / sizeof *rows; at++)
+    MUST(says(torusmem_open(m, &rows[at].shape, words, rows[at].given), rows[at].fault, 0) && !m->full && live == 0);
+  MUST(says(torusmem_open(m, &right, words, 3), TORUSMEM_OK, 0) && says(torusmem_finished(m), TORUSMEM_OK, 1));
+  MUST(says(torusmem_open(m, &right, words, 3), TORUSMEM_FULL, 0) && says(torusmem_shape(m, &told), TORUSMEM_OK, 0));
+  MUST(told.dims == 2 && told.radices[0] == 3 && told.radices[1] == 4 && told.radices[2] == 0 && told.datelines[0] == 2);
+  MUST(told.datelines[1] == 0 && told.datelines[2] == 0 && told.depth == 8 && told.tags == 16 && told.words == 5);
+  MUST(told.tiles == 12 && told.ports == 18);
+  for (uint32_t at = 0; at < 5; at++) MUST(says(torusmem_word(m, at), TORUSMEM_OK, at < 3 ? words[at] : 0));
+  MUST(says(torusmem_ask(m, 11, TORUSMEM_ADD, 2, 3, 0, 0), TORUSMEM_OK, 0));
+  MUST(says(torusmem_ask(m, 0, TORUSMEM_STORE, 4, 9, 0, 0), TORUSMEM_OK, 0));
+  torusmem_outcome said = torusmem_reopen(m, &fresh);
+  MUST(said.code == TORUSMEM_OK && said.value > 0 && says(torusmem_finished(m), TORUSMEM_OK, 1));
+  MUST(torusmem_answer_of(m, 11, 0).old == UINT64_MAX && torusmem_answer_of(m, 0, 0).code == TORUSMEM_OK);
+  MUST(says(torusmem_reopen(m, &fresh), TORUSMEM_FULL, 0));
+  struct torusmem_shape same;
+  MUST(says(torusmem_shape(&fresh, &same), TORUSMEM_OK, 0) && memcmp(&same, &told, sizeof same) == 0);
+  MUST(says(torusmem_ask(&fresh, 11, TORUSMEM_LOAD, 2, 0, 0, 0), TORUSMEM_OK, 0));
+  for (uint32_t at = 0; at < 5; at++)
+    MUST(says(torusmem_word(&fresh, at), TORUSMEM_OK, at == 2 ? 2 : at == 4 ? 9 : at == 0 ? 1 : 0));
+  torusmem_free(m);
+  MUST(torusmem_finish(&fresh).code == TORUSMEM_OK && torusmem_answer_of(&fresh, 11, 0).old == 2);
+  torusmem_free(&fresh);
+  MUST(says(torusmem_open(m, &right, NULL, 0), TORUSMEM_OK, 0) && says(torusmem_word(m, 0), TORUSMEM_OK, 0));
   torusmem_free(m);
   MUST(!m->full && live == 0);
 }
@@ -707,6 +755,7 @@ static void codes(void) {
   traces_are_watched();
   operations_are_watched();
   shapes(&other);
+  machines_of_numbers(&other);
   memory_of_a_watch_stays();
   MUST(says(load(&m), TORUSMEM_OK, 0) && m.full);
   what_is_not_there(&m);
@@ -814,6 +863,10 @@ static void run_with_little_memory(void) {
   torusmem_ordered row = { 7, 7, 7, 7, 7, 7, 7 };
   said = torusmem_order(&m, (uint32_t)(torusmem_order(&m, 0, NULL, 0).value - 1), &row, 1);
   MUST((says(said, TORUSMEM_OK, 1) && row.answered > 0) || row.bank == 7);
+  torusmem_machine fresh = TORUSMEM_MACHINE_INIT;
+  said = torusmem_reopen(&m, &fresh);
+  MUST(fresh.full ? says(said, TORUSMEM_OK, 0) : says(said, TORUSMEM_FAULT_MEMORY, 0));
+  torusmem_free(&fresh);
   uint64_t kept = refused;
   refused = 0;
   MUST(reports_well(&m) && says(torusmem_check(written.bytes, report_text.length), TORUSMEM_OK, 0));

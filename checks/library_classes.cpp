@@ -35,6 +35,13 @@ void machines() {
   MUST(m.rows().size() == 24 * 4 + 8 + 1 && m.rows()[24 * 4 + 5] == 17 && m.ports() == 10);
   MUST(m.order().size() == 2 && m.order(1).at(0).served == 5 && m.order(2).empty());
   MUST(m.shape().radices[0] == 2 && m.shape().tags == 4);
+  torusmem::machine again = m.reopened();
+  MUST(again.word(5) == 17 && again.answers(0).empty() && m.answers(0).size() == 2);
+  std::vector<uint64_t> opening = {7, 8};
+  MUST(torusmem::machine(m.shape(), opening).word(1) == 8 && torusmem::machine(m.shape()).word(1) == 0);
+  struct torusmem_shape odd = m.shape();
+  odd.depth = 9;
+  MUST(thrown(TORUSMEM_FAULT_RANGE, [&] { torusmem::machine none(odd); }).find("open: a number is out of its range") == 0);
   MUST(thrown(TORUSMEM_NONE, [&] { m.step(0, TORUSMEM_SERVE); }).find("step: there is no such agent") == 0);
   MUST(m.route(0, 1).size() == 3 && m.next(0, 8, 1) < 10);
   uint32_t index = m.ask(1, TORUSMEM_ADD, 5, 3);

@@ -4,8 +4,8 @@
    freed. Each call is a function with a contract, and proved (docs/PROVED.md, "torusmem_c: the library for C").
    No call prints, ends the process or starts a thread, and each call returns.
 
-   MEMORY. torusmem_load allocates what the machine needs, torusmem_append and torusmem_ask what a further line needs,
-   and torusmem_free frees all of it. torusmem_report, torusmem_order, torusmem_check, torusmem_explain,
+   MEMORY. torusmem_load, torusmem_open and torusmem_reopen allocate what the machine needs, torusmem_append and
+   torusmem_ask what a further line needs, and torusmem_free frees all of it. torusmem_report, torusmem_order, torusmem_check, torusmem_explain,
    torusmem_spins_out, torusmem_network and torusmem_linearize free what they allocate before they return.
    torusmem_watch_begin allocates what a watch needs at first, torusmem_watch_issue and torusmem_watch_answer allocate
    and free as operations open and end, and torusmem_watch_end frees all of it. No other call allocates.
@@ -158,6 +158,34 @@ enum { TORUSMEM_REQUEST = 0, TORUSMEM_REPLY = 1 };
 torusmem_outcome torusmem_load(torusmem_machine *m, const uint8_t *machine, size_t machine_length,
                                const uint8_t *scripts, size_t scripts_length) TORUSMEM_RESULT;
 
+/* What a machine is built to (docs/FORMATS.md, "Machine text"). */
+struct torusmem_shape {
+  uint32_t dims;         /* 1 to 3 */
+  uint32_t radices[3];   /* of each dimension, 2 to 8; 0 where there is no such dimension, as for datelines */
+  uint32_t datelines[3];
+  uint32_t depth;        /* flits of a channel, 1 to 8 */
+  uint32_t tags;         /* of a processor, 1 to 16 */
+  uint32_t words;        /* 1 to 65536 */
+  uint32_t tiles;        /* 2 to 64 */
+  uint32_t ports;        /* inputs of a router, and as many outputs: 8 for each dimension, and 2 */
+};
+
+/* Opens the machine of a shape, in place of texts: the first words_length of its words are given, the others are 0, and no
+   processor has a line. tiles and ports, and what stands behind the last dimension, are not looked at.
+   OK; FULL; or the first fault of the shape, value 0, in this order: 2, not one to three dimensions; 1, a radix; 3, more
+   than 64 tiles; 14, a dateline; 6, the depth, the tags or the number of words; 7, more words are given than there are; or
+   TORUSMEM_FAULT_MEMORY. On anything but OK, *m is as it was. The shape and the words may go after the call. */
+torusmem_outcome torusmem_open(torusmem_machine *m, const struct torusmem_shape *shape, const uint64_t *words,
+                               size_t words_length) TORUSMEM_RESULT;
+
+/* Goes on with a machine that has come near a limit of its scripts: makes rounds until every script is finished, and opens
+   in *fresh, which is empty, a machine of the same shape, whose opening words are the words of *m then, and whose
+   processors have no line. What is asked of it is answered as if *m had gone on, since one memory answers both. Answers
+   of *m stay to be fetched there, until it is freed; indices, limits and the numbers of the order begin anew.
+   OK, value: how many rounds; FULL: *fresh isn't empty; EMPTY: *m is, and nothing has changed; TORUSMEM_FAULT_MEMORY:
+   *m has made its rounds, and *fresh is empty. m and fresh are not the same. */
+torusmem_outcome torusmem_reopen(torusmem_machine *m, torusmem_machine *fresh) TORUSMEM_RESULT;
+
 /* Texts of a load. */
 enum { TORUSMEM_NO_TEXT = 0, TORUSMEM_MACHINE_TEXT = 1, TORUSMEM_SCRIPTS_TEXT = 2 };
 
@@ -243,18 +271,6 @@ torusmem_outcome torusmem_finished(torusmem_machine *m) TORUSMEM_RESULT;
 
 /* At most how many moves are left: no steps make more than this. OK, value: the number; EMPTY. */
 torusmem_outcome torusmem_moves_left(torusmem_machine *m) TORUSMEM_RESULT;
-
-/* What a machine is built to (docs/FORMATS.md, "Machine text"). */
-struct torusmem_shape {
-  uint32_t dims;         /* 1 to 3 */
-  uint32_t radices[3];   /* of each dimension, 2 to 8; 0 where there is no such dimension, as for datelines */
-  uint32_t datelines[3];
-  uint32_t depth;        /* flits of a channel, 1 to 8 */
-  uint32_t tags;         /* of a processor, 1 to 16 */
-  uint32_t words;        /* 1 to 65536 */
-  uint32_t tiles;        /* 2 to 64 */
-  uint32_t ports;        /* inputs of a router, and as many outputs: 8 for each dimension, and 2 */
-};
 
 /* Tells what the machine is built to. OK: *out has it; EMPTY: *out is as it was. */
 torusmem_outcome torusmem_shape(torusmem_machine *m, struct torusmem_shape *out) TORUSMEM_RESULT;
@@ -462,7 +478,7 @@ torusmem_outcome torusmem_watch_answer(torusmem_watch *w, uint64_t number, uint3
 /* Ends the watch that *w holds, if any, and gives its memory back. It may be begun again then. */
 void torusmem_watch_end(torusmem_watch *w);
 
-/* The library's own calls take no null pointer. So a C program that calls one of the twelve below has a call in front
+/* The library's own calls take no null pointer. So a C program that calls one of the thirteen below has a call in front
    of it, by which a pointer with the length 0 becomes one to an item that is not looked at. */
 static inline const uint8_t *torusmem_text_at(const uint8_t *at, size_t length) {
   static const uint8_t none = 0;
@@ -476,6 +492,14 @@ static inline torusmem_outcome torusmem_load_texts(torusmem_machine *m, const ui
                        torusmem_text_at(scripts, scripts_length), scripts_length);
 }
 #define torusmem_load torusmem_load_texts
+
+TORUSMEM_RESULT
+static inline torusmem_outcome torusmem_open_with(torusmem_machine *m, const struct torusmem_shape *shape,
+                                                  const uint64_t *words, size_t words_length) {
+  static const uint64_t none = 0;
+  return torusmem_open(m, shape, words_length > 0 ? words : &none, words_length);
+}
+#define torusmem_open torusmem_open_with
 
 TORUSMEM_RESULT
 static inline torusmem_explanation torusmem_explain_texts(const uint8_t *machine, size_t machine_length,
@@ -624,6 +648,21 @@ static inline torusmem_outcome torusmem_load_marked(torusmem_machine *m, const u
   return said;
 }
 
+TORUSMEM_RESULT
+static inline torusmem_outcome torusmem_open_marked(torusmem_machine *m, const struct torusmem_shape *shape,
+                                                    const uint64_t *words, size_t words_length) {
+  torusmem_outcome said = torusmem_open(m, shape, words, words_length);
+  m->ticket = torusmem_ticket_of(m->full, m->ticket, &m->calls);
+  return said;
+}
+
+TORUSMEM_RESULT
+static inline torusmem_outcome torusmem_reopen_marked(torusmem_machine *m, torusmem_machine *fresh) {
+  torusmem_outcome said = torusmem_reopen(m, fresh);
+  fresh->ticket = torusmem_ticket_of(fresh->full, fresh->ticket, &fresh->calls);
+  return said;
+}
+
 static inline void torusmem_free_marked(torusmem_machine *m) {
   torusmem_free(m);
   if (m->ticket != NULL) m->ticket->gone = true;
@@ -647,7 +686,11 @@ static inline void torusmem_watch_end_marked(torusmem_watch *w) {
 #define TORUSMEM_MACHINE(m, call) torusmem_marked(m, call, __FILE__, __LINE__)
 #define TORUSMEM_WATCH(w, call) torusmem_watch_marked(w, call, __FILE__, __LINE__)
 #undef torusmem_load
+#undef torusmem_open
 #undef torusmem_watch_begin
+#define torusmem_open(m, ...) torusmem_open_marked(TORUSMEM_MACHINE(m, "torusmem_open"), __VA_ARGS__)
+#define torusmem_reopen(m, fresh) \
+  torusmem_reopen_marked(TORUSMEM_MACHINE(m, "torusmem_reopen"), TORUSMEM_MACHINE(fresh, "torusmem_reopen"))
 #define torusmem_load(m, ...) torusmem_load_marked(TORUSMEM_MACHINE(m, "torusmem_load"), __VA_ARGS__)
 #define torusmem_free(m) torusmem_free_marked(TORUSMEM_MACHINE(m, "torusmem_free"))
 #define torusmem_watch_begin(w, ...) torusmem_watch_begin_marked(TORUSMEM_WATCH(w, "torusmem_watch_begin"), __VA_ARGS__)

@@ -121,6 +121,10 @@ class machine {
     torusmem_outcome said = torusmem_load(&held_, shape.data(), shape.size(), scripts.data(), scripts.size());
     if (said.code != TORUSMEM_OK) throw error(explain(shape, scripts), said);
   }
+  // Opens the machine of a shape, whose first words are given, and whose others are 0.
+  explicit machine(const struct torusmem_shape &shape, span<const uint64_t> words = span<const uint64_t>()) {
+    granted("open", torusmem_open(&held_, &shape, words.data(), words.size()));
+  }
   machine(machine &&other) noexcept { swap(other); }
   machine &operator=(machine &&other) noexcept { return swap(other), *this; }
   ~machine() { torusmem_free(&held_); }
@@ -147,6 +151,13 @@ class machine {
   uint32_t ask(uint32_t processor, uint32_t operation, uint32_t address, uint64_t first = 0, uint64_t second = 0,
                uint32_t lasts = 0) {
     return number("ask", torusmem_ask(&held_, processor, operation, address, first, second, lasts));
+  }
+
+  // Finishes its scripts, and opens a machine that goes on with its words; this one keeps its answers.
+  machine reopened() {
+    machine fresh;
+    granted("reopen", torusmem_reopen(&held_, &fresh.held_));
+    return fresh;
   }
 
   bool finished() { return granted("finished", torusmem_finished(&held_)) == 1; }
@@ -220,6 +231,7 @@ class machine {
   }
 
  private:
+  machine() = default;
   static uint32_t number(const char *call, torusmem_outcome said) { return static_cast<uint32_t>(granted(call, said)); }
 
   torusmem_machine held_ = TORUSMEM_MACHINE_INIT;

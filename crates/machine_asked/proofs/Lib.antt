@@ -4,3 +4,5 @@ pub mod Numbered
 pub mod Standing
 pub mod OneMore
 pub mod Waiting
+pub mod Openings
+pub mod OneMemory

@@ -1,3 +1,5 @@
 pub use Rattle.machine_core.specs.Rounds
 pub mod Asked
 pub mod Inside
+pub mod Opened
+pub mod GoingOn

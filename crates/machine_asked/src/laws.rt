@@ -1,11 +1,14 @@
-//! A law of the operations that are asked, the contract of a function that does nothing.
+//! Laws of machines that are asked, each the contract of a function that does nothing.
 
-ghost use Rattle.std.specs.Prelude.{◌≡◌, ◌<◌, ℕ, false, true, length};
+ghost use Rattle.std.specs.Prelude.{◌≡◌, ◌<◌, ℕ, List, false, true, length};
+ghost use Rattle.torus.specs.declared.step.Step.{Step};
 ghost use Rattle.script.specs.declared.line.Line.{Line};
 ghost use Rattle.script.specs.Scripts.{operation_count, script_of};
 ghost use Rattle.machine_parts.specs.Core.{Load};
 ghost use Rattle.machine_parts.specs.Appended.{load_with};
+ghost use Rattle.machine_parts.specs.Machine.{Core, IsAfter, shown};
 ghost use Rattle.machine_asked.specs.Asked.{IsNumbered, has_spin, is_operation};
+ghost use Rattle.machine_asked.specs.GoingOn.{GoesOnFrom};
 
 /// A line that is put behind a script without spins has the index of as many operations as the script
 /// makes: the operation that the processor issues under it, whenever it does, is that of the line.
@@ -13,4 +16,12 @@ pub fn operations_are_numbered()
     ensures { (l : Load) (p : ℕ) (line : Line) → p < length l.scripts
         → has_spin (script_of l.scripts p) ≡ false → is_operation line ≡ true
         → IsNumbered (load_with l p line) p line (operation_count (script_of l.scripts p)) }
+{}
+
+/// A machine whose opening words are the words of another goes on where that stands, as if it were one: there
+/// are legal orders of the operations of both, of which the one behind the other is served by one memory,
+/// from the opening words of the first on, with the same replies, and leaves the words of the second.
+pub fn reopened_machines_go_on()
+    ensures { (l k : Load) (c d : Core) (steps more : List Step) → IsAfter l c steps
+        → IsAfter k d more → d.opening ≡ (shown c).memory → GoesOnFrom l steps k more }
 {}

@@ -4,6 +4,7 @@
 pub mod asked;
 mod flags;
 pub mod laws;
+mod opening;
 
 pub use asked::AskedMachine;
 pub use machine_core::Machine;

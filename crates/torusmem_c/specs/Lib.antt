@@ -16,3 +16,4 @@ pub mod Spins
 pub mod Traces
 pub mod Watching
 pub mod Appending
+pub mod Opening

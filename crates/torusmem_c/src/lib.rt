@@ -5,6 +5,7 @@ pub mod appending;
 mod choice;
 pub mod explaining;
 pub mod networks;
+pub mod opening;
 pub mod order;
 pub mod outcome;
 mod ports;

@@ -179,6 +179,23 @@ class Looks(unittest.TestCase):
         self.assertEqual([it.served for it in machine.order(1)], [5])
         self.assertEqual(list(machine.order(2**32 - 1)), [])
 
+    def test_a_machine_of_numbers(self):
+        made = Machine.of(torusmem.Shape((3, 4), (2, 0), 8, 16, 5, 0, 0), [1, 2**64 - 1])
+        self.assertEqual(made.shape, torusmem.Shape((3, 4), (2, 0), 8, 16, 5, 12, 18))
+        self.assertEqual(made.words(), [1, 2**64 - 1, 0, 0, 0])
+        index = made.ask(11, torusmem.Operation.ADD, 1, 3)
+        fresh = made.reopened()
+        self.assertEqual((fresh.shape, fresh.words()), (made.shape, [1, 2, 0, 0, 0]))
+        self.assertEqual(made.answer_of(11, index).old, 2**64 - 1)
+        for shape, words, why in [
+            (((), (), 4, 4, 8, 0, 0), [], "F2"), (((2,) * 4, (1,) * 4, 4, 4, 8, 0, 0), [], "F2"),
+            (((9,), (1,), 4, 4, 8, 0, 0), [], "F1"), (((2, 2), (1,), 4, 4, 8, 0, 0), [], "F13"),
+            (((2,), (2,), 4, 4, 8, 0, 0), [], "F14"), (((2,), (1,), 9, 4, 8, 0, 0), [], "F6"),
+            (((2,), (1,), 4, 4, 1, 0, 0), [1, 2], "F7"),
+        ]:
+            with self.assertRaisesRegex(ValueError, f"\\({why}\\)"):
+                Machine.of(torusmem.Shape(*shape), words)
+
     def test_what_is_not_there(self):
         machine = first()
         left = machine.moves_left

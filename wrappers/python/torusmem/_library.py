@@ -91,6 +91,8 @@ CALLS = {
     "version": (c_char_p, []),
     "code_text": (c_char_p, [c_uint32]),
     "load": (Outcome, [_M, c_char_p, c_size_t, c_char_p, c_size_t]),
+    "open": (Outcome, [_M, POINTER(RawShape), POINTER(c_uint64), c_size_t]),
+    "reopen": (Outcome, [_M, _M]),
     "explain": (Explanation, [c_char_p, c_size_t, c_char_p, c_size_t, c_void_p, c_size_t]),
     "free": (None, [_M]),
     "step": (Outcome, [_M, c_uint32, c_uint32, c_uint32]),

@@ -3,6 +3,7 @@
 from __future__ import annotations
 
 import os
+from ctypes import byref, c_uint64
 from operator import index as whole
 from typing import Any, Iterable, Optional, Sequence, Tuple, Union
 
@@ -10,7 +11,7 @@ from . import _library
 from ._faults import REASONS, fault_of
 from ._kept import alone
 from ._looks import Looks
-from ._records import MOST, Path, Steps, Text, bytes_of, number_of
+from ._records import MOST, Path, Shape, Steps, Text, bytes_of, number_of
 
 
 # What a fault of a line speaks of.
@@ -42,6 +43,33 @@ class Machine(Looks):
         made = cls.__new__(cls)
         made._load(texts[0], texts[1], (os.fspath(machine), os.fspath(scripts)))
         return made
+
+    @classmethod
+    def of(cls, shape: Shape, words: Sequence[int] = ()) -> Machine:
+        """The machine of a shape: its first words are given, and the others are 0. ValueError tells what is wrong with the
+        shape, of which tiles and ports aren't looked at."""
+        if len(shape.datelines) != len(shape.radices):
+            raise ValueError(f"torusmem: {REASONS[13]} (F13)")
+        raw = _library.RawShape(dims=len(shape.radices), depth=shape.depth, tags=shape.tags, words=shape.words)
+        raw.radices[:], raw.datelines[:] = ([*it, 0, 0, 0][:3] for it in (shape.radices, shape.datelines))
+        made = cls.__new__(cls)
+        made._begin()
+        made._step = made._calls.step
+        said = made._calls.open(made._at, byref(raw), (c_uint64 * max(1, len(words)))(*words), len(words))
+        if said.code in REASONS and said.code != _library.FAULT_MEMORY:
+            raise ValueError(f"torusmem: {REASONS[said.code]} (F{said.code})")
+        made._value(said)
+        return made
+
+    @alone
+    def reopened(self) -> Machine:
+        """Finishes its scripts, and opens a machine of the same shape that goes on with its words: what is asked of that is
+        answered as if this one had gone on, and its limits begin anew. This one keeps its answers."""
+        fresh = type(self).__new__(type(self))
+        fresh._begin()
+        fresh._step = fresh._calls.step
+        self._value(self._calls.reopen(self._at, fresh._at))
+        return fresh
 
     def _load(self, machine: bytes, scripts: bytes, files: Tuple[str, str]) -> None:
         self._begin()

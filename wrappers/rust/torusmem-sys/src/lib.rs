@@ -225,6 +225,13 @@ extern "C" {
         scripts: *const u8,
         scripts_length: usize,
     ) -> torusmem_outcome;
+    pub fn torusmem_open(
+        m: *mut torusmem_machine,
+        shape: *const torusmem_shape,
+        words: *const u64,
+        words_length: usize,
+    ) -> torusmem_outcome;
+    pub fn torusmem_reopen(m: *mut torusmem_machine, fresh: *mut torusmem_machine) -> torusmem_outcome;
     pub fn torusmem_explain(
         machine: *const u8,
         machine_length: usize,

@@ -313,6 +313,38 @@ impl Machine {
         Ok(Machine { raw })
     }
 
+    /// The machine of a shape, whose first words are given, and whose others are 0; its tiles and ports are not looked at.
+    /// The fault is the first one of the shape, at line 0: 2, not one to three dimensions; 1, a radix; 3, more than 64
+    /// tiles; 13, not one dateline for each radix; 14, a dateline; 6, the depth, the tags or the number of words; 7, more
+    /// words than there are.
+    pub fn open(shape: &Shape, words: &[u64]) -> Result<Machine, Fault> {
+        let dims = shape.radices.len();
+        if dims <= 3 && shape.datelines.len() != dims {
+            return Err(Fault::Text { fault: sys::TORUSMEM_FAULT_COUNT, line: 0 });
+        }
+        let three = |list: &[u32]| std::array::from_fn(|dim| list.get(dim).copied().unwrap_or(0));
+        let built = sys::torusmem_shape {
+            dims: dims.min(4) as u32,
+            radices: three(&shape.radices),
+            datelines: three(&shape.datelines),
+            depth: shape.depth,
+            tags: shape.tags,
+            words: shape.words,
+            ..Default::default()
+        };
+        let mut raw = Raw::empty();
+        granted(raw.open(&built, words))?;
+        Ok(Machine { raw })
+    }
+
+    /// Finishes its scripts, and opens a machine of the same shape that goes on with its words: what is asked of that is
+    /// answered as if this one had gone on. This one keeps its answers. The only fault is that memory is refused.
+    pub fn reopened(&mut self) -> Result<Machine, Fault> {
+        let mut raw = Raw::empty();
+        granted(self.raw.reopen(&mut raw))?;
+        Ok(Machine { raw })
+    }
+
     /// Attempts one choice of one agent, and answers whether it moved. Tile t has the agents 3t (its processor),
     /// 3t + 1 (its router) and 3t + 2 (its bank). What isn't there doesn't move.
     pub fn step(&mut self, agent: u32, choice: Choice) -> bool {

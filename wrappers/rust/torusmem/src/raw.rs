@@ -69,6 +69,16 @@ impl Raw {
         unsafe { torusmem_load(&mut self.0, text_at(machine), machine.len(), text_at(scripts), scripts.len()) }
     }
 
+    pub fn open(&mut self, shape: &torusmem_shape, words: &[u64]) -> torusmem_outcome {
+        // SAFETY: the machine is this one's alone; the slice has as many words as it says, and is only read.
+        unsafe { torusmem_open(&mut self.0, shape, list_at(words, &0), words.len()) }
+    }
+
+    pub fn reopen(&mut self, fresh: &mut Raw) -> torusmem_outcome {
+        // SAFETY: both machines are nobody else's, and two.
+        unsafe { torusmem_reopen(&mut self.0, &mut fresh.0) }
+    }
+
     calls! {
         step = torusmem_step(agent, choice, number) -> torusmem_outcome;
         enabled = torusmem_enabled(agent, choice, number) -> torusmem_outcome;

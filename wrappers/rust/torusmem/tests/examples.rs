@@ -222,6 +222,25 @@ fn a_flit_on_its_way() {
 }
 
 #[test]
+fn a_machine_of_numbers() {
+    let mut first = first();
+    let shape = first.shape();
+    let mut machine = Machine::open(&shape, &[1, u64::MAX]).expect("a machine");
+    assert_eq!((machine.shape(), machine.word(0), machine.word(1), machine.word(2)), (shape.clone(), Some(1), Some(u64::MAX), Some(0)));
+    machine.run([]);
+    first.finish();
+    let mut fresh = first.reopened().expect("a machine");
+    assert_eq!((fresh.shape(), fresh.word(5), fresh.finished()), (shape.clone(), Some(17), true));
+    let fault = |shape: torusmem::Shape, words: &[u64]| Machine::open(&shape, words).err();
+    let text = |fault| Some(Fault::Text { fault, line: 0 });
+    assert_eq!(fault(torusmem::Shape { radices: vec![], datelines: vec![], ..shape.clone() }, &[]), text(2));
+    assert_eq!(fault(torusmem::Shape { radices: vec![2; 4], datelines: vec![1; 4], ..shape.clone() }, &[]), text(2));
+    assert_eq!(fault(torusmem::Shape { radices: vec![2; 2], ..shape.clone() }, &[]), text(13));
+    assert_eq!(fault(torusmem::Shape { tags: 17, ..shape.clone() }, &[]), text(6));
+    assert_eq!(fault(shape, &[0; 9]), text(7));
+}
+
+#[test]
 fn the_order() {
     let mut machine = first();
     assert_eq!(machine.order(0), Ok(vec![]));

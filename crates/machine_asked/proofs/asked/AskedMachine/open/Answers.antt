@@ -1,0 +1,18 @@
+-- What is loaded is compared with what is asked for, and no line is read.
+use Rattle.std.proofs.Common.{[], refl, sym, ◌∙◌, ap, replicate}
+use Rattle.std.specs.Str.Lines.{lines}
+use Rattle.torus.specs.Shape.{Shape, tiles_of}
+use Rattle.machine_asked.proofs.Openings.{no_lines}
+use Rattle.machine_asked.proofs.asked.AskedMachine.open.Goals as goal
+
+pub returns-then-is_built : goal.returns-then-is_built
+returns-then-is_built g c =
+    let built = c.is_built.ensures c.if-is_built.true in
+    let loaded = c.in-Ok.ensures.loaded in
+    record {
+      built = built;
+      load = loaded.load;
+      fresh = loaded.after;
+      scripts = no_lines (lines c.as_slice.result.now) loaded.load loaded.read
+          ∙ ap (λ (s : Shape). replicate (tiles_of s) []) (sym loaded.after.shape ∙ built.shape_is);
+    }

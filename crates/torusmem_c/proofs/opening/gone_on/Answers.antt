@@ -1,0 +1,50 @@
+-- The machine is finished, and the other handle holds one with its words, or none.
+use Rattle.std.proofs.Common.{refl}
+use Rattle.torusmem_c.specs.declared.outcome.Code.TheVariants as code
+use Rattle.torusmem_c.specs.Outcome.{c_outcome}
+use Rattle.c_handles.specs.HeldMachine.{held}
+use Rattle.torusmem_c.proofs.Handing.{handed_on, nothing_handed}
+use Rattle.torusmem_c.proofs.opening.gone_on.Goals as goal
+
+pub returns-in-Ok : goal.returns-in-Ok
+returns-in-Ok c =
+    let made = c.finish-rounds.ensures in
+    (
+      c_outcome code.Done c.finish-rounds.result,
+      record {
+        spins = made.spins;
+        core = record {
+          rounds = c.finish-rounds.result;
+          answer = refl;
+          state = made.state;
+          needed = made.needed;
+          few = made.few;
+          left = made.left;
+          runs_on = made.runs_on;
+          scripts = made.scripts;
+        };
+      },
+      handed_on c.finish-rounds.new.self c.in-Ok.made c.finish-rounds.result (held c.kept.new.handle) c.kept.result c.in-Ok.ensures c.kept.ensures,
+    )
+
+pub returns-in-Err : goal.returns-in-Err
+returns-in-Err c =
+    let made = c.finish-rounds.ensures in
+    (
+      c_outcome code.Done c.finish-rounds.result,
+      record {
+        spins = made.spins;
+        core = record {
+          rounds = c.finish-rounds.result;
+          answer = refl;
+          state = made.state;
+          needed = made.needed;
+          few = made.few;
+          left = made.left;
+          runs_on = made.runs_on;
+          scripts = made.scripts;
+        };
+      },
+      nothing_handed c.finish-rounds.new.self (c_outcome code.Done c.finish-rounds.result) (held c.args.fresh.now) c.no_memory.result c.requires
+          c.no_memory.ensures,
+    )

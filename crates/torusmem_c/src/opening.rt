@@ -1,0 +1,145 @@
+//! A machine that is opened by numbers, and one that goes on where another stands.
+
+ghost use Rattle.std.specs.Prelude.{◌≡◌, IfOk, None, length};
+ghost use Rattle.c_handles.specs.HeldMachine.{held};
+ghost use Rattle.machine_asked.specs.Opened.{IsOpened};
+ghost use Rattle.torusmem_c.specs.Opening.{GoesOn, Keeps, Opens, Reopens, opening_words, shape_asked, torus_asked};
+
+use crate::outcome::{Code, Outcome, no_memory};
+use crate::shape::ShapeRecord;
+use c_handles::MachineHandle;
+use machine_asked::AskedMachine;
+use std::alloc::{AllocError, Global};
+use torus::{Fault, Torus};
+
+/// The torus of the dimensions that a record has.
+fn torus_asked(shape: &ShapeRecord) -> Result<Torus, Fault>
+    ensures { result ≡ torus_asked shape.now }
+{
+    if shape.dims > 3 {
+        return Err(Fault::Dimensions);
+    }
+    let dims = shape.dims as usize;
+    Torus::mixed(&shape.radices[..dims], &shape.datelines[..dims])
+}
+
+/// The same, if the other numbers are in their ranges, and there are not more opening words than words.
+fn shape_asked(shape: &ShapeRecord, given: usize) -> Result<Torus, Fault>
+    ensures { result ≡ shape_asked shape.now given }
+{
+    let torus = torus_asked(shape)?;
+    if shape.depth < 1 || shape.depth > 8 {
+        return Err(Fault::Range);
+    }
+    if shape.tags < 1 || shape.tags > 16 {
+        return Err(Fault::Range);
+    }
+    if shape.words < 1 || shape.words > 65536 {
+        return Err(Fault::Range);
+    }
+    if given > shape.words as usize {
+        return Err(Fault::Address);
+    }
+    Ok(torus)
+}
+
+/// So many words, of which the first are given, and the others are 0.
+fn opening_words(alloc: Global, words: u32, given: &[u64]) -> Result<Vec<u64>, AllocError>
+    ensures { IfOk result (λ opening. opening.items ≡ opening_words words given.now) }
+{
+    let mut opening = Vec::from_slice(alloc, given)?;
+    let more = (words as usize).saturating_sub(given.len());
+    for place in 0..more {
+        let _ = place;
+        opening.push(0)?;
+    }
+    Ok(opening)
+}
+
+/// The machine of a torus, of the depth and the tags of a record, that opens with these words.
+fn opened(
+    alloc: Global,
+    torus: Torus,
+    shape: &ShapeRecord,
+    words: &[u64],
+) -> Result<AskedMachine, AllocError>
+    ensures { IfOk result (IsOpened torus shape.now.depth shape.now.tags
+        (opening_words shape.now.words words.now)) }
+{
+    let opening = opening_words(alloc, shape.words, words)?;
+    AskedMachine::open(alloc, torus, shape.depth, shape.tags, opening.as_slice())
+}
+
+/// Holds a machine in an empty handle, and answers this number.
+fn kept(handle: &mut MachineHandle, machine: AskedMachine, value: u64) -> Outcome
+    requires { held handle.old ≡ None }
+    ensures { Keeps machine value (held handle.new) result }
+{
+    match handle.hold(machine) {
+        Ok(()) => Outcome::done(value),
+        Err(_) => no_memory(),
+    }
+}
+
+/// Opens the machine of a shape into an empty handle, whose first words are given, and whose others are 0. No
+/// processor has a line.
+///
+/// Errors: the handle holds a machine; the first fault of the shape, in the order dimensions, radices, tiles,
+/// datelines, depth, tags, number of words; more words are given than there are; or out of memory. It
+/// holds what it held then.
+#[unsafe(no_mangle)]
+pub extern "C" fn torusmem_open(
+    alloc: Global,
+    handle: &mut MachineHandle,
+    shape: &ShapeRecord,
+    words: &[u64],
+) -> Outcome
+    ensures { Opens (shape_asked shape.now (length words.now)) shape.now.depth shape.now.tags
+        (opening_words shape.now.words words.now) (held handle.old) (held handle.new) result }
+{
+    if let Some(_held) = handle.machine() {
+        return Outcome::of(Code::Full, 0);
+    }
+    let torus = match shape_asked(shape, words.len()) {
+        Ok(torus) => torus,
+        Err(fault) => return Outcome::of(Code::Fault(fault), 0),
+    };
+    match opened(alloc, torus, shape, words) {
+        Ok(machine) => kept(handle, machine, 0),
+        Err(_) => no_memory(),
+    }
+}
+
+/// Finishes a machine, and holds one that goes on where it stands in an empty handle.
+fn gone_on(alloc: Global, machine: &mut AskedMachine, fresh: &mut MachineHandle) -> Outcome
+    requires { held fresh.old ≡ None }
+    ensures { GoesOn machine.old machine.new (held fresh.new) result }
+{
+    let rounds = machine.finish();
+    match machine.reopened(alloc) {
+        Ok(made) => kept(fresh, made, rounds),
+        Err(_) => no_memory(),
+    }
+}
+
+/// Makes rounds until every script is finished, and opens a machine of the same shape into another, empty
+/// handle, whose opening words are the words of this one then; answers how many rounds.
+///
+/// Errors: the other handle holds a machine, or this one none, and nothing changes then; or out of memory
+/// for the other machine.
+#[unsafe(no_mangle)]
+pub extern "C" fn torusmem_reopen(
+    alloc: Global,
+    handle: &mut MachineHandle,
+    fresh: &mut MachineHandle,
+) -> Outcome
+    ensures { Reopens (held handle.old) (held handle.new) (held fresh.old) (held fresh.new) result }
+{
+    if let Some(_held) = fresh.machine() {
+        return Outcome::of(Code::Full, 0);
+    }
+    match handle.machine() {
+        Some(machine) => gone_on(alloc, machine, fresh),
+        None => Outcome::empty(),
+    }
+}
