@@ -2,10 +2,10 @@
 ghost use Rattle.std.specs.Prelude.{◌≤◌, All, IfSome, length};
 ghost use Rattle.fabric.specs.Seats.{IsSeatOf};
 
+use crate::fixtures::{self, Dealt, Whole};
 use history::{
     End, Fabric, Final, Gate, ProbeSeat, TileSeat, Turned, Unwatched, Worker, run_workers,
 };
-use machine_core::load;
 use std::alloc::Global;
 use std::sync::Wait;
 use std::sync::atomic::{AtomicBool, AtomicU64, Ordering};
@@ -26,17 +26,22 @@ pub struct Bench {
     ghost own_probes: { All (λ s. IsSeatOf fabric s) probes.items },
 }
 
-/// Reads both texts, loads the machine and opens it, with no worker yet.
+/// Loads the machine of two texts and opens it, with no worker yet, and as many probe seats as there may be.
 pub fn deal(alloc: Global, machine: &[u8], scripts: &[u8], cuts: &[usize]) -> Result<Bench, Fail> {
-    let machine = load(alloc, machine, scripts)?;
-    match Fabric::open(alloc, machine, cuts, 1) {
-        Ok((fabric, seats, probes)) => Ok(Bench {
+    match fixtures::deal(alloc, machine, scripts, cuts, 16) {
+        Ok(
+            Dealt {
+                fabric,
+                seats,
+                probes,
+            },
+        ) => Ok(Bench {
             fabric,
             seats,
             workers: Vec::new(alloc),
             probes,
         }),
-        Err(fault) => Err(Fail::from(fault)),
+        Err((_, fault)) => Err(Fail::from(fault)),
     }
 }
 
@@ -246,20 +251,8 @@ impl Bench {
 
     /// The end, after all seats are joined.
     pub fn close(self) -> Result<Final, Fail> {
-        let Whole { fabric, seat } = self.join()?;
-        if !seat.is_whole() {
-            return Err(Fail::from("a whole seat"));
-        }
-        Ok(fabric.close(seat))
+        Ok(self.join()?.close().ok_or("a whole seat")?)
     }
-}
-
-/// A fabric, and a seat that may have all tiles.
-#[derive(Drop)]
-pub struct Whole {
-    fabric: Fabric,
-    seat: TileSeat,
-    ghost own: { IsSeatOf fabric seat },
 }
 
 impl Whole {
@@ -324,38 +317,5 @@ impl Gate for Door {
 
     fn before(&self, worker: usize, _step: Step) -> bool {
         worker != self.stopped || self.asked.fetch_add(1, Ordering::SeqCst) < self.most
-    }
-}
-
-/// Lets a worker begin once the other has come.
-#[derive(Drop)]
-pub struct Rendezvous {
-    here: [AtomicBool; 2],
-}
-
-impl Rendezvous {
-    pub fn new() -> Rendezvous {
-        Rendezvous {
-            here: [AtomicBool::new(false), AtomicBool::new(false)],
-        }
-    }
-}
-
-impl Gate for Rendezvous {
-    fn begin(&self, worker: usize) -> bool {
-        if worker > 1 {
-            return false;
-        }
-        self.here[worker].store(true, Ordering::SeqCst);
-        for _ in 0..100000000u64 {
-            if self.here[1 - worker].load(Ordering::SeqCst) {
-                return true;
-            }
-        }
-        false
-    }
-
-    fn before(&self, _worker: usize, _step: Step) -> bool {
-        true
     }
 }

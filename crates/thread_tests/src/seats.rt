@@ -1,6 +1,6 @@
 ghost use Rattle.fabric.specs.Seats.{IsSeatOf};
 
-use crate::fixtures::{Call, PAIR, Pair, Whole, deal, deal_pair, deal_whole, hold, make_rounds};
+use crate::fixtures::{Call, PAIR, Pair, Whole, deal_pair, deal_whole, hold, make_rounds};
 use fabric::{Fabric, Final, ProbeSeat, TileSeat, Turned};
 use home_bank::Entry;
 use linked_list_allocator::LocalHeap;
@@ -10,50 +10,6 @@ use std::alloc::{Allocator, Global};
 use std::test::Fail;
 use std::thread;
 use torus::{Choice, Fault, Step, Tag};
-
-/// Sixty-four tiles.
-const SQUARE: &[u8] = b"radix 8\ndims 2\ndepth 1\ntags 1\nwords 64\n";
-
-/// A machine, cuts and probes, and how many tile seats are dealt with them, where the numbers are within
-/// their ranges.
-const DEALS: [(&[u8], &[usize], usize, Option<usize>); 14] = [
-    (PAIR, &[], 0, Some(1)),
-    (PAIR, &[1], 16, Some(2)),
-    (PAIR, &[0], 0, None),
-    (PAIR, &[2], 0, None),
-    (PAIR, &[1, 1], 0, None),
-    (PAIR, &[1], 17, None),
-    (PAIR, &[], usize::MAX, None),
-    (SQUARE, &[63], 0, Some(2)),
-    (SQUARE, &[64], 0, None),
-    (SQUARE, &[8, 7], 0, None),
-    (SQUARE, &[0, 7], 0, None),
-    (SQUARE, &[1, usize::MAX], 0, None),
-    (
-        SQUARE,
-        &[1, 2, 3, 4, 5, 6, 7, 8, 9, 10, 11, 12, 13, 14, 15],
-        0,
-        Some(16),
-    ),
-    (
-        SQUARE,
-        &[1, 2, 3, 4, 5, 6, 7, 8, 9, 10, 11, 12, 13, 14, 15, 16],
-        0,
-        None,
-    ),
-];
-
-#[test]
-fn seats_are_dealt_within_ranges(rt: HostRuntime) {
-    for (number, &(machine, cuts, probes, seats)) in DEALS.iter().enumerate() {
-        let is_so = match deal(rt.alloc(), machine, b"", cuts, probes) {
-            Ok(made) => seats == Some(made.seats.len()) && made.probes.len() == probes,
-            Err((Call::Open, fault)) => seats.is_none() && fault == Fault::Range,
-            Err(_) => false,
-        };
-        assert!(rt; is_so, "deal {number}");
-    }
-}
 
 /// A step of two seats with one tile each: the agent and its choice, and what comes of it by the first seat
 /// and then by the other.

@@ -1,10 +1,12 @@
-use crate::bench::{Door, Rendezvous, deal, deal_workers};
-use history::{End, Final, Open, Piped, check_report, of_final, write_report};
+use crate::bench::{Door, deal, deal_workers};
+use history::{End, Final, Open, of_final};
 use linked_list_allocator::LocalHeap;
 use one_order::Answer;
 use packet::Reply;
 use std::alloc::{AllocError, Global};
+use std::sync::Wait;
 use std::test::Fail;
+use std::thread::Threads;
 
 /// Two tiles, eight words.
 const PAIR: &[u8] = b"radix 2\ndims 1\ndepth 4\ntags 4\nwords 8\n";
@@ -201,14 +203,6 @@ fn sums_are_not_lost(rt: HostRuntime) -> Result<(), Fail> {
     Ok(())
 }
 
-/// The first worker begins once the second has come.
-#[test]
-fn workers_run_side_by_side(rt: HostRuntime) -> Result<(), Fail> {
-    let made = deal_workers(rt.alloc(), PAIR, b"", &[1])?.run(&rt, &Rendezvous::new(), TURNS);
-    assert!(rt; made.has_ends(&[FINISHED, FINISHED]));
-    Ok(())
-}
-
 /// From which worker on the gate holds back, and how both end then.
 const HOLDS: [(usize, &[Option<End>]); 2] = [(0, &[HELD, HELD]), (1, &[STOPPED, HELD])];
 
@@ -265,56 +259,40 @@ fn who_has_finished_makes_no_attempt(rt: HostRuntime) -> Result<(), Fail> {
     Ok(())
 }
 
-/// The gate stops worker 1 from its first attempt on: nothing is served. When it is let, both finish.
-/// The same after each number of attempts to 200, while a third thread reads the words.
-#[test]
-fn stopped_tiles_lose_nothing(rt: HostRuntime) -> Result<(), Fail> {
+/// Whether nothing is served where the gate stops worker 1 from its first attempt on.
+fn nothing_is_served<R: Threads + Wait + Sync + AllocGlobal>(rt: &R) -> Result<bool, Fail> {
     let stopped = deal_workers(rt.alloc(), PAIR, SCRIPT, &[1])?;
-    let stopped = stopped.run(&rt, &Door::stopping(1, 0), 10000);
+    let stopped = stopped.run(rt, &Door::stopping(1, 0), 10000);
     let ends = stopped.has_ends(&[STOPPED, STOPPED]);
     let last = stopped.close()?;
-    let none = last.bank(1) == Some(&[]) && last.word(5) == Some(0) && !last.finished();
-    assert!(rt; ends && none, "no entry");
-    for attempts in 0..201 {
-        let made = deal_workers(rt.alloc(), PAIR, SCRIPT, &[1])?;
-        let door = Door::stopping(1, attempts);
-        let (stopped, is_good) = made.run_watched(&rt, &door, 10000);
-        let ends = stopped.has_ends(&[STOPPED, STOPPED]);
-        let is_asked = door.asked().1 == attempts.saturating_add(1);
-        let made = stopped.run(&rt, &Open, TURNS);
-        let is_end = made.has_ends(&[FINISHED, FINISHED]) && is_so(&made.close()?, &RUNS[3]);
-        assert!(rt; is_good && ends && is_asked && is_end, "after {attempts}");
-    }
-    Ok(())
+    Ok(ends && last.bank(1) == Some(&[]) && last.word(5) == Some(0) && !last.finished())
 }
 
-/// The report of an end, in bytes.
-fn report_of(alloc: Global, last: &Final) -> Result<Vec<u8>, AllocError> {
-    let mut bytes = Vec::new(alloc);
-    let Ok(report) = of_final(alloc, last) else {
-        return Err(AllocError);
-    };
-    match write_report(&mut Piped::new(&mut bytes), &report) {
-        Ok(()) => Ok(bytes),
-        Err(_) => Err(AllocError),
-    }
+/// Whether a run in which the gate stops worker 1 after so many attempts, while a third thread reads the words,
+/// comes to its end when it is let.
+fn goes_on_after<R: Threads + Wait + Sync + AllocGlobal>(
+    rt: &R,
+    attempts: u64,
+) -> Result<bool, Fail> {
+    let made = deal_workers(rt.alloc(), PAIR, SCRIPT, &[1])?;
+    let door = Door::stopping(1, attempts);
+    let (stopped, is_good) = made.run_watched(rt, &door, 10000);
+    let ends = stopped.has_ends(&[STOPPED, STOPPED]);
+    let is_asked = door.asked().1 == attempts.saturating_add(1);
+    let made = stopped.run(rt, &Open, TURNS);
+    let is_finished = made.has_ends(&[FINISHED, FINISHED]);
+    let last = made.close()?;
+    Ok(is_good && ends && is_asked && is_finished && is_so(&last, &RUNS[3]))
 }
 
-/// The report of a run that was stopped: of no operation, where worker 1 made no attempt; a good one
-/// after each number of attempts.
+/// Tiles that are stopped lose nothing: none of what comes later, after each number of attempts to 200.
 #[test]
-fn stopped_runs_report_well(rt: HostRuntime) -> Result<(), Fail> {
-    let stopped = deal_workers(rt.alloc(), PAIR, SCRIPT, &[1])?;
-    let last = stopped.run(&rt, &Door::stopping(1, 0), 10000).close()?;
-    let report = report_of(rt.alloc(), &last)?;
-    let is_empty = report.as_slice() == "torusmem 1\nshape 2 1 8\nend incomplete\n".as_bytes();
-    assert!(rt; is_empty, "no operation");
-    for attempts in 1..201 {
-        let made = deal_workers(rt.alloc(), PAIR, SCRIPT, &[1])?;
-        let last = made.run(&rt, &Door::stopping(1, attempts), 10000).close()?;
-        let report = report_of(rt.alloc(), &last)?;
-        let verdict = check_report(rt.alloc(), &report);
-        assert!(rt; verdict == Ok(()), "after {attempts}");
+fn stopped_tiles_lose_nothing(rt: HostRuntime) -> Result<(), Fail> {
+    let none = nothing_is_served(&rt)?;
+    assert!(rt; none, "no entry");
+    for attempts in 0..201 {
+        let is_end = goes_on_after(&rt, attempts)?;
+        assert!(rt; is_end, "after {attempts}");
     }
     Ok(())
 }
