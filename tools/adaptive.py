@@ -19,11 +19,20 @@ class Edge(NamedTuple):
 
 
 class Found(NamedTuple):
-    """What is judged: the verdict's line, and of a cycle its edges; of `rising` how far packets can go, and numbers."""
+    """What is judged: the verdict's line; of `rising` numbers, and how far packets can go; of a cycle its edges, each with
+    the channel that it leads from and that to which it leads."""
 
     kind: str
-    lines: List[str]
     numbers: List[int] = []
+    travel: str = ""
+    turns: List[Tuple[int, Edge, int]] = []
+
+    def text(self) -> str:
+        """The lines of `torusmem network`, but for the numbers."""
+        if self.kind == "rising":
+            return f"{'bounded' if self.travel.startswith('bounded') else self.travel}\nrising\n"
+        lines = [self.kind, *(f"channel {x}" for x, _, _ in self.turns), *["may lock up"] * (self.kind == "cycle")]
+        return "\n".join(lines) + "\n"
 
 
 def choices_of(net: Network) -> Dict[Tuple[int, int], List[int]]:
@@ -147,28 +156,21 @@ class Walk:
         raise AssertionError("there is a cycle")
 
 
-def line_of(x: int, y: int, edge: Edge) -> str:
-    """The line of an edge of a cycle."""
-    if edge.to is None:
-        return f"{x} replies {y}"
-    return f"{x} to {edge.to}" + (f" over {' '.join(map(str, edge.over))}" if edge.over else "")
-
-
 def judged_choices(net: Network) -> Found:
     """What is judged of a network with several choices."""
     wrong = misfit(net)
     if wrong is not None:
-        return Found(wrong, [])
+        return Found(wrong)
     walk = Walk(net)
     wrong = walk.bare()
     if wrong is not None:
-        return Found(wrong, [])
+        return Found(wrong)
     edges = walk.edges()
     rank = numbers(net, {edge: "" for edge in edges})
     if rank is not None:
-        return Found("rising", [walk.travel()], rank)
+        return Found("rising", rank, walk.travel())
     around = shortest_cycle(edges)
-    return Found("cycle", [line_of(x, y, edges[x, y]) for x, y in zip(around, around[1:] + around[:1])])
+    return Found("cycle", turns=[(x, edges[x, y], y) for x, y in zip(around, around[1:] + around[:1])])
 
 
 def shortest_cycle(edges: Dict[Tuple[int, int], Edge]) -> List[int]:

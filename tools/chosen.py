@@ -2,65 +2,30 @@
 printed it."""
 from __future__ import annotations
 
-from dataclasses import dataclass, field
-from typing import Dict, List, Optional, Tuple
+from typing import List, Optional, Tuple
 
-from adaptive import Edge, Walk, judged_choices
+from adaptive import Edge, Found, Walk, judged_choices
 from command import Refusal
 from jam import titled
 from walked import Network, number_of
 
-# A dependency of a cycle: the channel that is held, how it leads on, and the channel that is waited for.
-Turn = Tuple[int, Edge, int]
+
+def turns_of(lines: List[List[str]], net: Network) -> Optional[List[Tuple[int, Edge, int]]]:
+    """The dependencies between the channels of a cycle, each on a line `channel X`, as the walk knows them; none where one
+    doesn't lead to the next."""
+    edges = Walk(net).edges()
+    if any(words[0] != "channel" or len(words) != 2 for words in lines):
+        return None
+    xs = [number_of(words[1]) for words in lines]
+    pairs = list(zip(xs, xs[1:] + xs[:1]))
+    return [(x, edges[x, y], y) for x, y in pairs] if all(it in edges for it in pairs) else None
 
 
-@dataclass
-class Chosen:
-    """A verdict's line, the numbers that rise, the dependencies of a cycle, and how far packets can go."""
-
-    kind: str
-    numbers: Dict[int, int] = field(default_factory=dict)
-    turns: List[Turn] = field(default_factory=list)
-    travel: str = ""
-
-
-def turns_of(lines: List[List[str]], net: Network) -> Optional[List[Turn]]:
-    """The dependencies of the lines of a cycle; none where a line is no dependency of the network. Of a line `channel X`
-    the walk says which one leads to the next channel."""
-    walk, found = Walk(net), []
-    if all(words[0] == "channel" and len(words) == 2 for words in lines):
-        edges, xs = walk.edges(), [number_of(words[1]) for words in lines]
-        pairs = list(zip(xs, xs[1:] + xs[:1]))
-        return [(x, edges[x, y], y) for x, y in pairs] if all(it in edges for it in pairs) else None
-    firsts = [number_of(words[0]) for words in lines]
-    for words, y in zip(lines, firsts[1:] + firsts[:1]):
-        x, j = number_of(words[0]), number_of((words + ["", ""])[2])
-        over = tuple(number_of(it) for it in words[4:])
-        if words[1:2] == ["replies"]:
-            if len(words) != 3 or j != y or (x, y) not in net.replies:
-                return None
-            found.append((x, Edge(None), y))
-            continue
-        way = (x, *over, y)
-        good = words[1:2] == ["to"] and words[3:4] == ["over"][:len(over)] and x in walk.escapes and y in walk.escapes and not walk.escapes & set(over)
-        if not good or x not in walk.comes(j) or any(b not in walk.after(a, j) for a, b in zip(way, way[1:])):
-            return None
-        found.append((x, Edge(j, over), y))
-    return found
-
-
-def chosen_of(net: Network) -> Chosen:
-    """The verdict of the plain walk."""
-    found = judged_choices(net)
-    if found.kind == "cycle":
-        return Chosen("cycle", turns=turns_of([it.split() for it in found.lines], net) or [])
-    return Chosen(found.kind, dict(enumerate(found.numbers)), travel=(found.lines or [""])[-1])
-
-
-def chosen_read(net: Network, text: str, path: str) -> Chosen:
+def found_in(net: Network, text: str, path: str) -> Found:
     """The verdict that a text of `torusmem network` has. Refused where it is no verdict of this network, as far as the
     plain walk can see."""
-    kind, lines = judged_choices(net).kind, text.splitlines()
+    walked, lines = judged_choices(net), text.splitlines()
+    kind = walked.kind
     said = [it for it in lines if it in ("rising", "cycle") or it.startswith(("no route ", "no choice ", "no escape "))]
     if said != [kind]:
         raise Refusal(f"{path}: the network's verdict is `{kind}`, and not `{' '.join(said)}`")
@@ -68,19 +33,23 @@ def chosen_read(net: Network, text: str, path: str) -> Chosen:
         turns = turns_of([it.split() or [""] for it in lines if it not in ("cycle", "may lock up")], net)
         if not turns:
             raise Refusal(f"{path}: it has no cycle of this network")
-        return Chosen(kind, turns=turns)
+        return Found(kind, turns=turns)
     found = {}
     for words in (it.split() for it in lines):
         if words[:1] == ["number"] and len(words) == 3 and min(map(number_of, words[1:])) >= 0:
             found[int(words[1])] = int(words[2])
     if kind == "rising" and (set(found) != set(range(len(net.kinds))) or any(found[x] >= found[y] for x, y in Walk(net).edges())):
         raise Refusal(f"{path}: its numbers don't rise in this network")
-    return Chosen(kind, found, travel=next((it for it in lines if it.startswith(("bounded", "round "))), ""))
+    return walked._replace(numbers=[found[x] for x in sorted(found)])
 
 
-def told(net: Network, found: Chosen) -> str:
-    """The verdict's line, and a sentence on each dependency of a cycle."""
-    lines = [*filter(None, [found.travel]), found.kind] if found.kind == "rising" else [found.kind]
+def told(net: Network, found: Found) -> str:
+    """The verdict's line; how far packets go, or a sentence on each dependency of a cycle."""
+    lines = [found.kind]
+    if found.kind == "rising":
+        word, *numbers = found.travel.split()
+        most = f"packets go over at most {numbers[0]} channels"
+        lines = [most if word == "bounded" else f"packets to {numbers[0]} can come back to channel {numbers[1]}", found.kind]
     for x, edge, y in found.turns:
         there = f"{y}{titled(net, y)}"
         if edge.to is None:

@@ -7,8 +7,8 @@ from dataclasses import dataclass, field
 from typing import Dict, List, Optional, Tuple
 
 import drawing
-from adaptive import escapes_of
-from chosen import Chosen, chosen_of, chosen_read
+from adaptive import Found, escapes_of, judged_choices
+from chosen import found_in
 from command import Refusal
 from diagram import Diagram, Marks, diagram
 from jam import Fill, Held, held_by, jam_of, titled
@@ -33,13 +33,13 @@ class Verdict:
     numbers: List[int] = field(default_factory=list)
     fills: List[Fill] = field(default_factory=list)
     held: List[Held] = field(default_factory=list)
-    chosen: Optional[Chosen] = None
+    chosen: Optional[Found] = None
 
 
 def verdict_of(net: Network) -> Verdict:
     """The verdict of the plain walk."""
     if net.is_adaptive():
-        found = chosen_of(net)
+        found = judged_choices(net)
         return Verdict(found.kind, WALKED, chosen=found)
     kind, edges = judged(net)
     fills = jam_of(net, cycle(edges)) if kind == "cycle" else []
@@ -50,7 +50,7 @@ def verdict_read(net: Network, text: str, path: str) -> Verdict:
     """The verdict that a text of `torusmem network` has. Refused where it is no verdict of this network, as far as
     the plain walk can see."""
     if net.is_adaptive():
-        read = chosen_read(net, text, path)
+        read = found_in(net, text, path)
         return Verdict(read.kind, PROGRAM, chosen=read)
     kind, edges = judged(net)
     found: Dict[int, int] = {}
@@ -113,7 +113,7 @@ def marks_of(net: Network, plan: Plan, verdict: Verdict) -> Marks:
     return Marks({x: str(x) for x in named}, full, net.replies, waited)
 
 
-def marks_of_chosen(net: Network, found: Chosen) -> Marks:
+def marks_of_chosen(net: Network, found: Found) -> Marks:
     """The same of a network whose routers choose: the numbers of escapes, or the channels of a cycle and those over
     which they lead on."""
     marks = escapes_of(net)
@@ -121,7 +121,7 @@ def marks_of_chosen(net: Network, found: Chosen) -> Marks:
     held = {it for x, edge, _ in found.turns for it in (x, *edge.over)}
     answered = {(x, y) for x, edge, y in found.turns if edge.to is None}
     if found.kind == "rising":
-        return Marks({x: str(it) for x, it in found.numbers.items() if x in marks}, replies=net.replies, loose=loose)
+        return Marks({x: str(it) for x, it in enumerate(found.numbers) if x in marks}, replies=net.replies, loose=loose)
     named = held | {edge.to for _, edge, _ in found.turns if edge.to is not None}
     if not found.turns:
         named = {number_of(it) for it in found.kind.partition(":")[0].split()[2:]}
@@ -178,7 +178,7 @@ def head_of(net: Network, plan: Plan, verdict: Verdict) -> str:
     return ("No choice behind channel {0} for packets to channel {1}: {2}" if what == "no choice" else "No route from channel {0} to channel {1}").format(*numbers)
 
 
-def turned(net: Network, plan: Plan, found: Chosen) -> List[Tuple[str, ...]]:
+def turned(net: Network, plan: Plan, found: Found) -> List[Tuple[str, ...]]:
     """The rows of a table on a cycle of dependencies."""
     rows = [("channel", "between", "packets to", "go on over", "and wait for")]
     for x, edge, y in found.turns:
