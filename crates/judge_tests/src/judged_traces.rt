@@ -280,12 +280,7 @@ fn lose_loads(
 
 /// So many sums at one address, all of which are open until they are answered in turn, behind so many
 /// loads there that are never answered.
-fn open_at_once(
-    alloc: Global,
-    lost: u64,
-    count: u64,
-    bound: usize,
-) -> Result<Seen, AllocError>
+fn open_at_once(alloc: Global, lost: u64, count: u64, bound: usize) -> Result<Seen, AllocError>
     requires lost { lost < 1000 }
     requires count { count < 1000 }
 {

@@ -8,8 +8,7 @@ use Rattle.torusmem_c.proofs.opening.gone_on.Goals as goal
 
 pub returns-in-Ok : goal.returns-in-Ok
 returns-in-Ok c =
-    let made = c.finish-rounds.ensures in
-    (
+    let made = c.finish-rounds.ensures in (
       c_outcome code.Done c.finish-rounds.result,
       record {
         spins = made.spins;
@@ -29,8 +28,7 @@ returns-in-Ok c =
 
 pub returns-in-Err : goal.returns-in-Err
 returns-in-Err c =
-    let made = c.finish-rounds.ensures in
-    (
+    let made = c.finish-rounds.ensures in (
       c_outcome code.Done c.finish-rounds.result,
       record {
         spins = made.spins;
