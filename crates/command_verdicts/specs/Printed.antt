@@ -1,25 +1,29 @@
 -- What the command that judges a network prints (this project's own format).
 use Rattle.std.specs.Prelude.{◌≡◌, List, ℕ, Bool, Result, Ok, Err}
-use Rattle.network_judge.specs.declared.table.Verdict.{Verdict}
-use Rattle.network_judge.specs.Verdicts.{IsVerdict}
-use Rattle.network_text.specs.Network.{NetworkSpec, network_of}
-use Rattle.network_text.specs.Answer.{IsJudgedText, is_rising}
+use Rattle.network_text.specs.declared.answer.Answer.{Answer}
+use Rattle.network_text.specs.Network.{network_of}
+use Rattle.adaptive_text.specs.Printed.{Routing, routing_of, TellsRouting}
 use Rattle.program_fault.specs.declared.fault.ProgramFault.{ProgramFault}
 use Rattle.program_fault.specs.declared.fault.ProgramFault.TheVariants as program
 use Rattle.program_fault.specs.Done.{Does, Output}
 
--- a text is that of a verdict which holds of the network that the lines of a text give, and of what
--- stands behind it; and whether the verdict's numbers rise
+-- a text is what is judged of the network that the lines of a text give, of fixed routes or of
+-- routers that choose; and whether its numbers rise
 pub record IsNetworkText (A : Type 0) (lines : List (List ℕ)) (rising : Bool) (text : List ℕ) : Type
     0 where
-  pub network : NetworkSpec
-  pub read : network_of lines ≡ Ok network
-  pub verdict : Verdict A
-  pub holds : IsVerdict network.table network.replies verdict
-  pub is : IsJudgedText network verdict text
-  pub rises : rising ≡ is_rising verdict
+  pub network : Routing
+  pub read : routing_of lines ≡ Ok network
+  pub answer : Answer A
+  pub tells : TellsRouting network answer
+  pub is : text ≡ answer.text.items
+  pub rises : rising ≡ answer.rising
 
 -- the network text has this as its first fault
+abbrev pub IsRoutingFault : List (List ℕ) → ProgramFault → Type 0
+IsRoutingFault lines (program.Line found) = routing_of lines ≡ Err found
+IsRoutingFault lines _ = ⊥
+
+-- the same, where it must be one of fixed routes
 abbrev pub IsNetworkFault : List (List ℕ) → ProgramFault → Type 0
 IsNetworkFault lines (program.Line found) = network_of lines ≡ Err found
 IsNetworkFault lines _ = ⊥
@@ -27,4 +31,4 @@ IsNetworkFault lines _ = ⊥
 -- the verdict on a network was printed
 abbrev pub PrintsNetwork : (A : Type 0) → List (List ℕ) → Output → Output → Result Bool ProgramFault
     → Type 0
-PrintsNetwork A lines = Does (IsNetworkText A lines) (IsNetworkFault lines)
+PrintsNetwork A lines = Does (IsNetworkText A lines) (IsRoutingFault lines)

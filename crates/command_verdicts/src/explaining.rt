@@ -2,13 +2,32 @@
 
 ghost use Rattle.std.specs.Prelude.{◌≤◌};
 
+use adaptive_text::routing_sentence;
 use error_lines::{explain_by, is_of_texts, named, told};
 use model_answer::LogSentence;
 use model_text::read_log;
 use network_run::{RunSentence, replay_text};
-use network_text::{network_answer, network_sentence, read_network};
+use network_text::{NetworkSentence, network_answer, read_network};
 use program_fault::{ProgramFault, Texts};
 use trace_why::{no_order_sentence, trace_sentence};
+
+/// The line of a fault at which routers begin to choose, where a text is refused for that alone: another
+/// reader takes the line.
+fn choosing_line(fault: &ProgramFault, sentence: &Option<NetworkSentence<'_>>) -> Option<u64> {
+    let ProgramFault::Line(found) = fault else {
+        return None;
+    };
+    match sentence {
+        None => Some(found.line),
+        Some(sentence) => {
+            if sentence.refusal.line == 0 || sentence.refusal.line == found.line {
+                None
+            } else {
+                Some(found.line)
+            }
+        }
+    }
+}
 
 /// Says why the text of a network has the fault that the command answers, where that can be told.
 pub fn explain_network<R: Eprint + AllocGlobal>(
@@ -18,11 +37,15 @@ pub fn explain_network<R: Eprint + AllocGlobal>(
     fault: &ProgramFault,
 ) {
     if is_of_texts(fault) {
-        explain_by(
-            rt,
-            fault,
-            network_sentence(rt.alloc(), named(name, network)),
-        );
+        let sentence = routing_sentence(rt.alloc(), named(name, network));
+        match choosing_line(fault, &sentence) {
+            None => explain_by(rt, fault, sentence),
+            Some(line) => {
+                let _ = eprintln!(rt;
+                    "{name}:{line}: routers choose among channels here; runs and replays take fixed routes alone"
+                );
+            }
+        }
     }
 }
 

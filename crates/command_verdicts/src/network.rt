@@ -4,7 +4,7 @@ ghost use Rattle.std.specs.Str.Lines.{lines};
 ghost use Rattle.program_fault.specs.Done.{output};
 ghost use Rattle.command_verdicts.specs.Printed.{PrintsNetwork};
 
-use network_text::network_answer;
+use adaptive_text::routing_answer;
 use program_fault::ProgramFault;
 use report_lines::Out;
 use report_lines::output::put_all;
@@ -12,7 +12,9 @@ use std::alloc::Allocator;
 
 /// Judges the network of a text, and prints the verdict: the numbers of its channels if they can rise,
 /// so that it never locks up; or the first pair without a route; or a cycle of channels, and behind it
-/// the channels that fill up where the network locks up. Answers whether the numbers rise.
+/// the channels that fill up where the network locks up. Where routers choose among several channels,
+/// the numbers come with a line on how far packets can go, and the verdict may also be the first
+/// channel without an escape, or the first choice that can't stand. Answers whether the numbers rise.
 ///
 /// Errors: the text's first fault, or out of memory; and nothing was written then. If the output
 /// fails, a beginning was written.
@@ -24,7 +26,7 @@ pub fn network_text<A: Allocator + Copy, W: Out>(
     ensures { PrintsNetwork A (lines network.now) (output (W.taken out.old) (W.failures out.old))
         (output (W.taken out.new) (W.failures out.new)) result }
 {
-    let answer = network_answer(alloc, network)?;
+    let answer = routing_answer(alloc, network)?;
     put_all(out, &answer.text)?;
     Ok(answer.rising)
 }

@@ -1,5 +1,5 @@
 -- Where the output failed, a beginning of the verdict's text was taken.
-use Rattle.std.proofs.Common.{◌∙◌}
+use Rattle.std.proofs.Common.{refl}
 use Rattle.std.proofs.lemmas.Result.{err_from_is_err_and}
 use Rattle.command_verdicts.proofs.network.network_text.Goals as goal
 
@@ -14,14 +14,10 @@ returns-in_err-put_all g c =
         record {
           network = told.0;
           read = told.1;
-          verdict = told.2.verdict;
-          holds = told.2.holds;
-          is = record {
-            behind = told.2.text.behind;
-            follows = told.2.text.follows;
-            is = c.deref.ensures.value ∙ told.2.text.is;
-          };
-          rises = told.2.rising;
+          answer = c.in_ok-answer.answer;
+          tells = told.2;
+          is = c.deref.ensures.value;
+          rises = refl;
         },
         record { bytes = c.in_err-put_all.ensures.err; failed = c.in_err-put_all.ensures.failed },
       ),
