@@ -396,7 +396,7 @@ torusmem_outcome torusmem_route(torusmem_machine *m, uint32_t src, uint32_t dst,
    ports"). OK, value: the number of the router's output; NONE: no such tile or input; EMPTY. */
 torusmem_outcome torusmem_next(torusmem_machine *m, uint32_t at, uint32_t input, uint32_t dst) TORUSMEM_RESULT;
 
-/* Judges the network of a network text, whatever its routers and channels are (docs/FORMATS.md, "Network text"):
+/* Judges the network of a network text with one choice for each channel and destination (docs/FORMATS.md, "Network text"):
    whether each pair that it joins has a route, and numbers of its channels can rise along every route and every reply,
    so that it never locks up. Needs no machine. The verdict's text, which the program prints, is put into a buffer.
    OK: the numbers rise; a line for each channel with its number, then `rising`.

@@ -71,7 +71,7 @@ Verdict = Union[Rising, NoRoute, Cycle]
 
 
 def network(text: Text, file: str = "network text") -> Verdict:
-    """Judges the network of a network text (docs/FORMATS.md, "Network text"): whether each pair that it joins has a
+    """Judges the network of a network text of fixed routes (docs/FORMATS.md, "Network text"): whether each pair that it joins has a
     route, and whether its channels can wait for one another in a circle, so that it locks up. TextFault tells the first fault of the text;
     file is how it names the text.
 
