@@ -1,4 +1,4 @@
--- Where the output failed, a beginning of the verdict's text was taken.
+-- The whole text of what is judged was taken; or, where the output failed, a beginning of it.
 use Rattle.std.proofs.Common.{refl}
 use Rattle.std.proofs.lemmas.Result.{err_from_is_err_and}
 use Rattle.command_verdicts.proofs.network.network_text.Goals as goal
@@ -21,4 +21,19 @@ returns-in_err-put_all g c =
         },
         record { bytes = c.in_err-put_all.ensures.err; failed = c.in_err-put_all.ensures.failed },
       ),
+    )
+
+pub returns : goal.returns
+returns g c =
+    let told = c.in_ok-answer.ensures in (
+      c.deref.result.now,
+      record {
+        network = told.0;
+        read = told.1;
+        answer = c.in_ok-answer.answer;
+        tells = told.2;
+        is = c.deref.ensures.value;
+        rises = refl;
+      },
+      record { bytes = c.in_ok-put_all.ensures.ok; quiet = c.in_ok-put_all.ensures.quiet },
     )
