@@ -289,7 +289,8 @@ def refuse_calls(path: str, is_log: bool) -> None:
     """Refuses calls and replies where a report, or a log text, is asked for: they have no times of services, or no order."""
     begin = begin_of(path)
     columns = columns_of(begin)
-    if any(histories.is_log(begin)) and len(columns) < len(COLUMNS):
+    is_map, is_line = histories.is_log(begin)
+    if is_map or is_line and len(columns) < len(COLUMNS):
         raise command.Refusal(f"{path} is a log, and needs --trace (--help says more)")
     if not is_log and columns.issuperset(COLUMNS) and "served" not in columns:
         raise command.Refusal(f"{path} has no column `served`, and needs --trace (--help says more)")
