@@ -54,7 +54,7 @@ def form(tokens: List[str], at: int) -> Tuple[object, int]:
 def forms(text: str) -> List[object]:
     """The forms of a text, one behind the other."""
     if other := TOKEN.sub("", text).strip(" \t\r,"):
-        raise BadLine(f"`{other[:20]}` is not understood")
+        raise BadLine("a string has no end" if other[0] == '"' else f"`{other[:20]}` is not understood")
     tokens, found, at = TOKEN.findall(text), [], 0
     try:
         while at < len(tokens):

@@ -9,6 +9,7 @@ import os
 import traceback
 from typing import Any, Dict, List, Tuple
 
+import command
 from command import Refusal
 from gem5 import CONTROLLERS, Controller, ExtLink, GarnetNetwork, GarnetRouter, IntLink, Missing, Options, standing
 from walked import Network, Place, Router
@@ -46,6 +47,8 @@ def filled(text: str, path: str, given: Dict[str, object]) -> Tuple[GarnetNetwor
     except (Exception, SystemExit) as fault:
         why = fault.msg if isinstance(fault, SyntaxError) else str(fault)
         raise Refusal(f"{where(path, fault)}: {type(fault).__name__}: {why}") from None
+    for word in options.unasked():
+        command.say("network", f"{path} never asks for the option {word}")
     return network, nodes
 
 

@@ -68,9 +68,18 @@ class Options:
 
     def __init__(self, given: Dict[str, object]) -> None:
         self.__dict__.update({**OPTIONS, **given})
+        self.__dict__["_unasked"] = set(given)
+
+    def __getattribute__(self, name: str) -> object:
+        object.__getattribute__(self, "__dict__").get("_unasked", set()).discard(name)
+        return object.__getattribute__(self, name)
 
     def __getattr__(self, name: str) -> object:
         raise Missing(f"the option {name} isn't known: give --set {name}=VALUE")
+
+    def unasked(self) -> List[str]:
+        """The options that are given, and that nobody has asked for."""
+        return sorted(self.__dict__["_unasked"])
 
 
 class GarnetNetwork:

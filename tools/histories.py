@@ -48,7 +48,7 @@ def said_by_map(text: str) -> Said:
         try:
             found = json.loads(text)
         except (ValueError, RecursionError):
-            raise BadLine("it is no JSON") from None
+            raise BadLine("it is no JSON: each map has a line of its own") from None
         found = {f":{key}": quoted(it) for key, it in found.items()} if isinstance(found, dict) else found
     elif edn.FLAT.fullmatch(text):
         pairs = dict(edn.PAIR.findall(text))
@@ -142,6 +142,16 @@ class Log:
             return self.word(said.value[1])
         return self.word(said.value)
 
+    def refuse_other(self, said: Said, at: int) -> None:
+        """Refuses an answer that is one to another operation than the process has open, or that tells of another key."""
+        kind, key = self.calls.asked[at].split(" ", 2)[:2]
+        if KINDS.get(said.operation) != kind:
+            raise BadLine(f"`{said.operation}` is answered, but `{self.calls.spelled[kind]}` is open, of line {self.calls.issues[at]}")
+        told = said.value[:1] if self.has_pairs and isinstance(said.value, list) and len(said.value) == 2 else []
+        told = told if said.key is None else [said.key]
+        if said.kind == "ok" and told and self.calls.names.key(NIL if told[0] is None else str(told[0])) != key:
+            raise BadLine(f"it answers for the key {told[0]}, and line {self.calls.issues[at]} asks for another")
+
     def take(self, said: Said, line: int) -> None:
         """Takes what a line says."""
         process, calls = said.process, self.calls
@@ -162,6 +172,7 @@ class Log:
         if name not in self.is_open:
             raise BadLine(f"the process {name} has no operation open")
         at = self.is_open.pop(name)
+        self.refuse_other(said, at)
         if said.kind == "ok":
             calls.replies[at], calls.answers[at] = self.reply(said, calls.asked[at]), line
             calls.order.append(~at)

@@ -152,11 +152,15 @@ class Teller:
         """Where it stands."""
         return f"line {self.calls.issues[it.at]}"
 
+    def asked(self, at: int) -> str:
+        """An operation with its processor."""
+        kind, *rest = self.names.shown_operation(self.calls.asked[at]).split(" ")
+        asked = " ".join([self.calls.spelled.get(kind, kind), *rest])
+        return f"{asked} by {self.calls.who} {self.calls.processors[at]}"
+
     def operation(self, it: Operation) -> str:
         """An operation with its processor and its times."""
-        kind, *rest = self.names.shown_operation(self.calls.asked[it.at]).split(" ")
-        asked = " ".join([self.calls.spelled.get(kind, kind), *rest])
-        return f"{asked} by {self.calls.who} {self.calls.processors[it.at]}, {self.times(it.at)}"
+        return f"{self.asked(it.at)}, {self.times(it.at)}"
 
     def put(self, it: Operation, says: str, answer: bool = False) -> str:
         """A line of the story, at the line of an operation, or at that of its answer."""
@@ -191,6 +195,7 @@ def told(calls: Calls, trace: Trace, event: int, reasons: List[str], is_failed_c
         later = next((it for it in found.operations if it.writes() and it.leaves() == found.value), None)
         none = f"{calls.path}: no operation whose reply is known writes {value} there"
         lines.append(teller.put(later, f"wrote {value}, and was issued behind that answer") if later else none)
+        lines += [] if later else failed_lines(found, teller)
     if found.was_opening():
         lines.append(f"{calls.path}: {value} is what the word was at first")
     before = f"before {teller.line(found.failed)} was issued"
@@ -203,6 +208,16 @@ def told(calls: Calls, trace: Trace, event: int, reasons: List[str], is_failed_c
     elif found.over:
         lines.append(teller.put(found.over, f"wrote over {value}, and was answered {before}"))
     return lines + open_lines(found, teller)
+
+
+def failed_lines(found: Story, teller: Teller) -> List[str]:
+    """A line for the first operation that failed and would have written the value."""
+    calls, key = found.calls, found.calls.asked[found.failed.at].split(" ", 2)[1]
+    for at in sorted(calls.dropped | calls.failed):
+        kind, address, *values = calls.asked[at].split(" ")
+        if address == key and kind in ("store", "swap", "cas") and int(values[-1]) == found.value:
+            return [f"{calls.path}:{calls.issues[at]}: {teller.asked(at)}: it failed, and would have written {calls.names.shown(values[-1])}"]
+    return []
 
 
 def open_lines(found: Story, teller: Teller) -> List[str]:

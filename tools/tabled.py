@@ -10,7 +10,7 @@ import os
 import re
 from itertools import repeat
 from operator import lt
-from typing import Iterable, Iterator, List, Optional, Tuple
+from typing import Iterable, Iterator, List, Optional, Set, Tuple
 
 import command
 import histories
@@ -43,6 +43,8 @@ DATE = re.compile(
     r"([0-9]{4})-([0-9]{2})-([0-9]{2})[Tt _]([0-9]{2}):([0-9]{2}):([0-9]{2})(?:\.([0-9]{1,9}))?"
     r"(?:[Zz]|([+-])([0-9]{2}):([0-9]{2}))", re.ASCII,
 )
+# What begins as a date does.
+DATED = re.compile("[0-9]+[-/.][0-9]+[-/.][0-9]")
 CHUNK = 2**22
 
 
@@ -94,6 +96,8 @@ class Reader:
             self.is_dated = date is not None
         if self.is_dated != (date is not None):
             raise BadLine(f"the time `{name}` is {'no date' if self.is_dated else 'a date'}, and others are{'' if self.is_dated else ' none'}")
+        if date is None and DATED.match(word):
+            raise BadLine(f"the time `{name}` is no date as 2026-11-27T10:00:00.5Z, with a zone and at most nine digits behind the point")
         return date if date is not None else table.moment(word, f"the time `{name}`") // (1 if self.is_exact else BILLION)
 
     def asked(self, kind: str, address: str, values: str) -> str:
@@ -251,14 +255,42 @@ def read(text: bytes, path: str, is_strict: bool, progress: Progress) -> Calls:
     return calls
 
 
-def is_calls(path: str) -> bool:
-    """Whether a file is a table of calls and replies, or a log. What isn't a file is left unread."""
+def begin_of(path: str) -> bytes:
+    """How a file begins. What isn't a file is left unread."""
     try:
         if not os.path.isfile(path):
-            return False
+            return b""
         with open(path, "rb") as file:
-            begin = file.read(2**16)
+            return file.read(2**16)
     except OSError:
-        return False
-    columns = {it.strip(' "\r') for it in begin.split(b"\n", 1)[0].decode("utf-8-sig", "replace").split(",")}
-    return any(histories.is_log(begin)) or columns.issuperset(COLUMNS)
+        return b""
+
+
+def columns_of(begin: bytes) -> Set[str]:
+    """What the first line of a text names, with commas between."""
+    return {it.strip(' "\r') for it in begin.split(b"\n", 1)[0].decode("utf-8-sig", "replace").split(",")}
+
+
+def is_calls(path: str) -> bool:
+    """Whether a file is a table of calls and replies, or a log."""
+    begin = begin_of(path)
+    return any(histories.is_log(begin)) or columns_of(begin).issuperset(COLUMNS)
+
+
+def refuse_other_table(path: str) -> None:
+    """Refuses a file whose first line names some columns of such a table, and not all."""
+    columns = columns_of(begin_of(path))
+    missing = [it for it in COLUMNS if it not in columns]
+    if 0 < len(missing) < len(COLUMNS) - 1:
+        raise command.Refusal(f"{path}: the first line doesn't name the columns {','.join(missing)}")
+
+
+def refuse_calls(path: str, is_log: bool) -> None:
+    """Refuses calls and replies where a report, or a log text, is asked for: they have no times of services, or no order."""
+    begin = begin_of(path)
+    columns = columns_of(begin)
+    is_map, is_line = histories.is_log(begin)
+    if is_map or is_line and len(columns) < len(COLUMNS):
+        raise command.Refusal(f"{path} is a log, and needs --trace (--help says more)")
+    if not is_log and columns.issuperset(COLUMNS) and "served" not in columns:
+        raise command.Refusal(f"{path} has no column `served`, and needs --trace (--help says more)")

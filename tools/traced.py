@@ -37,12 +37,14 @@ class Operation:
     reply: str = ""
     answered: Optional[int] = None
     place: Optional[int] = None
+    # What its lane is called.
+    lane: str = ""
 
     def told(self) -> str:
         """All that is known of it."""
         end = f"answered {self.reply} at event {self.answered}" if self.answered else "never answered"
         place = f"\nnumber {self.place} in the order" if self.place else ""
-        return f"processor {self.processor}, operation {self.index}: {self.asked}\nissued at event {self.issued}, {end}{place}"
+        return f"{self.lane}, operation {self.index}: {self.asked}\nissued at event {self.issued}, {end}{place}"
 
 
 @dataclass
@@ -86,7 +88,8 @@ def parsed(text: bytes) -> Trace:
             index = counts.get(processor, 0)
             counts[processor] = index + 1
             found.lines.append(number)
-            made = Operation(processor, index, found.names.shown_operation(" ".join(words[2:])), len(found.lines), int(words[3]))
+            asked = found.names.shown_operation(" ".join(words[2:]))
+            made = Operation(processor, index, asked, len(found.lines), int(words[3]), lane=f"processor {processor}")
             by_name[processor, index] = made
             found.operations.append(made)
         elif words[:1] == ["answer"]:
@@ -129,11 +132,15 @@ class Window:
     last: int
     operations: List[Operation]
 
+    def __post_init__(self) -> None:
+        # (the room of the lanes' names)
+        self.left: float = max(LEFT, 24 + 7.5 * max((len(it.lane) for it in self.operations), default=0))
+
     def at(self, event: int) -> float:
         """The place of an event; that of the border where it lies outside."""
         span = self.last - self.first + 2
-        step = max(STEP, (LEAST_WIDTH - LEFT - RIGHT) / span)
-        return LEFT + step * (min(max(event, self.first - 1), self.last + 1) - self.first + 1)
+        step = max(STEP, (LEAST_WIDTH - self.left - RIGHT) / span)
+        return self.left + step * (min(max(event, self.first - 1), self.last + 1) - self.first + 1)
 
     def width(self) -> float:
         """The width of the picture."""
@@ -203,7 +210,7 @@ def drawn(trace: Trace, window: Window) -> str:
         rows = [row + (has_bad and any(row > bad for bad in bad_rows(trace, own, rows))) for row in rows]
         height = ROW * (1 + has_bad + max(rows)) + GAP
         parts.append(drawing.element("rect", x=0, y=low, width=window.width(), height=height, fill="#f6f8fa"))
-        parts.append(drawing.text(12, low + height / 2 + 4, f"processor {processor}"))
+        parts.append(drawing.text(12, low + height / 2 + 4, own[0].lane))
         for it, row in zip(own, rows):
             is_bad = trace.bad is not None and trace.bad in (it.issued, it.answered)
             bars.append(drawn_bar(it, window, low + GAP + ROW * row, FAULT_WIDTH if is_bad else 2 if it.issued in trace.pending else 1))
