@@ -423,8 +423,9 @@ class Traces(unittest.TestCase):
 
     def test_what_is_not_decided(self):
         many = [Issued(it, Operation.ADD, 1, (1,)) for it in range(65)]
-        self.assertEqual(linearize(many), Undecided(64, True))
-        self.assertEqual(linearize(many[:64]), Linearizable(()))
+        self.assertEqual(linearize(many), Linearizable(()))
+        answers = [Answered(it, 0, it) for it in range(65)]
+        self.assertEqual(linearize([*many, *answers]), Undecided(64, True))
         sums = [*many[:4], *(Answered(it, 0, old) for it, old in enumerate((1, 0, 2, 3)))]
         self.assertEqual(linearize(sums, configurations=1), Undecided(4, False))
         self.assertEqual(linearize(sums), Linearizable((1, 0, 2, 3)))

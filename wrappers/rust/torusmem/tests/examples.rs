@@ -434,6 +434,8 @@ fn traces_are_judged() {
     assert_eq!(linearize([(1 << 63, 5), (3, 4)], &cas, 1000), Ok(is(&[0, 2])));
     assert_eq!(linearize([(1 << 62, 5)], &cas, 1000), Ok(not(1)));
     let mut many: Vec<_> = (0..65).map(|processor| issued(processor, add)).collect();
+    assert_eq!(linearize([], &many, 1000), Ok(is(&[])));
+    many.extend((0..65).map(|processor| read_as(processor, 0, u64::from(processor))));
     assert_eq!(linearize([], &many, 1000), Ok(Judged::TooOpen { event: 64 }));
     many.truncate(4);
     many.extend([read_as(0, 0, 1), read_as(1, 0, 0), read_as(2, 0, 2), read_as(3, 0, 3)]);
