@@ -269,7 +269,7 @@ def work(name: str, given: Any, tables: Any, measured: Any) -> str:
         except (KeyError, TypeError, ValueError, IndexError, AttributeError, ArithmeticError):
             raise not_as_described(name, given.tables) from None
     if given.json:
-        # (so that a file that can't be kept is told before the minutes, not after them)
+        # (so that a file that can't be kept is reported before the minutes, not after them)
         stored(given.json)
         if not os.access(os.path.dirname(os.path.abspath(given.json)), os.W_OK):
             raise command.Refusal(f"cannot write {given.json}")

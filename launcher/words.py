@@ -1,4 +1,4 @@
-"""What the words of the command line ask for, as far as that is told before the program is built: help, the version,
+"""What the words of the command line ask for, as far as that is known before the program is built: help, the version,
 an unknown command, wrong words, and the names of files. The texts are those of the built program, with which
 `checks/program` compares them. Words of which this can't tell are left to the program."""
 

@@ -97,7 +97,7 @@ class Calls:
         return max(map(int, {it.split(" ", 2)[1] for it in self.asked}), default=0)
 
     def left_out(self, is_placed: bool) -> str:
-        """What is left out and why, by count; empty where nothing is to be said. Failed cas are, if they aren't placed."""
+        """What was skipped and why, by count; empty where nothing was. Failed cas count if they aren't placed."""
         gone = [f"{count} {what}" for what, count in self.skipped.items()]
         is_left = self.failed and not is_placed
         gone += [f"{len(self.failed)} failed cas, so a yes says nothing of them (--check does)"] if is_left else []

@@ -19,7 +19,7 @@ COLUMNS = "processor,operation,address,values,reply".split(",")
 @dataclass
 class Row:
     """An operation: its line, its processor, its index there, its kind (or fence), its word and its values, what it
-    replied, when it was served, and which line it read, or 0 for the opening word, if that is told."""
+    replied, when it was served, and which line it read (0 for the opening word), if the table says so."""
 
     line: int
     processor: int

@@ -1,7 +1,7 @@
 """Replays a schedule on a machine in plain Python, flit by flit, after the tables of docs/NETWORK-FORMATS.md.
 
 It reads texts that `torusmem steps` has accepted, and its events are compared with those of the report that
-`torusmem steps` prints of the same texts. So what a tool tells of channels is told of the proved run.
+`torusmem steps` prints of the same texts. So what a tool prints of channels holds for the proved run.
 """
 from __future__ import annotations
 

@@ -101,7 +101,7 @@ class Beside(unittest.TestCase):
         model, moves = Model(text, scripts), 0
         with Machine(text, scripts) as machine:
             every = model.steps()
-            agents = draw.sample(range(3 * tiles), 3 * tiles - 1)  # the one that is left out is slow
+            agents = draw.sample(range(3 * tiles), 3 * tiles - 1)  # the one that is missing is slow
             some = [it for it in every if it[0] in agents]
             for number in range(2000):
                 step = draw.choice(some if number < 1000 else every)
