@@ -46,7 +46,8 @@ class Failed(Exception):
 
 
 def say(text: str) -> None:
-    print(f"torusmem: {text}", file=sys.stderr, flush=True)
+    sys.stderr.write(f"torusmem: {text}\n")  # at once, so that lines of two commands in a pipe don't mix
+    sys.stderr.flush()
 
 
 def number_in(file: str, pattern: str) -> int | None:
