@@ -424,7 +424,7 @@ static void answers_and_entries(torusmem_machine *m) {
   MUST(torusmem_answer_at(m, 0, 2).code == TORUSMEM_NONE && torusmem_entry_at(m, 1, 2).code == TORUSMEM_NONE);
 }
 
-/* What is told of two texts: the fault, its text and its line; and the sentence, where it fits, and not where a byte is
+/* What torusmem_explain answers of two texts: the fault, its text and its line; and the sentence, where it fits, and not where a byte is
    missing. */
 static void explains(const char *machine, const char *scripts, uint32_t fault, uint32_t in, uint64_t line,
                      const char *sentence) {

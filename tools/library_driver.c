@@ -316,7 +316,7 @@ static void next(kept *it) {
   else MUST(says(said, TORUSMEM_NONE, 0) || (said.code == TORUSMEM_OK && said.value < 26));
 }
 
-/* What is told of two texts is what a load answered; the sentence names the text that has the fault. */
+/* What torusmem_explain answers of two texts is what a load answered; the sentence names the text that has the fault. */
 static void explain(const text *machine, const text *script, torusmem_outcome load) {
   enum { MOST = 400 };
   uint8_t out[MOST + BEHIND];

@@ -22,7 +22,7 @@ struct Operation {
     place: usize,
 }
 
-/// What a line made: the operation's name and values, its reply if one is told, and its source.
+/// What a line made: the operation's name and values, its reply if it has one, and its source.
 struct Made<'a> {
     processor: usize,
     name: &'a str,

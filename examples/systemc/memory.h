@@ -46,7 +46,7 @@ class Memory : public sc_core::sc_module {
   uint64_t rounds() const { return rounds_; }
 
  private:
-  // A transaction that was asked: whoever waits for it in b_transport is told by `done`.
+  // A transaction that was asked: `done` wakes whoever waits for it in b_transport.
   struct Asked {
     Payload *payload;
     sc_core::sc_event *done;
