@@ -18,26 +18,28 @@
    - Each `m` points to a torusmem_machine that was initialized by TORUSMEM_MACHINE_INIT and then changed by calls of
      this library alone. Its bytes may be moved, if the old place is not used again; they are never copied. The same
      holds for each `w`, a torusmem_watch that was initialized by TORUSMEM_WATCH_INIT.
-   - Each pointer that comes with a length points to that many readable bytes or items. Where the length is 0 the
-     pointer may be anything, also null. Texts, attempts, events and opening words are only read, and may overlap;
-     what `out` points to is writable. None of them contains a byte of the machine or watch.
+   - Each pointer that comes with a length points to that many readable bytes or items, aligned for their type and of one
+     object. Where the length is 0 the pointer may be anything, also null. Texts, attempts, events and opening words are
+     only read, and may overlap; what `out` points to is writable, and overlaps nothing else that the call is given. None
+     of them contains a byte of the machine or watch.
    - One call at a time for each machine and watch, from any thread: each begins after the one before it has returned,
      which a lock, a join or a sequentially consistent atomic orders where these are two threads. Machines and watches
      share nothing.
    - malloc, realloc and free, which torusmem_heap.c calls, belong to one allocator and align each block to every power
-     of two up to 16 that divides its size. No call comes from a signal handler, or in the child that a process with
-     threads forked.
+     of two up to 16 that divides its size. They return: no exception and no longjmp leaves them, and they call nothing of
+     this library. No call comes from a signal handler, or in the child that a process with threads forked.
    - Some kilobytes of stack are free at each call.
 
    All calls take the machine by a pointer that is not const, also those that change nothing.
 
    A DEBUG BUILD. Where TORUSMEM_DEBUG is defined before this header, in all files of a program, handles carry a mark. Then
    a call on a null pointer, on a handle that was not initialized, on a watch in place of a machine, or on a copy whose
-   other one was used or freed since, prints a line that says so, with file and line, and aborts. */
+   other one was used or freed since, and a torusmem_reopen of one machine twice, prints a line that says so, with file
+   and line, and aborts. */
 #ifndef TORUSMEM_H
 #define TORUSMEM_H
-#define TORUSMEM_VERSION "0.1.0"
-#define TORUSMEM_VERSION_NUMBER 1000 /* 1000000 times the first number, 1000 times the second, and the third */
+#define TORUSMEM_VERSION "0.2.0"
+#define TORUSMEM_VERSION_NUMBER 2000 /* 1000000 times the first number, 1000 times the second, and the third */
 #include <stdbool.h>
 #include <stddef.h>
 #include <stdint.h>
@@ -657,7 +659,9 @@ static inline torusmem_outcome torusmem_open_marked(torusmem_machine *m, const s
 }
 
 TORUSMEM_RESULT
-static inline torusmem_outcome torusmem_reopen_marked(torusmem_machine *m, torusmem_machine *fresh) {
+static inline torusmem_outcome torusmem_reopen_marked(torusmem_machine *m, torusmem_machine *fresh, const char *file,
+                                                      int line) {
+  torusmem_look_at(m != fresh, "the two machines are one", "torusmem_reopen", file, line);
   torusmem_outcome said = torusmem_reopen(m, fresh);
   fresh->ticket = torusmem_ticket_of(fresh->full, fresh->ticket, &fresh->calls);
   return said;
@@ -690,7 +694,8 @@ static inline void torusmem_watch_end_marked(torusmem_watch *w) {
 #undef torusmem_watch_begin
 #define torusmem_open(m, ...) torusmem_open_marked(TORUSMEM_MACHINE(m, "torusmem_open"), __VA_ARGS__)
 #define torusmem_reopen(m, fresh) \
-  torusmem_reopen_marked(TORUSMEM_MACHINE(m, "torusmem_reopen"), TORUSMEM_MACHINE(fresh, "torusmem_reopen"))
+  torusmem_reopen_marked(TORUSMEM_MACHINE(m, "torusmem_reopen"), TORUSMEM_MACHINE(fresh, "torusmem_reopen"), __FILE__, \
+                         __LINE__)
 #define torusmem_load(m, ...) torusmem_load_marked(TORUSMEM_MACHINE(m, "torusmem_load"), __VA_ARGS__)
 #define torusmem_free(m) torusmem_free_marked(TORUSMEM_MACHINE(m, "torusmem_free"))
 #define torusmem_watch_begin(w, ...) torusmem_watch_begin_marked(TORUSMEM_WATCH(w, "torusmem_watch_begin"), __VA_ARGS__)

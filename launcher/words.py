@@ -11,7 +11,7 @@ from dataclasses import dataclass
 from typing import NoReturn
 
 HERE = os.path.dirname(os.path.realpath(__file__))
-VERSION = "torusmem 0.1.0\n"
+VERSION = "torusmem 0.2.0\n"
 # The positional words of each command, and its options: the limits of a number, WORD for any word, or None for a flag.
 WORD = (0, -1)
 COMMANDS: dict[str, tuple[list[str], dict[str, tuple[int, int] | None]]] = {

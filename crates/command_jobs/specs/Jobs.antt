@@ -69,4 +69,4 @@ Answers _ texts old new result = Unit {0}
 
 -- the version of the program was printed
 abbrev pub PrintsVersion : {A : Type 0} → Output → Output → Result A ProgramFault → Type 0
-PrintsVersion = Does (λ done text. text ≡ codes "torusmem 0.1.0\n") (λ fault. ⊥)
+PrintsVersion = Does (λ done text. text ≡ codes "torusmem 0.2.0\n") (λ fault. ⊥)

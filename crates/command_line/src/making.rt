@@ -26,7 +26,7 @@ fn top<'a>(alloc: Global) -> Command<'a>
 {
     Command::new(alloc, "torusmem")
         .about("A shared memory spread over a torus of tiles")
-        .version("0.1.0")
+        .version("0.2.0")
         .subcommand_required(true)
 }
 

@@ -179,6 +179,15 @@ class Looks(unittest.TestCase):
         self.assertEqual([it.served for it in machine.order(1)], [5])
         self.assertEqual(list(machine.order(2**32 - 1)), [])
 
+    def test_the_events(self):
+        machine = first()
+        self.assertEqual(list(machine.events()), [])
+        machine.finish()
+        kinds = ["issue", "service", "answer"]
+        seen = [(it.number, it.what, it.operation.index) for it in machine.events()]
+        self.assertEqual(seen, [(1 + 3 * index + place, kinds[place], index) for index in range(2) for place in range(3)])
+        self.assertEqual([it.number for it in machine.events(5)], [5, 6])
+
     def test_a_machine_of_numbers(self):
         made = Machine.of(torusmem.Shape((3, 4), (2, 0), 8, 16, 5, 0, 0), [1, 2**64 - 1])
         self.assertEqual(made.shape, torusmem.Shape((3, 4), (2, 0), 8, 16, 5, 12, 18))

@@ -32,10 +32,11 @@ from ._judges import Answered, Cycle, Event, Fill, Issued, Judged, Linearizable,
 from ._judges import Rising, Undecided, Verdict, check, linearize, network
 from ._library import LibraryNotFound
 from ._machine import Machine
-from ._records import Answer, Channel, Choice, Entry, FENCE, Kind, Line, Operation, Ordered, SPIN, Shape, Spin, Steps
+from ._records import Answer, Channel, Choice, Entry, FENCE, Happened, Kind, Line, Operation, Ordered, SPIN, Shape, Spin
+from ._records import Steps
 from ._watch import Watch
 
-__version__ = "0.1.0"
+__version__ = "0.2.0"
 __all__ = [
     "Answer",
     "Answered",
@@ -50,6 +51,7 @@ __all__ = [
     "EventFault",
     "FENCE",
     "Fill",
+    "Happened",
     "Issued",
     "Judged",
     "Kind",

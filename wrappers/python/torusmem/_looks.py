@@ -8,7 +8,7 @@ from typing import Any, Iterator, List, NoReturn, Optional
 from . import _library
 from ._faults import REASONS, Closed, fault_of
 from ._kept import Kept, alone
-from ._records import Answer, Channel, Entry, Kind, Line, Operation, Ordered, Shape, Spin, Text
+from ._records import Answer, Channel, Entry, Happened, Kind, Line, Operation, Ordered, Shape, Spin, Text
 from ._records import answer_from, bytes_of, number_of, values_of
 
 
@@ -147,6 +147,16 @@ class Looks(Kept):
         that are there when the iterator begins."""
         for it in self._rows_from(number_of(first, "first")):
             yield Ordered(it.bank, it.place, it.source, it.index, it.issued, it.served, it.answered or None)
+
+    def events(self, first: int = 1) -> Iterator[Happened]:
+        """The events of the operations that are served, in the order in which they happened; those numbered `first` or
+        higher that are there when the iterator begins. The issue of an operation comes with its service: until then its
+        number is left free."""
+        first, made = number_of(first, "first"), []
+        for it in self.order():
+            made += [Happened(it.issued, "issue", it), Happened(it.served, "service", it)]
+            made += [] if it.answered is None else [Happened(it.answered, "answer", it)]
+        yield from sorted((it for it in made if it.number >= first), key=lambda it: it.number)
 
     @alone
     def _rows_from(self, first: int) -> List[Any]:

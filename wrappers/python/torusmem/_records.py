@@ -129,6 +129,15 @@ class Ordered:
     answered: Optional[int]
 
 
+class Happened(NamedTuple):
+    """An event of an operation that is served: its number among all events, from 1; what happened, "issue", "service" or
+    "answer"; and the operation."""
+
+    number: int
+    what: str
+    operation: Ordered
+
+
 class Spin(NamedTuple):
     """A spin that ran out of loads: its processor, its line in the scripts text, from 1, the address that it looked at,
     the number that it sought and didn't find, and how many loads it made."""
