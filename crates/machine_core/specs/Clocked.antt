@@ -1,5 +1,5 @@
--- Clocked rounds: each choice that is enabled when a round begins is attempted once, so that a flit
--- goes one stage a round, as in clocked hardware.
+-- Clocked rounds: each choice that is enabled when a round begins is attempted once, as clocked
+-- hardware does.
 use Rattle.std.specs.Prelude.{◌≡◌, ℕ, zero, suc, ◌%◌, ◌<◌, true, false, List, [], ◌++◌, filter, is_some}
 use Rattle.std.specs.List.{flat_map, range_with_len}
 use Rattle.torus.specs.Shape.{Shape, tiles_of, dims_of}

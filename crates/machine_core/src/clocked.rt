@@ -23,8 +23,8 @@ use torus::{Choice, Step, Stepped};
 
 impl<A: Allocator> Machine<A> {
     /// Makes one clocked round: each choice that is enabled now is attempted once, in the order of a round,
-    /// so that a flit goes one stage at most. The puts of each router begin at input `turn mod p`, where p
-    /// is the number of its inputs. Where some script isn't finished, the round makes a move.
+    /// as clocked hardware does. The puts of each router begin at input `turn mod p`, where p is the number
+    /// of its inputs. Where some script isn't finished, the round makes a move.
     pub fn clocked_round(&mut self, turn: u64)
         ensures state { self.new ≡ core_after self.old (clocked_round self.old turn) }
         ensures moves { self.new.moves_left
