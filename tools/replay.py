@@ -5,11 +5,10 @@ It reads texts that `torusmem steps` has accepted, and its events are compared w
 """
 from __future__ import annotations
 
-import argparse
 import re
 from collections import deque
 from dataclasses import dataclass, field
-from typing import Iterator, Sequence
+from typing import Callable, Iterator, Sequence
 
 import command
 import drawn
@@ -539,44 +538,42 @@ def attempts(shape: Shape) -> Iterator[tuple[int, str, int | None]]:
         yield from ((agent + 2, it, None) for it in ("take", "serve", "send", "credit"))
 
 
-def scheduled(case: drawn.Case, most: int) -> Iterator[str]:
-    """The lines of the schedule of a run in rounds: until every script is finished, and at most so many."""
-    machine = Machine(case)
-    tries = [(*it, " ".join(str(word) for word in it if word is not None)) for it in attempts(machine.shape)]
+# Whether a processor may begin its next operation now.
+Begins = Callable[[Processor], bool]
+# Makes the round of a number, and answers the lines of its moves.
+Rounds = Callable[[Machine, int, Begins], list[str]]
+
+
+def at_once(processor: Processor) -> bool:
+    """A processor begins its next operation as soon as it can."""
+    return True
+
+
+def in_order(shape: Shape) -> Rounds:
+    """What makes rounds in order: each choice of each agent is attempted once."""
+    tries = [(*it, " ".join(str(word) for word in it if word is not None)) for it in attempts(shape)]
+
+    def waits(machine: Machine, agent: int, choice: str, begins: Begins) -> bool:
+        at = machine.processors[agent // 3]
+        return agent % 3 == 0 and choice == "send" and not at.leaving and at.ready() is not None and not begins(at)
+
+    return lambda machine, number, begins: [
+        text
+        for agent, choice, port, text in tries
+        if not waits(machine, agent, choice, begins) and machine.step(agent, choice, port or 0, number)
+    ]
+
+
+def scheduled(machine: Machine, most: int, made: Rounds) -> Iterator[str]:
+    """The lines of the schedule of a run whose rounds are made so: until every script is finished, at most so many."""
     for number in range(1, most + 1):
         if machine.is_finished():
             break
-        moves = [text for agent, choice, port, text in tries if machine.step(agent, choice, port or 0, number)]
+        moves = made(machine, number, at_once)
         yield from [f"# round {number}", *moves] if moves else []
     yield "# finished" if machine.is_finished() else "# stopped"
-
-
-def schedule_text(case: drawn.Case, most: int) -> str:
-    """The schedule of a run in rounds, as a text."""
-    return "".join(f"{line}\n" for line in scheduled(case, most))
 
 
 def percentile(rising: Sequence[int], part: int) -> int:
     """The least of the numbers that so many of a hundred of them do not exceed: the nearest rank."""
     return rising[max(0, -(-len(rising) * part // 100) - 1)]
-
-
-def add_words(parser: command.Parser) -> None:
-    """The words of the command line that every tool for schedules has."""
-    parser.add_argument("machine", metavar="MACHINE", help="the text of a machine")
-    parser.add_argument("script", metavar="SCRIPT", help="the text of its scripts")
-    what = "the schedule of a run, as tools/schedule prints it, or any text of steps"
-    parser.add_argument("schedule", metavar="SCHEDULE", help=what)
-
-
-def read(given: argparse.Namespace) -> Texts:
-    """The run of the texts that the command line names, which `torusmem steps` accepts."""
-    if [given.machine, given.script, given.schedule].count("-") > 1:
-        raise command.WrongWords("- is given twice, and there is one standard input")
-    machine, script = (command.contents(it) for it in (given.machine, given.script))
-    steps = command.contents(given.schedule, MOST_BYTES)
-    with command.kept(machine) as first, command.kept(script) as second, command.kept(steps) as third:
-        texts = {first: given.machine, second: given.script, third: given.schedule}
-        printed = command.torusmem_on(texts, "steps", *texts, fine=(0, 3))
-    found = report.parsed(printed.encode("utf-8"), "the report of `torusmem steps`")
-    return Texts(case_of(machine, script), schedule_of(steps), found)

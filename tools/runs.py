@@ -1,0 +1,51 @@
+"""The run that a tool for schedules shows: that of a schedule, or one in rounds, which `torusmem steps` makes too."""
+from __future__ import annotations
+
+import argparse
+
+import clocked
+import command
+import drawn
+import replay
+import report
+
+# The most rounds of a run that no schedule gives.
+MOST_ROUNDS = 1000000
+
+
+def add_words(parser: command.Parser) -> None:
+    """The words of the command line that every tool for schedules has."""
+    parser.add_argument("machine", metavar="MACHINE", help="the text of a machine")
+    parser.add_argument("script", metavar="SCRIPT", help="the text of its scripts")
+    what = "the schedule of a run, as tools/schedule prints it, or any text of steps; the run in clocked rounds if not given"
+    parser.add_argument("schedule", metavar="SCHEDULE", nargs="?", help=what)
+    what = "without a schedule: the run in rounds as `torusmem round` makes them, not in clocked ones"
+    parser.add_argument("--rounds-in-order", action="store_true", help=what)
+
+
+def in_rounds(case: drawn.Case, most: int, is_clocked: bool) -> str:
+    """The schedule of a run in rounds, clocked or in order, at most so many."""
+    machine = replay.Machine(case)
+    rounds = clocked.moves if is_clocked else replay.in_order(machine.shape)
+    return "".join(f"{it}\n" for it in replay.scheduled(machine, most, rounds))
+
+
+def read(given: argparse.Namespace) -> replay.Texts:
+    """The run of the texts that the command line names, which `torusmem steps` accepts."""
+    if [given.machine, given.script, given.schedule].count("-") > 1:
+        raise command.WrongWords("- is given twice, and there is one standard input")
+    if given.schedule is not None and given.rounds_in_order:
+        raise command.WrongWords("--rounds-in-order is of no use with a schedule (--help says more)")
+    machine, script = (command.contents(it) for it in (given.machine, given.script))
+    steps = b"" if given.schedule is None else command.contents(given.schedule, replay.MOST_BYTES)
+    with command.kept(machine) as first, command.kept(script) as second:
+        texts = {first: given.machine, second: given.script}
+        if given.schedule is None:
+            with command.kept(b"") as none:
+                command.torusmem_on(texts, "steps", *texts, none, fine=(0, 3))
+            steps = in_rounds(replay.case_of(machine, script), MOST_ROUNDS, not given.rounds_in_order).encode("ascii")
+        with command.kept(steps) as third:
+            texts[third] = given.schedule or "the schedule"
+            printed = command.torusmem_on(texts, "steps", *texts, fine=(0, 3))
+    found = report.parsed(printed.encode("utf-8"), "the report of `torusmem steps`")
+    return replay.Texts(replay.case_of(machine, script), replay.schedule_of(steps), found)
