@@ -1,7 +1,7 @@
 """Clocked rounds of a machine in plain Python: each choice that is enabled when a round begins is attempted once.
 
 Of a router the puts begin at the input whose turn it is: the number of rounds before, modulo that of the inputs.
-`tools/schedule --clocked` prints nothing where `torusmem schedule --clocked` doesn't print, byte for byte, the same.
+`tools/schedule --clocked` prints these moves, and nothing where one of them is none in `torusmem steps`.
 """
 from __future__ import annotations
 
