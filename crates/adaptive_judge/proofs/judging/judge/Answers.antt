@@ -9,7 +9,6 @@ use Rattle.adaptive_judge.specs.declared.verdict.NoEscape.{NoEscape}
 use Rattle.adaptive_judge.specs.Choosing.{ChoiceTable, choosing_of}
 use Rattle.adaptive_judge.specs.Flags.{HasWaits, IsFirstBareTo}
 use Rattle.adaptive_judge.specs.Waiting.{waiting}
-use Rattle.adaptive_judge.specs.Judged.{AreChannels}
 use Rattle.adaptive_judge.proofs.Bridge.{first_stuck}
 use Rattle.adaptive_judge.proofs.Circles.{Ready, ready_of, replies_within, ready_cycle, ready_numbers, down_from}
 use Rattle.adaptive_judge.proofs.Travelled.{travels}
@@ -56,8 +55,8 @@ returns-in-Circuit g c =
     let found : IsOrderOrCircuit {A = g.row.A.Denot} graph (Circuit c.in-Circuit.looks) =
     subst (λ z. IsOrderOrCircuit {A = g.row.A.Denot} graph z) c.in-Circuit.is c.in_ok-looks.ensures in
     ready_cycle t c.args.replies.now c.requires.shaped c.requires.replies c.deref.result.now c.deref_mut.result.now c.deref-2.result.now ready
-    c.in-Circuit.looks.items c.in_ok-channels_of-in-Circuit.field-0.items found
-    (subst (λ (v : List Look). AreChannels v c.in_ok-channels_of-in-Circuit.field-0.items) c.deref-in-Circuit.ensures.value c.in_ok-channels_of-in-Circuit.ensures)
+    c.in-Circuit.looks.items c.in_ok-dependencies_of-in-Circuit.field-0.items found
+    ?
 
 pub returns : goal.returns
 returns g c =
@@ -83,7 +82,7 @@ returns g c =
       (numbers depth flits).0,
       (numbers depth flits).1,
       (numbers depth flits).2,
-      travels t c.deref-in-Rising.result.now down c.requires.shaped depth flits c.in_ok-travel_of-in-Rising.field-0 c.in_ok-travel_of-in-Rising.ensures,
+      travels t c.deref-in-Rising.result.now down c.requires.shaped depth flits (numbers depth flits).0 c.in_ok-travel_of-in-Rising.field-0 c.in_ok-travel_of-in-Rising.ensures,
     )
 
 pub travel_of-requires-clause-down : goal.travel_of-requires-clause-down

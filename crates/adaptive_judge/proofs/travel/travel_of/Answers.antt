@@ -8,7 +8,8 @@ use Rattle.rising.specs.Search.{path_look}
 use Rattle.rising.specs.Found.{IsOrderOrCircuit}
 use Rattle.adaptive_judge.specs.Flags.{AreComes}
 use Rattle.adaptive_judge.specs.Travel.{choice_graph, step_to, HasNumbersTo, GoesRoundAt}
-use Rattle.adaptive_judge.proofs.Travelled.{numbers_to, round_at}
+use Rattle.adaptive_judge.specs.Longest.{AreFarthest, IsMostOf, IsMostPassed}
+use Rattle.adaptive_judge.proofs.Travelled.{numbers_to, round_at, most_begin, most_more}
 use Rattle.adaptive_judge.proofs.travel.travel_of.Goals as goal
 
 pub returns-in-Circuit : goal.returns-in-Circuit
@@ -46,4 +47,19 @@ loop-to-preserved g c =
         | inr high ↦ (let same : c.loop-to.to ≡ j = omega arith in
             subst (λ z. HasNumbersTo c.args.kinds.now c.args.joins.now c.args.choices.now c.args.ways c.args.none.now z) same here)
       ];
+      passed = ?;
     }
+
+pub loop-to-init : goal.loop-to-init
+loop-to-init g c = record {
+  numbers = λ j low. absurd (omega arith);
+  passed = most_begin c.args.joins.now (step_to c.args.kinds.now c.args.choices.now c.args.ways c.args.none.now);
+}
+
+pub returns : goal.returns
+returns g c =
+    (
+      λ j low. c.loop-to.invariant.numbers j (omega arith),
+      subst (λ z. IsMostPassed c.args.joins.now (step_to c.args.kinds.now c.args.choices.now c.args.ways c.args.none.now) z c.loop-to.most)
+          (let same : c.loop-to.to ≡ length c.args.kinds.now = omega arith in same) c.loop-to.invariant.passed,
+    )
