@@ -79,6 +79,10 @@ pub fn model_status(modelled: Modelled, model: MemoryModel) -> u8
 {
     match modelled {
         Modelled::Obeys(obeys) => u8::from(!is_obeyed(obeys, model)),
+        Modelled::WithoutFences(obeys) => match model {
+            MemoryModel::Fenced => 5,
+            _ => u8::from(!is_obeyed(obeys, model)),
+        },
         Modelled::Wrong(_) => 1,
     }
 }

@@ -19,6 +19,7 @@ use Rattle.model_text.specs.Made.{LogLines, add_operation, add_step, nothing_log
 use Rattle.model_text.specs.Sources.{found, add_reply, add_served, add_source, add_write, read_write}
 use Rattle.model_records.specs.declared.entry.LogEntry.{LogEntry}
 use Rattle.model_records.specs.declared.entry.LogEntry.TheVariants as entry
+use Rattle.model_records.specs.declared.entry.LineEntry.{LineEntry}
 use Rattle.model_records.specs.declared.entry.Named.{Named}
 
 -- the number that a reply tells; none for `ok`
@@ -74,18 +75,33 @@ after_entry r number (entry.ReadOpening name) = opening_read r name
 after_entry r number (entry.Served name) = entry_served r name
 after_entry r number (entry.Replied name reply) = entry_replied r number name reply
 
--- the log of these entries, of which the first has this number, after what was read
-abbrev pub entries_from : LogLines → ℕ → List LogEntry → Result LogLines (Refusal LogReason)
-entries_from r number [] = log_ended r number
-entries_from r number (e ∷ entries) =
-    then_lines number (after_entry r number e) (λ next. entries_from next (number + 1) entries)
+-- the log of some items, of which the first has this number, after what was read, by what an item of
+-- a number makes of a log
+abbrev pub log_from : {E : Type 0} → (LogLines → ℕ → E → Result LogLines LogReason) → LogLines → ℕ
+    → List E → Result LogLines (Refusal LogReason)
+log_from after r number [] = log_ended r number
+log_from after r number (e ∷ items) =
+    then_lines number (after r number e) (λ next. log_from after next (number + 1) items)
 
 -- a log of a memory of so many words, of which nothing else is said so far
 abbrev pub begun_log : LogLines → ℕ → Result LogLines LogReason
 begun_log r words = head_logged r (words_read (record (r.head) { begun = true }) words)
 
--- the log that entries are, over a memory of so many words; or which entry is refused first, by its
--- number from 1, and why
+-- the log of all items, over a memory of so many words; or which item is refused first, by its number
+-- from 1, and why
+abbrev pub log_of : {E : Type 0} → (LogLines → ℕ → E → Result LogLines LogReason) → ℕ → List E
+    → Result LogLines (Refusal LogReason)
+log_of after words items =
+    then_lines 0 (begun_log nothing_logged words) (λ first. log_from after first 1 items)
+
+-- the log that entries are
 abbrev pub log_of_entries : ℕ → List LogEntry → Result LogLines (Refusal LogReason)
-log_of_entries words entries =
-    then_lines 0 (begun_log nothing_logged words) (λ first. entries_from first 1 entries)
+log_of_entries words entries = log_of after_entry words entries
+
+-- what an entry of a text makes of a log
+abbrev pub after_line_entry : LogLines → ℕ → LineEntry → Result LogLines LogReason
+after_line_entry r number e = after_entry r e.line e.entry
+
+-- the log that entries of a text are
+abbrev pub log_of_lines : ℕ → List LineEntry → Result LogLines (Refusal LogReason)
+log_of_lines words entries = log_of after_line_entry words entries
