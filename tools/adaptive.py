@@ -30,9 +30,16 @@ class Found(NamedTuple):
     def text(self) -> str:
         """The lines of `torusmem network`, but for the numbers."""
         if self.kind == "rising":
-            return f"{'bounded' if self.travel.startswith('bounded') else self.travel}\nrising\n"
-        lines = [self.kind, *(f"channel {x}" for x, _, _ in self.turns), *["may lock up"] * (self.kind == "cycle")]
+            return f"{self.travel}\nrising\n"
+        lines = [self.kind, *(line_of(x, edge, y) for x, edge, y in self.turns), *["may lock up"] * (self.kind == "cycle")]
         return "\n".join(lines) + "\n"
+
+
+def line_of(x: int, edge: Edge, y: int) -> str:
+    """The line of a dependency between two channels of a cycle."""
+    if edge.to is None:
+        return f"{x} replies {y}"
+    return f"{x} to {edge.to}" + (f" over {' '.join(map(str, edge.over))}" if edge.over else "")
 
 
 def choices_of(net: Network) -> Dict[Tuple[int, int], List[int]]:
@@ -105,6 +112,13 @@ class Walk:
                     found[y] = (*found[here], y)
                     queue.append(y)
         return found
+
+    def leads(self, x: int, j: int, over: Tuple[int, ...], y: int) -> bool:
+        """Whether a packet to an ejection channel that holds channel x can go on over these channels, none of them an
+        escape, and then wait for channel y."""
+        way = (x, *over, y)
+        held = j in self.starts and x in self.comes(j) and x in self.escapes and y in self.escapes and not self.escapes & set(over)
+        return held and all(b in self.after(a, j) for a, b in zip(way, way[1:]))
 
     def edges(self) -> Dict[Tuple[int, int], Edge]:
         """The extended dependencies and replies, each with a way."""

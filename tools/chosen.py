@@ -11,14 +11,19 @@ from walked import Network, number_of
 
 
 def turns_of(lines: List[List[str]], net: Network) -> Optional[List[Tuple[int, Edge, int]]]:
-    """The dependencies between the channels of a cycle, each on a line `channel X`, as the walk knows them; none where one
-    doesn't lead to the next."""
-    edges = Walk(net).edges()
-    if any(words[0] != "channel" or len(words) != 2 for words in lines):
-        return None
-    xs = [number_of(words[1]) for words in lines]
-    pairs = list(zip(xs, xs[1:] + xs[:1]))
-    return [(x, edges[x, y], y) for x, y in pairs] if all(it in edges for it in pairs) else None
+    """The dependencies between the channels of a cycle, each on a line `X to J`, `X to J over A B` or `X replies Y`; none where
+    one doesn't lead to the next, as the walk sees it."""
+    walk, turns = Walk(net), []
+    for words, behind in zip(lines, lines[1:] + lines[:1]):
+        x, y = number_of(words[0]), number_of(behind[0])
+        ends, over = [number_of(it) for it in words[2:3]], tuple(number_of(it) for it in words[4:])
+        if words[1:2] == ["replies"] and len(words) == 3 and ends == [y] and (x, y) in net.replies:
+            turns.append((x, Edge(None), y))
+        elif words[1:2] == ["to"] and ends and words[3:4] == ["over"][:len(over)] and walk.leads(x, ends[0], over, y):
+            turns.append((x, Edge(ends[0], over), y))
+        else:
+            return None
+    return turns
 
 
 def found_in(net: Network, text: str, path: str) -> Found:

@@ -135,7 +135,7 @@ enum Verdict {
     NoChoice(usize, usize, usize),
     NoEscape(usize, usize),
     Cycle(Vec<usize>),
-    Rising(Vec<usize>, Option<(usize, usize)>),
+    Rising(Vec<usize>, Travel),
 }
 
 impl Lists {
@@ -278,19 +278,37 @@ fn find(nodes: usize, columns: usize, next: impl Fn(usize, usize) -> usize, end:
     Ok(marks.iter().map(|mark| nodes - 1 - height(mark)).collect())
 }
 
-/// Whether the choices for some destination lead around.
-fn travel(net: &Lists, none: &[bool]) -> Option<(usize, usize)> {
+/// How far packets can go.
+enum Travel {
+    Bounded(usize),
+    Round(usize, usize),
+}
+
+/// How many channels packets go over at most, or where the choices for some destination lead around.
+fn travel(net: &Lists, none: &[bool]) -> Travel {
     let count = net.kinds.len();
+    let mut most = 0;
     for to in 0..count {
         let seen = net.comes_to(none, to);
         let choice = |x: usize, k: usize| net.choices[(to * count + x) * net.ways + k] as usize;
         let takes = |x: usize, k: usize| seen[x] && net.kinds[x] != Kind::Ejection && choice(x, k) < count;
         let next = |x: usize, k: usize| (k..net.ways).find(|k| takes(x, *k)).unwrap_or(net.ways);
-        if let Err(around) = find(count, net.ways, next, choice) {
-            return Some((to, around[0]));
+        match find(count, net.ways, next, choice) {
+            Err(around) => return Travel::Round(to, around[0]),
+            Ok(numbers) => {
+                let mut order = vec![count; count];
+                for (x, number) in numbers.iter().enumerate() {
+                    order[*number] = x;
+                }
+                let mut far = vec![0; count];
+                for x in order.into_iter().rev() {
+                    far[x] = 1 + (0..net.ways).filter(|k| takes(x, *k)).map(|k| far[choice(x, k)]).max().unwrap_or(0);
+                }
+                most = net.joins.iter().filter(|pair| pair.to == to).map(|pair| far[pair.from]).fold(most, usize::max);
+            }
         }
     }
-    None
+    Travel::Bounded(most)
 }
 
 fn judge(net: &Lists) -> Verdict {
@@ -320,8 +338,8 @@ fn judge(net: &Lists) -> Verdict {
 fn sums(verdict: &Verdict) -> (u64, u64) {
     let sum = |found: &[usize]| found.iter().enumerate().map(|(k, it)| (k as u64 + 1).wrapping_mul(*it as u64)).fold(0, u64::wrapping_add);
     match verdict {
-        Verdict::Rising(numbers, None) => (0, sum(numbers)),
-        Verdict::Rising(numbers, Some(_)) => (1, sum(numbers)),
+        Verdict::Rising(numbers, Travel::Bounded(most)) => (0, sum(numbers).wrapping_add(*most as u64)),
+        Verdict::Rising(numbers, Travel::Round(..)) => (1, sum(numbers)),
         Verdict::NoEscape(x, to) => (2, sum(&[*x, *to])),
         Verdict::Cycle(channels) => (3, sum(channels)),
         Verdict::NoRoute(pair) => (4, sum(&[pair.from, pair.to])),
@@ -335,7 +353,10 @@ fn tell(verdict: &Verdict) {
             for (x, number) in numbers.iter().enumerate() {
                 println!("number {x} {number}");
             }
-            println!("{}\nrising", if let Some((to, at)) = round { format!("round {to} {at}") } else { "bounded".to_string() });
+            match round {
+                Travel::Bounded(most) => println!("bounded {most}\nrising"),
+                Travel::Round(to, at) => println!("round {to} {at}\nrising"),
+            }
         }
         Verdict::NoEscape(x, to) => println!("no escape {x} {to}"),
         Verdict::Cycle(channels) => println!("cycle\n{channels:?}\nmay lock up"),

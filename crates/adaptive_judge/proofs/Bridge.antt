@@ -1,7 +1,7 @@
 -- The flags tell of the network.
-use Rattle.std.proofs.Common.{◌≡◌, ◌≢◌, inl, inr, ⊎_elim, ℕ, ◌+◌, ◌*◌, ◌/◌, ◌%◌, ◌<◌, ◌&&◌, not, Bool, true, false, Option, Some, None, List, length, refl, sym, ◌∙◌, ap, subst}
+use Rattle.std.proofs.Common.{◌≡◌, ◌≢◌, inl, inr, ⊎_elim, ℕ, ◌+◌, ◌*◌, ◌/◌, ◌%◌, ◌<◌, ◌&&◌, not, Bool, true, false, Option, Some, None, List, [], ◌∷◌, length, refl, sym, ◌∙◌, ap, subst}
 use Rattle.std.specs.Prelude.{nat_lt, slice_get}
-use Rattle.std.proofs.lemmas.Bool.{cases_Bool, ltb-true, and_parts, and_from}
+use Rattle.std.proofs.lemmas.Bool.{cases_Bool, ltb-true, lt-ltb, and_parts, and_from}
 use Rattle.std.proofs.lemmas.Nat.{div-mul-add, mod-mul-add}
 use Rattle.std.proofs.lemmas.Option.{slice_get_within}
 use Rattle.network_judge.specs.declared.table.Kind.{Kind}
@@ -14,6 +14,7 @@ use Rattle.adaptive.specs.Verdicts.{LacksEscape, LacksEscapeFirst}
 use Rattle.adaptive_judge.specs.Spread.{Path, Stop, Go, any_below, names, opens, leads_on, choice_step}
 use Rattle.adaptive_judge.specs.Choosing.{ChoiceTable, table, base_of, chooses_of, network, IsWritten, IsShaped}
 use Rattle.adaptive_judge.specs.Flags.{AreDown, ComesTo, IsWaitOf, IsBareTo, IsFirstBareTo, HasWaits}
+use Rattle.adaptive_judge.specs.Between.{LeadsToWait, MayWaitTo, MayWait, IsWayBetween, WaitsOver}
 use Rattle.adaptive_judge.proofs.Flags.{not_true, true_not, any_at, any_from}
 
 false_and : (a b : Bool) → a ≡ true → (a && b) ≡ false → b ≡ false
@@ -117,6 +118,19 @@ module _ (t : ChoiceTable) (none : List Bool) (down : AreDown none) (depth : ℕ
   roams_path j x c FromHere = Stop
   roams_path j x c (ByNoEscape u v r s e) = Go u v (roams_path j x u r) (goes_roam j u v s e)
 
+  -- a way between the channels of a dependency
+  pub way_waits : (j x y : ℕ) (over : List ℕ) → y < count → is_marked_at t.marks y ≡ true
+      → IsWayBetween t.kinds t.choices (base_of t j) t.ways t.marks x over y → WaitsOver n j x over y
+  way_waits j x y [] low up w =
+      let a = and_parts (leads_on t.kinds x) (names t.choices (base_of t j + x * t.ways) t.ways y) w in (
+        leads_input x a.0,
+        and_from (chooses_of t x j y) (is_marked_at t.marks y)
+            (and_from (nat_lt y count) (names t.choices (base_of t j + x * t.ways) t.ways y) (lt-ltb y count low) a.1) up,
+      )
+  way_waits j x y (z ∷ over) low up w =
+      let g = roam_goes j x z w.0 in
+      (g.0, g.1, way_waits j z y over low up w.1)
+
   low_choice : (x j y : ℕ) → chooses_of t x j y ≡ true → y < count
   low_choice x j y e = ltb-true y count (and_parts (nat_lt y count) (names t.choices (base_of t j + x * t.ways) t.ways y) e).0
 
@@ -213,3 +227,27 @@ module _ (t : ChoiceTable) (none : List Bool) (down : AreDown none) (depth : ℕ
         in_row = record { to = y; escape = a.escape; place = refl };
       };
     })
+
+    -- a flag tells that packets to some channel wait, and that the channels are marked
+    pub edge_waits : (x y : ℕ) → y < count → is_marked_at edges (x * count + y) ≡ true
+        → MayWait t.kinds t.joins t.choices t.ways t.marks none x y × (is_marked_at t.marks x ≡ true) × (is_marked_at t.marks y ≡ true)
+    edge_waits x y low up = ⊎_elim
+        (λ (was : is_marked_at old (x * count + y) ≡ true). let bad : true ≡ false = sym was ∙ empty (x * count + y) in absurd (cc))
+        (λ (w : IsWaitOf t.kinds t.joins t.choices t.ways t.marks none (x * count + y)).
+        let r = w.wait in
+        let less = escape_low r.head w.to r.in_row.to r.in_row.escape in
+        let same = same_place count x y r.from r.in_row.to low less r.in_row.place in
+        let e = and_parts (chooses_of t r.head w.to r.in_row.to) (is_marked_at t.marks r.in_row.to) r.in_row.escape in
+        let d = and_parts (nat_lt r.in_row.to count) (names t.choices (base_of t w.to + r.head * t.ways) t.ways r.in_row.to) e.0 in
+        let named = subst (λ z. names t.choices (base_of t w.to + r.head * t.ways) t.ways z ≡ true) (sym same.1) d.1 in
+        let leads : LeadsToWait t.kinds t.choices (base_of t w.to) t.ways t.marks r.from y = record {
+          head = r.head;
+          path = r.path;
+          waits = and_from (leads_on t.kinds r.head) (names t.choices (base_of t w.to + r.head * t.ways) t.ways y) r.leads named;
+        } in
+        let waits : MayWaitTo t.kinds t.joins t.choices t.ways t.marks none w.to r.from y = record { comes = r.comes; leads = leads } in (
+          (w.to, w.low, subst (λ z. MayWaitTo t.kinds t.joins t.choices t.ways t.marks none w.to z y) (sym same.0) waits),
+          ap (is_marked_at t.marks) same.0 ∙ r.held,
+          ap (is_marked_at t.marks) same.1 ∙ e.1,
+        ))
+        (has.put.only (x * count + y) up)

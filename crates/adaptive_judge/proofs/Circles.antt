@@ -17,16 +17,23 @@ use Rattle.network_judge.specs.Marks.{is_marked_at}
 use Rattle.network_judge.specs.Replies.{reply_at, IsReply, AreReplies}
 use Rattle.network_judge.specs.Graph.{flag_at}
 use Rattle.network_judge.proofs.Graphs.{either_low, either_high, reply_leads, reply_edge}
-use Rattle.adaptive.specs.Choices.{AdaptiveNet, Comes, ByChoice, ExtendedDependency, HasEscapes, AreReplyEnds, AreRising}
+use Rattle.adaptive.specs.Choices.{AdaptiveNet, Comes, ByChoice, HasEscapes, AreReplyEnds, AreRising}
 use Rattle.adaptive.proofs.Held.{roams_come}
-use Rattle.adaptive.specs.Verdicts.{IsEdge, IsDependencyCycle}
 use Rattle.adaptive_judge.specs.Choosing.{ChoiceTable, table, network, IsShaped}
 use Rattle.adaptive_judge.specs.Flags.{AreDown, HasWaits}
 use Rattle.adaptive_judge.specs.Waiting.{waiting}
-use Rattle.adaptive_judge.specs.Judged.{answers_of, AreChannels}
+use Rattle.adaptive_judge.specs.declared.verdict.Dependency as dependency
+use Rattle.adaptive_judge.specs.declared.verdict.How.{How}
+use Rattle.adaptive_judge.specs.declared.verdict.How.TheVariants.{Over, Replied}
+use Rattle.adaptive_judge.specs.Between.{MayWait, WaitsOver, IsDependencyBy, IsCycleBy, dependency_at, IsWaitingLook, IsHow, IsDependencyOf, AreDependencies}
+use Rattle.adaptive_judge.specs.Judged.{answers_of}
 use Rattle.adaptive_judge.proofs.Flags.{up_inside}
 use Rattle.adaptive_judge.proofs.Begins.{down_at}
-use Rattle.adaptive_judge.proofs.Bridge.{is_adaptive, has_escapes, edge_awaits, awaits_edge}
+use Rattle.adaptive_judge.proofs.Bridge.{is_adaptive, has_escapes, to_comes, way_waits, edge_waits, awaits_edge}
+
+-- a format of flits
+any_flits : Flits
+any_flits = record { is_head = λ f. true; is_tail = λ f. true; told = λ f. 0 }
 
 -- replies are answers
 pub reply_answers : (replies : List Reply) (x y : ℕ) → IsReply replies x y → answers_of replies x y ≡ true
@@ -82,40 +89,81 @@ module _ (t : ChoiceTable) (replies : List Reply) (shaped : IsShaped t) (are : A
   after_low : (x c : ℕ) → c < count → graph.after x c ≡ c
   after_low x c low = either_low count (λ z. z) (λ p. (reply_at replies p).to) c low
 
+  -- what the search finds can be told with its ways
+  waiting_look : (look : Look) (y : ℕ) → StepsOn graph look y
+      → IsWaitingLook t.kinds t.joins replies t.choices t.ways t.marks none look
+  waiting_look look y l = record { node = node; column = l.end; waits = waits }
+    where
+      up : look.column < count → is_marked_at edges (look.node * count + look.column) ≡ true
+      up low = sym (leads_low look.node look.column low) ∙ l.marked
+
+      node : look.node < count
+      node = elim (cases_lt look.column count) [
+        | inl low ↦ row_low look.node look.column (up low)
+        | inr high ↦ (let r = reply_leads replies count (flag_at count edges look.node) look.node look.column high l.end l.marked in
+            slice_get_within t.kinds look.node Ejection (are look.node (reply_at replies (look.column - count)).to r).0)
+      ]
+
+      waits : look.column < count → MayWait t.kinds t.joins t.choices t.ways t.marks none look.node look.column
+      waits low = (edge_waits t none down 0 any_flits shaped old edges empty has look.node look.column low (up low)).0
+
+  pub waiting_looks : (looks : List Look) → IsCircuit graph looks → (k : ℕ) → k < length looks
+      → IsWaitingLook t.kinds t.joins replies t.choices t.ways t.marks none (path_look looks k)
+  waiting_looks looks c k low = elim (cases_lt (k + 1) (length looks)) [
+    | inl less ↦ waiting_look (path_look looks k) (path_look looks (k + 1)).node (c.each k less)
+    | inr high ↦ (let same : length looks - 1 ≡ k = omega arith in
+        subst (λ z. IsWaitingLook t.kinds t.joins replies t.choices t.ways t.marks none (path_look looks z)) same
+        (waiting_look (path_look looks (length looks - 1)) (path_look looks 0).node c.last))
+  ]
+
   module _ (depth : ℕ) (flits : Flits) where
     abbrev n : AdaptiveNet
     n = network t depth flits
 
-    looks_lead : (look : Look) (y : ℕ) → StepsOn graph look y → IsEdge n (answers_of replies) look.node y
-    looks_lead look y l = elim (cases_lt look.column count) [
-      | inl low ↦
-          let up : is_marked_at edges (look.node * count + look.column) ≡ true = sym (leads_low look.node look.column low) ∙ l.marked in
-          let same : look.column ≡ y = sym (after_low look.node look.column low) ∙ l.next in
-          inl (subst (λ z. (j : ℕ) × ExtendedDependency n look.node j z) same
-          (edge_awaits t none down depth flits shaped old edges empty has look.node look.column low up))
-      | inr high ↦
-          let r = reply_leads replies count (flag_at count edges look.node) look.node look.column high l.end l.marked in
-          let same : (reply_at replies (look.column - count)).to ≡ y =
-          sym (either_high count (λ z. z) (λ p. (reply_at replies p).to) look.column high) ∙ l.next in
-          inr (subst (λ z. answers_of replies look.node z ≡ true) same (reply_answers replies look.node (reply_at replies (look.column - count)).to r))
-    ]
+    told : {A : Type 0} (look : Look) (y : ℕ) (edge : dependency.Dependency A) → StepsOn graph look y
+        → IsDependencyOf t.kinds t.joins replies t.choices t.ways t.marks none look edge → IsDependencyBy n (answers_of replies) edge.channel edge.how y
+    told {A} look y edge l d = subst (λ z. IsDependencyBy n (answers_of replies) z edge.how y) (sym d.channel) (by edge.how d.how)
+      where
+        by : (how : How A) → IsHow t.kinds t.joins replies t.choices t.ways t.marks none look how
+            → IsDependencyBy n (answers_of replies) look.node how y
+        by (Over j over) h =
+            let low = h.0 in
+            let same : look.column ≡ y = sym (after_low look.node look.column low) ∙ l.next in
+            let w = edge_waits t none down depth flits shaped old edges empty has look.node look.column low
+            (sym (leads_low look.node look.column low) ∙ l.marked) in (
+              w.1,
+              to_comes t none down depth flits j look.node h.1.1,
+              subst (λ z. WaitsOver n j look.node over.items z) same
+                  (way_waits t none down depth flits j look.node look.column over.items low w.2 h.1.2),
+            )
+        by (Replied z) h =
+            let high = h.0 in
+            let r = reply_leads replies count (flag_at count edges look.node) look.node look.column high l.end l.marked in
+            let same : (reply_at replies (look.column - count)).to ≡ y =
+            sym (either_high count (λ z. z) (λ p. (reply_at replies p).to) look.column high) ∙ l.next in (
+              h.1 ∙ same,
+              subst (λ z. answers_of replies look.node z ≡ true) same (reply_answers replies look.node (reply_at replies (look.column - count)).to r),
+            )
 
     -- channels that lead around are a cycle
-    pub cycle : (looks : List Look) (channels : List ℕ) → IsCircuit graph looks → AreChannels looks channels
-        → IsDependencyCycle n (answers_of replies) (length channels) (slice_index channels)
+    pub cycle : {A : Type 0} (looks : List Look) (channels : List (dependency.Dependency A)) → IsCircuit graph looks
+        → AreDependencies t.kinds t.joins replies t.choices t.ways t.marks none looks channels
+        → IsCycleBy n (answers_of replies) channels
     cycle looks channels c a =
         let size = a.size in
         let some = c.some in
+        let last : ℕ = length looks - 1 in
+        let same : last ≡ length channels - 1 = omega arith in
         record {
           some = omega arith;
           each = λ k l. (
-              subst (λ z. IsEdge n (answers_of replies) z (slice_index channels (k + 1))) (sym (a.each k (omega arith)))
-              (subst (λ z. IsEdge n (answers_of replies) (path_look looks k).node z) (sym (a.each (k + 1) (omega arith)))
-              (looks_lead (path_look looks k) (path_look looks (k + 1)).node (c.each k (omega arith)))));
-          last = (let same : length looks - 1 ≡ length channels - 1 = omega arith in
-              subst (λ z. IsEdge n (answers_of replies) z (slice_index channels 0)) (ap (λ k. (path_look looks k).node) same ∙ sym (a.each (length channels - 1) (omega arith)))
-              (subst (λ z. IsEdge n (answers_of replies) (path_look looks (length looks - 1)).node z) (sym (a.each 0 (omega arith)))
-              (looks_lead (path_look looks (length looks - 1)) (path_look looks 0).node c.last)));
+              subst (λ z. IsDependencyBy n (answers_of replies) (dependency_at channels k).channel (dependency_at channels k).how z)
+              (sym (a.each (k + 1) (omega arith)).channel)
+              (told (path_look looks k) (path_look looks (k + 1)).node (dependency_at channels k) (c.each k (omega arith)) (a.each k (omega arith))));
+          last = subst (λ i. IsDependencyBy n (answers_of replies) (dependency_at channels i).channel (dependency_at channels i).how (dependency_at channels 0).channel) same
+              (subst (λ z. IsDependencyBy n (answers_of replies) (dependency_at channels last).channel (dependency_at channels last).how z)
+              (sym (a.each 0 (omega arith)).channel)
+              (told (path_look looks last) (path_look looks 0).node (dependency_at channels last) c.last (a.each last (omega arith))));
         }
 
     module _ (numbers : List ℕ) (p : IsPermutationBelow count numbers) (up : RisesAlong graph (slice_index numbers)) where
@@ -174,9 +222,14 @@ module _ (t : ChoiceTable) (replies : List Reply) (shaped : IsShaped t) (are : A
   pub ready_escapes : (depth : ℕ) (flits : Flits) → HasEscapes (network t depth flits)
   ready_escapes depth flits = has_escapes t none r.down depth flits shaped old edges r.empty r.has
 
-  pub ready_cycle : (looks : List Look) (channels : List ℕ) → IsCircuit (waiting (length t.kinds) edges replies) looks
-      → AreChannels looks channels → (depth : ℕ) (flits : Flits)
-      → HasEscapes (network t depth flits) × IsDependencyCycle (network t depth flits) (answers_of replies) (length channels) (slice_index channels)
+  pub ready_looks : (looks : List Look) → IsCircuit (waiting (length t.kinds) edges replies) looks → (k : ℕ) → k < length looks
+      → IsWaitingLook t.kinds t.joins replies t.choices t.ways t.marks none (path_look looks k)
+  ready_looks = waiting_looks t replies shaped are none r.down old edges r.empty r.has r.square
+
+  pub ready_cycle : {A : Type 0} (looks : List Look) (channels : List (dependency.Dependency A))
+      → IsCircuit (waiting (length t.kinds) edges replies) looks
+      → AreDependencies t.kinds t.joins replies t.choices t.ways t.marks none looks channels → (depth : ℕ) (flits : Flits)
+      → HasEscapes (network t depth flits) × IsCycleBy (network t depth flits) (answers_of replies) channels
   ready_cycle looks channels c a depth flits = (
     ready_escapes depth flits,
     cycle t replies shaped are none r.down old edges r.empty r.has r.square depth flits looks channels c a,

@@ -55,7 +55,7 @@ set_only flags y z e = elim (cases_eq z y) [
   | inr apart ↦ inr (sym (set_other flags y z apart) ∙ e)
 ]
 
-fewer_down : (flags : List Bool) (y : ℕ) → y < length flags → is_marked_at flags y ≡ false → down (set flags y true) + 1 ≡ down flags
+pub fewer_down : (flags : List Bool) (y : ℕ) → y < length flags → is_marked_at flags y ≡ false → down (set flags y true) + 1 ≡ down flags
 fewer_down flags y low e =
     let s = sum_by-set (λ (b : Bool). cond (not b) 1 0) flags y true false low in
     let was : cond {A = ℕ} (not (is_marked_at flags y)) 1 0 ≡ 1 = ap (λ b. cond {A = ℕ} (not b) 1 0) e in

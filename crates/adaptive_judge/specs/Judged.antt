@@ -1,16 +1,15 @@
 -- What each verdict says of a network of choices.
-use Rattle.std.specs.Prelude.{◌≡◌, ℕ, ◌<◌, ◌==◌, ◌&&◌, Bool, List, length, slice_index}
-use Rattle.rising.specs.declared.search.Look.{Look}
-use Rattle.rising.specs.Search.{path_look}
+use Rattle.std.specs.Prelude.{◌≡◌, ℕ, ◌==◌, ◌&&◌, Bool, List, length, slice_index}
 use Rattle.std.specs.List.{list_any}
 use Rattle.network_judge.specs.declared.table.Reply.{Reply}
 use Rattle.network_judge.specs.TableNet.{Flits}
 use Rattle.adaptive.specs.Choices.{HasEscapes, AreRising}
-use Rattle.adaptive.specs.Verdicts.{IsDependencyCycle, LacksEscapeFirst}
+use Rattle.adaptive.specs.Verdicts.{LacksEscapeFirst}
 use Rattle.adaptive_judge.specs.declared.verdict.Verdict.{Verdict}
 use Rattle.adaptive_judge.specs.declared.verdict.Verdict.TheVariants.{Rising, NoEscape, Cycle}
 use Rattle.adaptive_judge.specs.Choosing.{ChoiceTable, network}
 use Rattle.adaptive_judge.specs.Travel.{IsTravel}
+use Rattle.adaptive_judge.specs.Between.{IsCycleBy}
 
 -- on which channels packets from a channel are answered
 abbrev pub answers_of : List Reply → ℕ → ℕ → Bool
@@ -24,12 +23,6 @@ IsAdaptiveVerdict t replies (Rising numbers travel) = (depth : ℕ) (flits : Fli
     × IsTravel (network t depth flits) travel
 IsAdaptiveVerdict t replies (NoEscape f) = (depth : ℕ) (flits : Flits)
     → LacksEscapeFirst (network t depth flits) f.to f.at
-IsAdaptiveVerdict t replies (Cycle channels) = (depth : ℕ) (flits : Flits)
+IsAdaptiveVerdict t replies (Cycle edges) = (depth : ℕ) (flits : Flits)
     → HasEscapes (network t depth flits)
-    × IsDependencyCycle (network t depth flits) (answers_of replies) (length channels.items)
-    (slice_index channels.items)
-
--- the channels of a path
-pub record AreChannels (looks : List Look) (channels : List ℕ) : Type 0 where
-  pub size : length channels ≡ length looks
-  pub each : (k : ℕ) → k < length looks → slice_index channels k ≡ (path_look looks k).node
+    × IsCycleBy (network t depth flits) (answers_of replies) edges.items

@@ -10,6 +10,7 @@ use Rattle.adaptive_judge.specs.declared.verdict.Travel.{Travel}
 use Rattle.adaptive_judge.specs.declared.verdict.Travel.TheVariants.{Bounded, Round}
 use Rattle.adaptive_judge.specs.Spread.{Path, leads_on, choice_step}
 use Rattle.adaptive_judge.specs.Flags.{ComesTo}
+use Rattle.adaptive_judge.specs.Longest.{IsLongestWay, IsMostPassed}
 
 -- choices for packets to ejection channel j lead from channel x to a channel, over so many as one
 -- likes
@@ -25,11 +26,12 @@ pub record CanGoRound (n : AdaptiveNet) (j x : ℕ) : Type 0 where
   pub way : ChoicesLead n j x last
   pub back : IsChoice n j last x
 
--- each choice brings packets nearer, from no farther than there are channels; or packets can go
--- round
+-- each choice brings packets nearer, from no farther than there are channels, and packets go over so
+-- many at most; or packets can go round
 abbrev pub IsTravel : AdaptiveNet → Travel → Type 0
-IsTravel n Bounded =
-    (far : ℕ → ℕ → ℕ) × AreNearer n far × ((x j : ℕ) → far x j ≤ n.frame.channels)
+IsTravel n (Bounded most) =
+    ((far : ℕ → ℕ → ℕ) × AreNearer n far × ((x j : ℕ) → far x j ≤ n.frame.channels))
+    × IsLongestWay n most
 IsTravel n (Round r) = CanGoRound n r.to r.at
 
 -- the choice behind channel x at a place, of those that begin at `base`
@@ -74,7 +76,8 @@ pub record GoesRoundAt (kinds : List Kind) (joins : List Join) (choices : List �
 
 -- the same as IsTravel, told by steps
 abbrev pub IsTravelOf : List Kind → List Join → List ℕ → ℕ → List Bool → Travel → Type 0
-IsTravelOf kinds joins choices ways none Bounded =
-    (j : ℕ) → j < length kinds → HasNumbersTo kinds joins choices ways none j
+IsTravelOf kinds joins choices ways none (Bounded most) =
+    ((j : ℕ) → j < length kinds → HasNumbersTo kinds joins choices ways none j)
+    × IsMostPassed joins (step_to kinds choices ways none) (length kinds) most
 IsTravelOf kinds joins choices ways none (Round r) =
     GoesRoundAt kinds joins choices ways none r.to r.at

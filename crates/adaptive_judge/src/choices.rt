@@ -28,7 +28,7 @@ pub struct Choices<'a> {
 
 impl<'a> Choices<'a> {
     /// The choice behind a channel at a place.
-    fn choice(&self, x: usize, place: usize) -> usize
+    pub(crate) fn choice(&self, x: usize, place: usize) -> usize
         requires x { x < length self.now.kinds.now }
         requires place { place < self.now.ways }
         ensures { result ≡ chosen_at self.now.choices.now self.now.base self.now.ways x place }
@@ -37,7 +37,7 @@ impl<'a> Choices<'a> {
     }
 
     /// Whether packets go on so.
-    fn takes(&self, x: usize, place: usize) -> bool
+    pub(crate) fn takes(&self, x: usize, place: usize) -> bool
         requires x { x < length self.now.kinds.now }
         requires place { place < self.now.ways }
         ensures { result ≡ is_taken self.now.kinds.now self.now.choices.now self.now.base

@@ -3,31 +3,17 @@
 ghost use Rattle.std.specs.Prelude.{◌≡◌, ◌+◌, ◌*◌, ◌%◌, ◌^◌, ◌<◌, ◌≤◌, ℕ, length, slice_index};
 ghost use Rattle.std.specs.Prelude.{IfOk};
 ghost use Rattle.network_judge.specs.Replies.{AreReplies};
-ghost use Rattle.rising.specs.Search.{path_look};
 ghost use Rattle.adaptive_judge.specs.Choosing.{choosing_of, table, IsShaped};
-ghost use Rattle.adaptive_judge.specs.Judged.{IsAdaptiveVerdict, AreChannels};
+ghost use Rattle.adaptive_judge.specs.Judged.{IsAdaptiveVerdict};
 
+use crate::cycle::dependencies_of;
 use crate::travel::travel_of;
 use crate::verdict::Verdict;
 use crate::waiting::Waiting;
 use crate::waits::waits_of;
 use network_judge::{Join, Kind, Reply};
-use rising::{Look, Searched, find};
+use rising::{Searched, find};
 use std::alloc::{AllocError, Allocator};
-
-/// The channels of a path.
-///
-/// Errors: memory.
-fn channels_of<A: Allocator + Copy>(alloc: A, looks: &[Look]) -> Result<Vec<usize, A>, AllocError>
-    ensures { IfOk result (λ v. AreChannels looks.now v.items) }
-{
-    let mut channels = Vec::with_capacity(alloc, looks.len())?;
-    for k in 0..looks.len() {
-        let look = looks[k];
-        channels.push(look.node)?;
-    }
-    Ok(channels)
-}
 
 /// Judges a network by its lists: the kind of each channel, the pairs that packets go between, on
 /// which injection channels packets from an ejection channel are answered, the routers' choices,
@@ -67,7 +53,9 @@ pub fn judge<A: Allocator + Copy>(
         replies,
     };
     match find(alloc, &graph)? {
-        Searched::Circuit(looks) => Ok(Verdict::Cycle(channels_of(alloc, &looks)?)),
+        Searched::Circuit(looks) => Ok(Verdict::Cycle(dependencies_of(
+            alloc, kinds, joins, replies, choices, ways, marks, &none, &looks,
+        )?)),
         Searched::Rising(numbers) => Ok(Verdict::Rising(
             numbers,
             travel_of(alloc, kinds, joins, choices, ways, &none)?,

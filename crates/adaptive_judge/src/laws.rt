@@ -1,7 +1,7 @@
 //! Laws of networks that are judged to be rising, each the contract of a function that does
 //! nothing.
 
-ghost use Rattle.std.specs.Prelude.{◌≡◌, ℕ, ◌≤◌, ◌<◌, List, All, length, slice_index};
+ghost use Rattle.std.specs.Prelude.{◌≡◌, ℕ, ◌≤◌, ◌<◌, Bool, true, List, All, length, slice_index};
 ghost use Rattle.wormhole.specs.Net.{Parcel};
 ghost use Rattle.wormhole.specs.State.{NetState};
 ghost use Rattle.wormhole.specs.Delivery.{whole, WasSentTo};
@@ -12,13 +12,16 @@ ghost use Rattle.network_judge.specs.TableNet.{Flits};
 ghost use Rattle.adaptive.specs.Flow.{IsReachable};
 ghost use Rattle.adaptive.specs.Progress.{GoesByEscapes, MoveByEscapes};
 ghost use Rattle.adaptive.specs.Arrivals.{sum_of_packets};
-ghost use Rattle.adaptive.specs.Choices.{AdaptiveNet};
+ghost use Rattle.adaptive.specs.Choices.{AdaptiveNet, Comes, ExtendedDependency};
+ghost use Rattle.adaptive.specs.Verdicts.{IsDependencyCycle};
 ghost use Rattle.adaptive.specs.Work.{AreNearer};
 ghost use Rattle.adaptive_judge.specs.Travel.{CanGoRound};
 ghost use Rattle.adaptive_judge.specs.declared.verdict.Verdict.{Verdict};
 ghost use Rattle.adaptive_judge.specs.declared.verdict.Verdict.TheVariants.{Rising};
 ghost use Rattle.adaptive_judge.specs.Choosing.{ChoiceTable, table, network, IsShaped};
 ghost use Rattle.adaptive_judge.specs.Judged.{answers_of, IsAdaptiveVerdict};
+ghost use Rattle.adaptive_judge.specs.declared.verdict.Dependency.{Dependency};
+ghost use Rattle.adaptive_judge.specs.Between.{WaitsOver, IsCycleBy, dependency_at};
 
 use std::alloc::Allocator;
 
@@ -55,4 +58,14 @@ pub fn rising_networks_never_lock_up<A: Allocator>()
 pub fn rounds_have_no_distances()
     ensures { (n : AdaptiveNet) (j x : ℕ) → CanGoRound n j x
         → (far : ℕ → ℕ → ℕ) → AreNearer n far → ⊥ }
+{}
+
+/// A cycle that is told with its ways is one of extended dependencies: where a packet holds a channel and
+/// goes on over channels that are no escapes to where it waits for another, there is such a dependency.
+pub fn ways_are_dependencies<A: Allocator>()
+    ensures each { (n : AdaptiveNet) (x j y : ℕ) (over : List ℕ) → n.marked x ≡ true → Comes n j x
+        → WaitsOver n j x over y → ExtendedDependency n x j y }
+    ensures cycle { (n : AdaptiveNet) (answers : ℕ → ℕ → Bool) (edges : List (Dependency A))
+        → IsCycleBy n answers edges
+        → IsDependencyCycle n answers (length edges) (λ k. (dependency_at edges k).channel) }
 {}

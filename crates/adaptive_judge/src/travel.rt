@@ -7,13 +7,14 @@ ghost use Rattle.adaptive_judge.specs.Travel.{IsTravelOf};
 
 use crate::choices::Choices;
 use crate::comes::comes_to;
+use crate::longest::{farthest, most_from};
 use crate::verdict::{Round, Travel};
 use network_judge::{Join, Kind};
 use rising::{Searched, find};
 use std::alloc::{AllocError, Allocator};
 
 /// Finds the first destination whose packets can go round, and a channel that they can come back to:
-/// or there is none.
+/// or there is none, and finds how many channels packets go over at most.
 ///
 /// Errors: memory.
 pub fn travel_of<A: Allocator + Copy>(
@@ -32,6 +33,7 @@ pub fn travel_of<A: Allocator + Copy>(
     ensures { IfOk result (IsTravelOf kinds.now joins.now choices.now ways none.now) }
 {
     let block = kinds.len() * ways;
+    let mut most = 0;
     for to in 0..kinds.len() {
         let base = to * block;
         let seen = comes_to(alloc, kinds, joins, choices, base, ways, none, to)?;
@@ -43,12 +45,15 @@ pub fn travel_of<A: Allocator + Copy>(
             seen: &seen,
         };
         match find(alloc, &graph)? {
-            Searched::Rising(_) => {}
+            Searched::Rising(numbers) => {
+                let far = farthest(alloc, &graph, &numbers)?;
+                most = most_from(joins, to, &far, most);
+            }
             Searched::Circuit(looks) => return Ok(Travel::Round(Round {
                 to,
                 at: looks[0].node,
             })),
         }
     }
-    Ok(Travel::Bounded)
+    Ok(Travel::Bounded(most))
 }

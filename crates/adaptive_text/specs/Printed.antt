@@ -1,6 +1,7 @@
 -- What is written of a network whose routers choose, and what is answered to a network text (this
 -- project's own format).
-use Rattle.std.specs.Prelude.{◌≡◌, ◌⊎◌, ℕ, Bool, true, false, List, [], ◌++◌, length, slice_index}
+use Rattle.std.specs.Prelude.{◌≡◌, ◌⊎◌, ℕ, ◌==◌, if◌then◌else◌, Bool, true, false, List, [], ◌++◌}
+use Rattle.std.specs.Prelude.{length, slice_index}
 use Rattle.std.specs.Prelude.{Result, Ok, Err, Option, Some, None, codes, decimal, is_ok}
 use Rattle.torus.specs.declared.fault.Fault.TheVariants as fault
 use Rattle.lexer.specs.declared.refusal.Refusal.{Refusal}
@@ -20,10 +21,14 @@ use Rattle.adaptive_judge.specs.declared.shape.Misfit.{Misfit}
 use Rattle.adaptive_judge.specs.declared.shape.Misfit.TheVariants.{Itself, Injects, Ejects}
 use Rattle.adaptive_judge.specs.declared.shape.NoChoice as no_choice
 use Rattle.adaptive_judge.specs.declared.verdict.NoEscape as no_escape
+use Rattle.adaptive_judge.specs.declared.verdict.Dependency as dependency
+use Rattle.adaptive_judge.specs.declared.verdict.How.{How}
+use Rattle.adaptive_judge.specs.declared.verdict.How.TheVariants.{Over, Replied}
 use Rattle.adaptive_judge.specs.declared.verdict.Travel.{Travel}
 use Rattle.adaptive_judge.specs.declared.verdict.Travel.TheVariants.{Bounded, Round}
 use Rattle.adaptive_judge.specs.declared.verdict.Verdict.{Verdict}
 use Rattle.adaptive_judge.specs.declared.verdict.Verdict.TheVariants.{Rising, NoEscape, Cycle}
+use Rattle.adaptive_judge.specs.Between.{dependency_at}
 use Rattle.adaptive_judge.specs.Shape.{IsJudgedNet}
 use Rattle.adaptive_text.specs.Choosing.{ChoosingText, choosing_or_why}
 use Rattle.adaptive_text.specs.Tables.{choice_table, AreMarks}
@@ -46,17 +51,33 @@ no_escape_line f = pair_line (codes "no escape ") f.at (codes " ") f.to (codes "
 
 -- the line on how far packets can go
 abbrev pub travel_line : Travel → List ℕ
-travel_line Bounded = codes "bounded\n"
+travel_line (Bounded most) = (codes "bounded " ++ decimal most) ++ codes "\n"
 travel_line (Round r) = pair_line (codes "round ") r.to (codes " ") r.at (codes "\n")
 
--- the line of a channel of a cycle
-abbrev pub circuit_line : List ℕ → ℕ → List ℕ
-circuit_line channels k = (codes "channel " ++ decimal (slice_index channels k)) ++ codes "\n"
+-- a channel behind a space
+abbrev pub spaced : List ℕ → ℕ → List ℕ
+spaced over k = codes " " ++ decimal (slice_index over k)
+
+-- over which channels, if any
+abbrev pub over_words : List ℕ → List ℕ
+over_words over = if length over == 0 then []
+    else codes " over" ++ first_lines (spaced over) (length over)
+
+-- how channel x leads on: by packets to ejection channel j that go on over these channels, or to the
+-- channel on which it is answered
+abbrev pub how_line : {A : Type 0} → ℕ → How A → List ℕ
+how_line x (Over j over) =
+    pair_line [] x (codes " to ") j [] ++ (over_words over.items ++ codes "\n")
+how_line x (Replied y) = pair_line [] x (codes " replies ") y (codes "\n")
+
+-- the line of a dependency
+abbrev pub dependency_line : {A : Type 0} → List (dependency.Dependency A) → ℕ → List ℕ
+dependency_line edges k = how_line (dependency_at edges k).channel (dependency_at edges k).how
 
 -- what is written of a cycle
-abbrev pub circuit_text : List ℕ → List ℕ
-circuit_text channels =
-    codes "cycle\n" ++ (first_lines (circuit_line channels) (length channels)
+abbrev pub circuit_text : {A : Type 0} → List (dependency.Dependency A) → List ℕ
+circuit_text edges =
+    codes "cycle\n" ++ (first_lines (dependency_line edges) (length edges)
     ++ codes "may lock up\n")
 
 -- what is written of a verdict
@@ -65,7 +86,7 @@ choosing_verdict_text (Rising numbers travel) =
     first_lines (number_line numbers.items) (length numbers.items)
     ++ (travel_line travel ++ codes "rising\n")
 choosing_verdict_text (NoEscape f) = no_escape_line f
-choosing_verdict_text (Cycle channels) = circuit_text channels.items
+choosing_verdict_text (Cycle edges) = circuit_text edges.items
 
 -- what is written of what is judged
 abbrev pub judgement_text : {A : Type 0} → JudgedNet A → List ℕ
@@ -77,7 +98,7 @@ judgement_text (Judged v) = choosing_verdict_text v
 abbrev pub verdict_rises : {A : Type 0} → Verdict A → Bool
 verdict_rises (Rising numbers travel) = true
 verdict_rises (NoEscape f) = false
-verdict_rises (Cycle channels) = false
+verdict_rises (Cycle edges) = false
 
 abbrev pub judgement_rises : {A : Type 0} → JudgedNet A → Bool
 judgement_rises (WrongPair r) = false

@@ -1,14 +1,15 @@
 //! The text of what is judged of a network whose routers choose.
 
-ghost use Rattle.std.specs.Prelude.{◌≡◌, ◌++◌, codes, decimal, length, IfOk, OnOk};
-ghost use Rattle.network_text.specs.Answer.{first_lines};
+ghost use Rattle.std.specs.Prelude.{◌≡◌, [], ◌++◌, codes, decimal, length, IfOk, OnOk};
+ghost use Rattle.network_text.specs.Answer.{first_lines, pair_line};
 ghost use Rattle.adaptive_text.specs.Printed.{misfit_words, no_choice_line, no_escape_line};
-ghost use Rattle.adaptive_text.specs.Printed.{travel_line, circuit_line, circuit_text};
+ghost use Rattle.adaptive_text.specs.Printed.{travel_line, spaced, over_words, how_line};
+ghost use Rattle.adaptive_text.specs.Printed.{dependency_line, circuit_text};
 ghost use Rattle.adaptive_text.specs.Printed.{choosing_verdict_text, judgement_text};
 
 use adaptive_judge::accepting::JudgedNet;
 use adaptive_judge::shape::{Misfit, NoChoice};
-use adaptive_judge::{NoEscape, Travel, Verdict};
+use adaptive_judge::{Dependency, How, NoEscape, Travel, Verdict};
 use network_text::verdict::{put_no_route, put_number, put_numbers, put_pair};
 use std::alloc::{AllocError, Allocator};
 
@@ -40,43 +41,97 @@ fn put_no_escape<A: Allocator>(out: &mut Vec<u8, A>, f: &NoEscape) -> Result<(),
     put_pair(out, "no escape ", f.at, " ", f.to, "\n")
 }
 
+/// Adds the line of packets that go over so many channels at most.
+fn put_most<A: Allocator>(out: &mut Vec<u8, A>, most: usize) -> Result<(), AllocError>
+    ensures { OnOk result
+        (out.new.items ≡ out.old.items ++ ((codes "bounded " ++ decimal most) ++ codes "\n")) }
+{
+    put_number(out, "bounded ", most)?;
+    out.extend_from_slice(b"\n")
+}
+
 /// Adds the line on how far packets can go.
 fn put_travel<A: Allocator>(out: &mut Vec<u8, A>, travel: &Travel) -> Result<(), AllocError>
     ensures { OnOk result (out.new.items ≡ out.old.items ++ travel_line travel.now) }
 {
     match travel {
-        Travel::Bounded => out.extend_from_slice(b"bounded\n"),
+        Travel::Bounded(most) => put_most(out, *most),
         Travel::Round(r) => put_pair(out, "round ", r.to, " ", r.at, "\n"),
     }
 }
 
-/// Adds the line of a channel of a cycle.
-fn put_channel<A: Allocator>(out: &mut Vec<u8, A>, channel: usize) -> Result<(), AllocError>
+/// Adds channels, each behind a space.
+fn put_spaced<A: Allocator>(out: &mut Vec<u8, A>, over: &[usize]) -> Result<(), AllocError>
     ensures { OnOk result
-        (out.new.items ≡ out.old.items ++ ((codes "channel " ++ decimal channel) ++ codes "\n")) }
+        (out.new.items ≡ out.old.items ++ first_lines (spaced over.now) (length over.now)) }
 {
-    put_number(out, "channel ", channel)?;
+    for k in 0..over.len() {
+        put_number(out, " ", over[k])?;
+    }
+    Ok(())
+}
+
+/// Adds over which channels packets go, if over any.
+fn put_over<A: Allocator>(out: &mut Vec<u8, A>, over: &[usize]) -> Result<(), AllocError>
+    ensures { OnOk result (out.new.items ≡ out.old.items ++ over_words over.now) }
+{
+    if over.len() == 0 {
+        return Ok(());
+    }
+    out.extend_from_slice(b" over")?;
+    put_spaced(out, over)
+}
+
+/// Adds the line of packets that go on from a channel, and wait.
+fn put_waits<A: Allocator>(
+    out: &mut Vec<u8, A>,
+    x: usize,
+    to: usize,
+    over: &[usize],
+) -> Result<(), AllocError>
+    ensures { OnOk result (out.new.items ≡ out.old.items
+        ++ (pair_line [] x (codes " to ") to [] ++ (over_words over.now ++ codes "\n"))) }
+{
+    put_pair(out, "", x, " to ", to, "")?;
+    put_over(out, over)?;
     out.extend_from_slice(b"\n")
 }
 
-/// Adds the line of each channel of a cycle.
-fn put_channels<A: Allocator>(out: &mut Vec<u8, A>, channels: &[usize]) -> Result<(), AllocError>
+/// Adds the line of a dependency.
+fn put_dependency<A: Allocator>(
+    out: &mut Vec<u8, A>,
+    edge: &Dependency<A>,
+) -> Result<(), AllocError>
+    ensures { OnOk result
+        (out.new.items ≡ out.old.items ++ how_line edge.now.channel edge.now.how) }
+{
+    match &edge.how {
+        How::Over(to, over) => put_waits(out, edge.channel, *to, over),
+        How::Replied(next) => put_pair(out, "", edge.channel, " replies ", *next, "\n"),
+    }
+}
+
+/// Adds the line of each dependency of a cycle.
+fn put_dependencies<A: Allocator>(
+    out: &mut Vec<u8, A>,
+    edges: &[Dependency<A>],
+) -> Result<(), AllocError>
     ensures { OnOk result
         (out.new.items ≡ out.old.items
-        ++ first_lines (circuit_line channels.now) (length channels.now)) }
+        ++ first_lines (dependency_line edges.now) (length edges.now)) }
 {
-    for k in 0..channels.len() {
-        put_channel(out, channels[k])?;
+    for k in 0..edges.len() {
+        put_dependency(out, &edges[k])?;
     }
     Ok(())
 }
 
 /// Adds the text of a cycle.
-fn put_cycle<A: Allocator>(out: &mut Vec<u8, A>, channels: &[usize]) -> Result<(), AllocError>
-    ensures { OnOk result (out.new.items ≡ out.old.items ++ circuit_text channels.now) }
+fn put_cycle<A: Allocator>(out: &mut Vec<u8, A>, edges: &[Dependency<A>]) -> Result<(), AllocError>
+    ensures { OnOk result (out.new.items ≡ out.old.items ++ circuit_text edges.now) }
 {
     out.extend_from_slice(b"cycle\n")?;
-    put_channels(out, channels)?;
+    put_dependencies(out, edges)?;
     out.extend_from_slice(b"may lock up\n")
 }
 
@@ -91,7 +146,7 @@ fn put_verdict<A: Allocator>(out: &mut Vec<u8, A>, v: &Verdict<A>) -> Result<(),
             out.extend_from_slice(b"rising\n")
         }
         Verdict::NoEscape(f) => put_no_escape(out, f),
-        Verdict::Cycle(channels) => put_cycle(out, channels),
+        Verdict::Cycle(edges) => put_cycle(out, edges),
     }
 }
 
