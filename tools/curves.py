@@ -4,28 +4,17 @@ from __future__ import annotations
 import itertools
 from typing import Any, Iterator
 
-import command
 import drawing
+import palette
 from drawing import Point
+from paper import Paper
 
-# Okabe and Ito, Color Universal Design, 2008: told apart by colour-blind readers; the marks differ too, for print in grey.
-COLOURS = {"uniform": "#0072b2", "transpose": "#d55e00", "bit-complement": "#009e73"}
-COLOURS.update({"neighbour": "#56b4e9", "tornado": "#cc79a7", "hot-spot": "#e69f00"})
+COLOURS = {"uniform": palette.BLUE, "transpose": palette.VERMILLION, "bit-complement": palette.GREEN}
+COLOURS.update({"neighbour": palette.SKY, "tornado": palette.PURPLE, "hot-spot": palette.ORANGE})
 MARKS = {"uniform": "disc", "transpose": "square", "bit-complement": "up", "neighbour": "diamond", "tornado": "down", "hot-spot": "cross"}
 DASHES = (None, "5 2", "1.5 2", "7 2 1.5 2")
-GRID = "#d0d7de"
-WIDTH_HELP = "the width of the picture with --svg, as 620 or 252pt; 620 if not given; up to 300pt letters have 7 points"
 SIGNS = ("hollow: saturated; at the top edge: above it", "bars: 95 % intervals over the seeds", "short thick line at the left: latency without load")
 Row = dict[str, Any]
-
-
-def width_of(word: str) -> tuple[float, str]:
-    """The reader of the word behind --width: a number of pixels, or of points."""
-    unit = "pt" if word.endswith("pt") else ""
-    digits = word.removesuffix("pt")
-    if not digits.isdigit() or not 200 <= int(digits) <= 2000:
-        raise command.bad_word(f"{word!r} is no width from 200 to 2000, as 620 or 252pt")
-    return int(digits), unit
 
 
 def round_step(most: float, wanted: int) -> float:
@@ -53,32 +42,16 @@ class Panel:
         shown = lambda it: f"{it:.6f}".rstrip("0").rstrip(".")
         for count in range(round(self.ends[0] / self.steps[0]) + 1):
             x, _ = self.at(count * self.steps[0], 0)
-            yield drawing.element("path", d=drawing.path([(x, self.top), (x, low)]), stroke=drawing.INK if not count else GRID, stroke_width=0.6)
+            yield drawing.element("path", d=drawing.path([(x, self.top), (x, low)]), stroke=drawing.INK if not count else palette.GRID, stroke_width=0.6)
             if has_numbers:
                 yield drawing.text(x, low + 1.4 * size, shown(count * self.steps[0]), size, text_anchor="middle")
         for count in range(round(self.ends[1] / self.steps[1]) + 1):
             _, y = self.at(0, count * self.steps[1])
-            yield drawing.element("path", d=drawing.path([(self.left, y), (right, y)]), stroke=drawing.INK if not count else GRID, stroke_width=0.6)
+            yield drawing.element("path", d=drawing.path([(self.left, y), (right, y)]), stroke=drawing.INK if not count else palette.GRID, stroke_width=0.6)
             yield drawing.text(self.left - 0.5 * size, y + 0.35 * size, shown(count * self.steps[1]), size, text_anchor="end")
         x, y = 1.1 * size, self.top + self.high / 2
         turned = f"rotate(-90 {drawing.short(x)} {drawing.short(y)})"
         yield drawing.text(x, y, name, size, text_anchor="middle", transform=turned)
-
-
-def mark(kind: str, x: float, y: float, size: float, colour: str, is_full: bool) -> str:
-    """The mark of a pattern; of a saturated load it is hollow."""
-    look: dict[str, Any] = {"fill": colour if is_full else "#ffffff", "stroke": colour, "stroke_width": 0.16 * size * 2}
-    if kind == "disc":
-        return drawing.element("circle", cx=x, cy=y, r=size, **look)
-    corners = {
-        "square": [(-0.9, -0.9), (0.9, -0.9), (0.9, 0.9), (-0.9, 0.9)],
-        "up": [(0, -1.2), (1.1, 0.8), (-1.1, 0.8)],
-        "down": [(0, 1.2), (1.1, -0.8), (-1.1, -0.8)],
-        "diamond": [(0, -1.25), (1.25, 0), (0, 1.25), (-1.25, 0)],
-        "cross": [(-1.2, -0.5), (-0.5, -0.5), (-0.5, -1.2), (0.5, -1.2), (0.5, -0.5), (1.2, -0.5)]
-        + [(1.2, 0.5), (0.5, 0.5), (0.5, 1.2), (-0.5, 1.2), (-0.5, 0.5), (-1.2, 0.5)],
-    }[kind]
-    return drawing.element("path", d=drawing.path([(x + size * a, y + size * b) for a, b in corners]) + " Z", **look)
 
 
 def said(row: Row) -> str:
@@ -100,7 +73,7 @@ def curve(panel: Panel, rows: list[Row], key: str, dashes: str | None) -> str:
     for it, (x, y) in zip(rows, ends):
         high, low = (panel.at(0, it[key] + by * it[f"{key}_within"])[1] for by in (1, -1))
         bar = drawing.element("path", d=drawing.path([(x, high), (x, min(low, panel.top + panel.high))]), stroke=colour, stroke_width=0.14 * panel.letters)
-        parts.append(drawing.group([drawing.title(said(it)), bar, mark(MARKS[traffic], x, y, size, colour, not it["saturated"])]))
+        parts.append(drawing.group([drawing.title(said(it)), bar, palette.mark(MARKS[traffic], x, y, size, colour, not it["saturated"])]))
     return drawing.group(parts)
 
 
@@ -112,7 +85,7 @@ def legend(curves: list[list[Row]], dashes: dict[str, str | None], place: Point,
         colour, traffic = COLOURS[rows[0]["traffic"]], rows[0]["traffic"]
         line = {"stroke": colour, "stroke_width": 0.16 * letters, "stroke_dasharray": dashes[rows[0]["shape"]]}
         parts.append(drawing.element("path", d=drawing.path([(x, y - 0.35 * letters), (x + 3 * letters, y - 0.35 * letters)]), **line))
-        parts.append(mark(MARKS[traffic], x + 1.5 * letters, y - 0.35 * letters, 0.3 * letters, colour, True))
+        parts.append(palette.mark(MARKS[traffic], x + 1.5 * letters, y - 0.35 * letters, 0.3 * letters, colour, True))
         parts.append(drawing.text(x + 3.5 * letters, y, f"{rows[0]['shape']} {traffic}", letters))
     low = place[1] + -(-len(curves) // columns) * 1.6 * letters
     for text in SIGNS:
@@ -121,10 +94,9 @@ def legend(curves: list[list[Row]], dashes: dict[str, str | None], place: Point,
     return parts, low
 
 
-def plot(rows: list[Row], width: tuple[float, str], words: str) -> str:
+def plot(rows: list[Row], paper: Paper, words: str) -> str:
     """Both panels with all curves, and the legend."""
-    wide, unit = width
-    letters = 7 if unit == "pt" and wide <= 300 else 11
+    wide, letters = paper.wide, paper.letters()
     shapes = list(dict.fromkeys(it["shape"] for it in rows))
     dashes = {it: DASHES[at % len(DASHES)] for at, it in enumerate(shapes)}
     curves = [list(of) for _, of in itertools.groupby(rows, lambda it: (it["shape"], it["traffic"]))]
@@ -140,4 +112,4 @@ def plot(rows: list[Row], width: tuple[float, str], words: str) -> str:
     low = lower.top + lower.high + 3.2 * letters
     parts.append(drawing.text(left + room / 2, low, "offered, operations per tile and round", letters, text_anchor="middle"))
     more, low = legend(curves, dashes, (left, low + 2 * letters), room, letters)
-    return drawing.svg(wide, low, [*parts, *more], unit=unit)
+    return drawing.svg(wide, low, [*parts, *more], unit=paper.unit)

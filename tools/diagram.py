@@ -4,16 +4,13 @@ from __future__ import annotations
 
 import math
 from dataclasses import dataclass, field
-from typing import Dict, List, Optional, Set, Tuple
+from typing import Dict, List, Set, Tuple
 
 import drawing
-from routers import Plan, pairs_of, place
+from routers import Plan, pairs_of
 from shapes import Box, Line, Point, Taken, around, at, bent, beside, curve, from_box, length, spanned, to_box
-from strokes import END, FULL, HEAD, LANE, ROUND, THICK, THIN, VIRTUAL, answer, arrow, label_box, middle_text
+from strokes import END, FULL, HEAD, ROUND, THICK, THIN, VIRTUAL, answer, arrow, label_box, middle_text
 from strokes import router, width_of
-
-MOST_TRIES = 6
-
 
 @dataclass
 class Marks:
@@ -281,23 +278,3 @@ class Diagram:
             made.append(drawing.group([drawing.title(f"router {name}"), router(box), middle_text(box, name, False)]))
         made += [middle_text(*it) for it in self.said]
         return made
-
-
-def diagram(plan: Plan, marks: Marks) -> Diagram:
-    """The diagram of a network, as small as its numbers allow."""
-    lanes = max((len(it) for it in pairs_of(plan).values()), default=1)
-    most = max((width_of(it) for it in marks.numbers.values()), default=0)
-    lane = max(LANE, most / 2 + (1.2 if plan.is_placed() else 4)) if marks.all_numbered() else LANE
-    across = (lanes - 1) / 2 * lane + (11.5 if plan.is_placed() else 6)
-    half = max(across, max(width_of(it) for it in plan.names) / 2 + 4), across
-    pitch = 2 * max(half) + 26 + most
-    places = place(plan, marks.replies, (2 * half[0], 2 * half[1]), pitch)
-    found: Optional[Diagram] = None
-    for k in range(MOST_TRIES):
-        tried = Diagram(plan, marks, [(x * 1.18**k, y * 1.18**k) for x, y in places], half, lane)
-        if found is None or tried.missing + tried.crowded < found.missing + found.crowded:
-            found = tried
-        if not found.missing and (k > 1 or not found.crowded):
-            break
-    assert found is not None
-    return found

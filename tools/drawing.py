@@ -1,7 +1,6 @@
 """Writes pictures as SVG (Scalable Vector Graphics 1.1): elements as lines of text, on a white ground."""
 from __future__ import annotations
 
-import colorsys
 from html import escape
 from typing import Iterable, Optional, Tuple
 
@@ -50,19 +49,14 @@ def path(points: Iterable[Point]) -> str:
     return "M" + " L".join(f"{short(x)},{short(y)}" for x, y in points)
 
 
-def svg(width: float, height: float, parts: Iterable[str], named: Optional[Tuple[str, str]] = None, unit: str = "") -> str:
-    """A picture on a white ground; with a title and a description where it's named, which screen readers say."""
+def svg(width: float, height: float, parts: Iterable[str], named: Optional[Tuple[str, str]] = None, unit: str = "", scale: float = 1) -> str:
+    """A picture on a white ground; with a title and a description where it's named, which screen readers say. It is shown at
+    this scale."""
     inside, more = [element("rect", width=width, height=height, fill="#ffffff"), *parts], ""
     if named:
         heads = [element(name, escape(it), id=name) for name, it in zip(("title", "desc"), named)]
         inside, more = [*heads, *inside], ' role="img" aria-labelledby="title desc"'
     return (
-        f'<svg xmlns="http://www.w3.org/2000/svg" width="{short(width)}{unit}" height="{short(height)}{unit}" '
+        f'<svg xmlns="http://www.w3.org/2000/svg" width="{short(width * scale)}{unit}" height="{short(height * scale)}{unit}" '
         f'viewBox="0 0 {short(width)} {short(height)}" font-family="{SANS}"{more}>\n' + "\n".join(inside) + "\n</svg>\n"
     )
-
-
-def colour(number: int, lightness: float, saturation: float = 0.6) -> str:
-    """The colour of a thing by its number: neighbours in number lie far apart on the circle of colours."""
-    hue = (0.58 + number * 0.381966) % 1
-    return "#" + "".join(f"{round(255 * it):02x}" for it in colorsys.hls_to_rgb(hue, lightness, saturation))

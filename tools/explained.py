@@ -7,18 +7,20 @@ from typing import Dict, List, Tuple
 
 import command
 import drawing
+import palette
+import paper
 import report
 import story
 import tabled
 import traced
 import verdict
+from paper import Paper
 from progress import Progress
 from story import Operation, Story
 
 LEFT, RIGHT, LEAST_WIDTH, STEP, GAP = 116, 24, 900, 14, 8
 BAR, LABEL, FONT, SMALL = 20, 14, 11, 10
-# Okabe and Ito, Color universal design, 2008.
-FAULT, WRITER, OVER, OTHER = "#d55e00", "#009e73", "#0072b2", "#8c959f"
+FAULT, WRITER, OVER, OTHER = palette.VERMILLION, palette.GREEN, palette.BLUE, palette.GREY
 # How many operations are drawn beside those of the story.
 BESIDE = 8
 
@@ -75,49 +77,89 @@ def bar(x: float, end: float, top: float, said: str, colour: str, did: str, is_o
     return drawing.group(parts)
 
 
-def drawn(why: verdict.NoOrder) -> str:
+class Told:
+    """What a picture of a no says: its heads, and the operations, each with its role, its words and what it did."""
+
+    def __init__(self, why: verdict.NoOrder) -> None:
+        self.found, self.calls = story.story_of(why.calls, why.trace, why.event), why.calls
+        found, calls, names = self.found, self.calls, why.calls.names
+        teller = story.Teller(calls, why.trace)
+        self.roles = roles_of(found, names.shown(str(found.value)))
+        if why.is_failed_cas:
+            self.roles = {at: it for at, it in self.roles.items() if it[0] != OVER or it[1] == "open then"}
+            self.roles[found.failed.at] = (FAULT, f"failed, so the word was not {names.shown(str(found.failed.values[0]))}")
+        self.mine = chosen(found, self.roles)
+        self.said: Dict[int, str] = {}
+        self.did: Dict[int, str] = {}
+        self.tips: Dict[int, str] = {}
+        for it in self.mine:
+            reply = "fail" if it.at in calls.failed else names.shown(calls.replies[it.at]) or "-"
+            self.said[it.at] = f"{names.shown_operation(calls.asked[it.at])}: {reply}"
+            begin, end = calls.times(it.at)
+            self.did[it.at] = f"{self.roles[it.at][1]}, {begin} to {end or '-'}" if it.at in self.roles else ""
+            self.tips[it.at] = f"line {calls.issues[it.at]}: {teller.operation(it)}"
+        can = story.possible(calls, why.reasons)
+        key = names.shown_key(calls.asked[found.failed.at].split(" ")[1])
+        others = sum(it.issued < found.failed.answered for it in found.operations) - len(self.mine)
+        how = f"key {key} alone" + (f", {others} operations on it aren't drawn" if others > 0 else "")
+        self.heads = [command.printable(str(why)), f"it {self.roles[found.failed.at][1]}" + (f", but the word could only be {can}" if can else "")]
+        self.heads.append(f"{how}; a bar: from issue to answer; dashed: no answer by then; time is not to scale")
+
+    def ink(self, it: Operation) -> str:
+        """The ink of an operation."""
+        return self.roles[it.at][0] if it.at in self.roles else OTHER
+
+
+def drawn(told: Told) -> str:
     """The picture of a no."""
-    found, calls = story.story_of(why.calls, why.trace, why.event), why.calls
-    teller, names = story.Teller(calls, why.trace), calls.names
-    shown = names.shown(str(found.value))
-    roles = roles_of(found, shown)
-    if why.is_failed_cas:
-        roles = {at: it for at, it in roles.items() if it[0] != OVER or it[1] == "open then"}
-        roles[found.failed.at] = (FAULT, f"failed, so the word was not {names.shown(str(found.failed.values[0]))}")
-    mine, said, did, wide = chosen(found, roles), {}, {}, {}
-    for it in mine:
-        reply = "fail" if it.at in calls.failed else names.shown(calls.replies[it.at]) or "-"
-        said[it.at] = f"{names.shown_operation(calls.asked[it.at])}: {reply}"
-        begin, end = calls.times(it.at)
-        did[it.at] = f"{roles[it.at][1]}, {begin} to {end or '-'}" if it.at in roles else ""
-        wide[it.at] = max(wide_of(said[it.at], FONT), wide_of(did[it.at], SMALL))
+    mine, calls = told.mine, told.calls
+    wide = {it.at: max(wide_of(told.said[it.at], FONT), wide_of(told.did[it.at], SMALL)) for it in mine}
     left = max(LEFT, 24 + max(len(calls.who) + 1 + len(calls.processors[it.at]) for it in mine) * 7.5)
-    at, right = places(mine, wide, found.failed.answered, left)
+    at, right = places(mine, wide, told.found.failed.answered, left)
     right = max(right, LEAST_WIDTH - RIGHT)
-    key = names.shown_key(calls.asked[found.failed.at].split(" ")[1])
-    others = sum(it.issued < found.failed.answered for it in found.operations) - len(mine)
-    can = story.possible(calls, why.reasons)
-    parts = [drawing.text(12, 24, command.printable(str(why)), 14, font_weight="bold")]
-    parts.append(drawing.text(12, 44, f"it {roles[found.failed.at][1]}" + (f", but the word could only be {can}" if can else ""), fill=FAULT))
-    how = f"key {key} alone" + (f", {others} operations on it aren't drawn" if others > 0 else "")
-    parts.append(drawing.text(12, 64, f"{how}; a bar: from issue to answer; dashed: no answer by then; time is not to scale"))
+    parts = [drawing.text(12, 24, told.heads[0], 14, font_weight="bold")]
+    parts += [drawing.text(12, 44, told.heads[1], fill=FAULT), drawing.text(12, 64, told.heads[2])]
     low, bars = 84.0, []
     for number, processor in enumerate(dict.fromkeys(calls.processors[it.at] for it in mine)):
         own = [it for it in mine if calls.processors[it.at] == processor]
         rows = report.rows_of(own)  # type: ignore[arg-type]
         height = (BAR + LABEL + 2) * (1 + max(rows)) + GAP
-        parts.append(drawing.element("rect", x=0, y=low, width=right + RIGHT, height=height, fill="#f6f8fa" if number % 2 == 0 else "#ffffff"))
+        parts.append(drawing.element("rect", x=0, y=low, width=right + RIGHT, height=height, fill=palette.GROUND if number % 2 == 0 else "#ffffff"))
         parts.append(drawing.text(12, low + GAP + 14, f"{calls.who} {processor}"))
         for it, row in zip(own, rows):
-            end = at.get(it.answered, right)
-            colour, what = roles[it.at][0] if it.at in roles else OTHER, did[it.at]
-            tip = f"line {calls.issues[it.at]}: {teller.operation(it)}"
-            bars.append(bar(at[it.issued], end, low + GAP + (BAR + LABEL + 2) * row, said[it.at], colour, what, it.answered in at, tip))
+            end, top = at.get(it.answered, right), low + GAP + (BAR + LABEL + 2) * row
+            bars.append(bar(at[it.issued], end, top, told.said[it.at], told.ink(it), told.did[it.at], it.answered in at, told.tips[it.at]))
         low += height
     return drawing.svg(right + RIGHT, low + 12, [*parts, *bars])
 
 
-def picture(text: bytes, path: str, first: int | None, last: int | None, tool: str) -> str:
+def on_paper(told: Told, on: Paper, tool: str) -> str:
+    """The picture of a no on paper: a row for each operation, with its words above its bar, and what it did below."""
+    parts: List[str] = []
+    low = paper.say(parts, paper.MARGIN, 16, told.heads[0], on.inside(), font_weight="bold")
+    low = paper.say(parts, paper.MARGIN, low, told.heads[1], on.inside(), fill=palette.dark(FAULT))
+    low = paper.say(parts, paper.MARGIN, low, told.heads[2], on.inside()) - 8
+    mine = sorted(told.mine, key=lambda it: it.issued)
+    shown = [it.answered for it in mine if it.answered <= told.found.failed.answered]
+    events = {event: number for number, event in enumerate(sorted([*(it.issued for it in mine), *shown]))}
+    step = on.inside() / (len(events) + 1)
+    for number, it in enumerate(mine):
+        ink, begin = told.ink(it), paper.MARGIN + step * events[it.issued]
+        end = paper.MARGIN + step * events.get(it.answered, len(events) + 1)
+        row = [drawing.title(told.tips[it.at])]
+        said = f"{told.calls.who} {told.calls.processors[it.at]}: {told.said[it.at]}"
+        bold = "bold" if it.at in told.roles else None
+        top = paper.say(row, paper.MARGIN, low + 17, said, on.inside(), font_weight=bold) - 8
+        row.append(drawing.element("rect", x=begin, y=top, width=end - begin, height=8, fill=palette.tint(ink, 0.5), stroke=ink,
+                                   stroke_width=3 if ink == FAULT else 1.5, stroke_dasharray=None if it.answered in events else "4 3"))
+        end = paper.say(row, paper.MARGIN, top + 22, told.did[it.at], on.inside(), fill=palette.dark(ink)) if told.did[it.at] else top + 22
+        shade = palette.GROUND if number % 2 == 0 else "#ffffff"
+        parts += [drawing.element("rect", x=0, y=low, width=on.room(), height=end - 8 - low, fill=shade), drawing.group(row)]
+        low = end - 8
+    return on.svg(tool, on.room(), low + 8, parts)
+
+
+def picture(text: bytes, path: str, first: int | None, last: int | None, tool: str, on: Paper | None) -> str:
     """The picture of a table or of a log: of the key at fault, or of its whole trace."""
     told = Progress(tool)
     calls = tabled.read(text, path, False, told)
@@ -127,7 +169,7 @@ def picture(text: bytes, path: str, first: int | None, last: int | None, tool: s
         verdict.judged(judge, True)
     except verdict.NoOrder as why:
         if first is None and last is None and not why.is_undecided:
-            return drawn(why)
+            return on_paper(Told(why), on, tool) if on else drawn(Told(why))
     finally:
         told.clear()
         if left_out := calls.left_out(is_placed=True):
@@ -137,4 +179,4 @@ def picture(text: bytes, path: str, first: int | None, last: int | None, tool: s
     read.times = {number: calls.times(it if it >= 0 else ~it)[it < 0] for number, it in enumerate(trace.events, 1)}
     for it, at in zip(read.operations, (at for at in trace.events if at >= 0)):
         it.lane = command.printable(f"{calls.who} {calls.processors[at]}")
-    return traced.drawn(read, traced.window_of(read, first, last))
+    return traced.drawn(read, traced.window_of(read, first, last), on, tool)

@@ -2,6 +2,7 @@
 with a legend, in points, for the column of a paper."""
 from __future__ import annotations
 
+import math
 import textwrap
 from dataclasses import dataclass, field
 from typing import Dict, List, Optional, Tuple
@@ -10,8 +11,10 @@ import drawing
 from adaptive import Found, escapes_of, judged_choices
 from chosen import found_in
 from command import Refusal
-from diagram import Diagram, Marks, diagram
+from diagram import Diagram, Marks
+from fitted import diagram
 from jam import Fill, Held, held_by, jam_of, titled
+from paper import Paper
 from routers import Plan, plan_of
 from shapes import Box
 from strokes import FULL, INK, LETTERS, THICK, THIN, VIRTUAL, answer, arrow, router, width_of
@@ -232,18 +235,18 @@ def legend(net: Network, plan: Plan, verdict: Verdict, made: Diagram, width: flo
     return found
 
 
-def picture(net: Network, verdict: Verdict) -> str:
-    """The diagram with its legend: beside it where both fit into a column or a page, else below."""
+def picture(net: Network, verdict: Verdict, on: Optional[Paper] = None, tool: str = "") -> str:
+    """The diagram with its legend: beside it where both fit into a column or a page, or on the paper; else below."""
     plan = plan_of(net)
     if not plan.names:
         raise Refusal("there is nothing to draw: no packets go from one channel to another")
-    made = diagram(plan, marks_of(net, plan, verdict))
+    made = diagram(plan, marks_of(net, plan, verdict), on.room(LETTERS) - 2 * MARGIN if on else math.inf)
     least_x, least_y, most_x, most_y = made.extent()
     wide, high = most_x - least_x, most_y - least_y
     narrow = legend(net, plan, verdict, made, 120)
-    room = COLUMN if wide + narrow.width <= COLUMN - 3 * MARGIN else PAGE
-    beside = wide + narrow.width + 4 * MARGIN <= room and (room == COLUMN or wide > COLUMN)
-    found = narrow if beside else legend(net, plan, verdict, made, max(COLUMN - 2 * MARGIN, min(wide, PAGE)))
+    room = on.room(LETTERS) if on else COLUMN if wide + narrow.width <= COLUMN - 3 * MARGIN else PAGE
+    beside = wide + narrow.width + 4 * MARGIN <= room and (on is not None or room == COLUMN or wide > COLUMN)
+    found = narrow if beside else legend(net, plan, verdict, made, max(room - 2 * MARGIN, wide) if on else max(COLUMN - 2 * MARGIN, min(wide, PAGE)))
     x, y = (wide + 3 * MARGIN, 0.0) if beside else (0.0, high + 2 * MARGIN)
     titles = {it: f"channel {it}: {name_of(net, plan, it)}" for it in range(len(net.kinds))}
     for it in verdict.held:
@@ -251,4 +254,4 @@ def picture(net: Network, verdict: Verdict) -> str:
     parts = [drawing.group(made.parts(titles), transform=f"translate({drawing.short(MARGIN - least_x)},{drawing.short(MARGIN - least_y)})"),
              drawing.group(found.made, transform=f"translate({drawing.short(MARGIN + x)},{drawing.short(MARGIN + y)})")]
     size = max(wide, x + found.width) + 2 * MARGIN, max(high, y + found.y) + 2 * MARGIN
-    return drawing.svg(*size, parts, unit="pt")
+    return on.svg(tool, *size, parts, letters=LETTERS) if on else drawing.svg(*size, parts, unit="pt")

@@ -5,14 +5,17 @@ import math
 from typing import List
 
 import drawing
+import palette
 from shapes import Box, Line, at, between, length, without
 
 # In points: the size of letters, the least way between channels side by side, the head of an arrow, a sender's arrow,
 # and the rest of a link that goes round the other side of the picture.
 LETTERS, LANE, HEAD, END, ROUND = 7.0, 8.0, 4.5, 13.0, 34.0
-# Okabe and Ito, Color universal design, 2008: the first four virtual channels, and what is full.
-VIRTUAL = ("#4d4d4d", "#0072b2", "#cc79a7", "#56b4e9")
-FULL, INK = "#d55e00", "#000000"
+# The first four virtual channels, and what is full.
+VIRTUAL = ("#4d4d4d", palette.BLUE, palette.PURPLE, palette.SKY)
+FULL, INK = palette.VERMILLION, palette.BLACK
+# Dashes of some inks, which tell them in grey too.
+DASHES = {palette.BLUE: "5 1.3", palette.PURPLE: "2.4 1.3", palette.SKY: "6 1.3 1.3 1.3"}
 THIN, THICK = 0.8, 2.2
 
 
@@ -53,7 +56,7 @@ def arrow(line: Line, ink: str, thick: float, gaps: List[Box], is_dotted: bool =
     pieces = [shaft]
     for box in gaps:
         pieces = [it for piece in pieces for it in without(piece, box)]
-    dots = "0.9 1.3" if is_dotted else None
+    dots = "0.9 1.3" if is_dotted else DASHES.get(ink)
     made = [drawing.element("path", d=drawing.path(it), stroke=ink, stroke_width=thick, stroke_dasharray=dots, fill="none") for it in pieces]
     (bx, by), half = shaft[-1], head * 0.45
     made.append(drawing.element("path", d=drawing.path([tip, (bx - uy * half, by + ux * half), (bx + uy * half, by - ux * half)]) + " z", fill=ink))

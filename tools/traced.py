@@ -9,13 +9,19 @@ from typing import Dict, List, Optional, Tuple
 
 import command
 import drawing
+import palette
+import paper
 import report
 from numbered import Names
+from paper import Paper
+from strokes import width_of
 
 MOST = 400
 LEFT, RIGHT, LEAST_WIDTH, STEP = 116, 24, 900, 14
 ROW, BAR, GAP, FONT = 28, 20, 8, 11
-RED = "#cf222e"
+RED = palette.VERMILLION
+# The least room of an event on paper.
+LEAST_EVENT = 13
 # How many events are drawn before the one from which on there is no order, and behind it.
 BEFORE, BEHIND = 60, 20
 # The border of the operation at fault.
@@ -131,20 +137,23 @@ class Window:
     first: int
     last: int
     operations: List[Operation]
+    on: Optional[Paper] = None
 
     def __post_init__(self) -> None:
         # (the room of the lanes' names)
         self.left: float = max(LEFT, 24 + 7.5 * max((len(it.lane) for it in self.operations), default=0))
+        if self.on:
+            self.left = 2 * paper.MARGIN + max((width_of(it.lane, FONT) for it in self.operations), default=0)
 
     def at(self, event: int) -> float:
         """The place of an event; that of the border where it lies outside."""
         span = self.last - self.first + 2
-        step = max(STEP, (LEAST_WIDTH - self.left - RIGHT) / span)
+        step = (self.on.room() - paper.MARGIN - self.left) / span if self.on else max(STEP, (LEAST_WIDTH - self.left - RIGHT) / span)
         return self.left + step * (min(max(event, self.first - 1), self.last + 1) - self.first + 1)
 
     def width(self) -> float:
         """The width of the picture."""
-        return max(LEAST_WIDTH, self.at(self.last + 1) + RIGHT)
+        return self.on.room() if self.on else max(LEAST_WIDTH, self.at(self.last + 1) + RIGHT)
 
 
 def window_of(trace: Trace, first: Optional[int], last: Optional[int]) -> Window:
@@ -160,14 +169,27 @@ def window_of(trace: Trace, first: Optional[int], last: Optional[int]) -> Window
     return Window(begin, end, out[:MOST])
 
 
+def pieces(window: Window, on: Paper) -> List[Window]:
+    """The pieces of a window, so that each event has its room on the paper."""
+    most = max(1, int((on.room() - paper.MARGIN - Window(1, 1, window.operations, on).left) / LEAST_EVENT) - 2)
+    total = window.last - window.first + 1
+    each = -(-total // -(-total // most))
+    found = []
+    for first in range(window.first, window.last + 1, each):
+        inside = [it for it in window.operations if it.issued < first + each and (it.answered is None or it.answered >= first)]
+        found.append(Window(first, first + each - 1, inside, on))
+        found[-1].left = Window(1, 1, window.operations, on).left
+    return found
+
+
 def drawn_bar(it: Operation, window: Window, top: float, width: int) -> str:
     """An operation: a bar from its issue to its answer, dashed and open where it is never answered. Its border is red
     where that is wide."""
     start, end = window.at(it.issued), window.at(it.answered or window.last + 1)
-    stroke = RED if width > 1 else drawing.colour(it.address % 97, 0.36)
+    stroke = RED if width > 1 else palette.dark(palette.ink(it.address))
     dashed = None if it.answered else "4 3"
     parts = [drawing.title(it.told())]
-    fill = drawing.colour(it.address % 97, 0.88)
+    fill = palette.tint(palette.ink(it.address), 0.8)
     parts.append(
         drawing.element(
             "rect", x=start, y=top, width=end - start, height=BAR, fill=fill, stroke=stroke, stroke_width=width,
@@ -191,35 +213,62 @@ def bad_rows(trace: Trace, own: List[Operation], rows: List[int]) -> List[int]:
     return [row for it, row in zip(own, rows) if trace.bad is not None and trace.bad in (it.issued, it.answered)]
 
 
-def drawn(trace: Trace, window: Window) -> str:
-    """The whole picture."""
-    events = f"events {window.first} to {window.last} of {len(trace.lines)}"
-    parts = [drawing.text(12, 24, f"a trace, {trace.verdict}: {events}", 14, font_weight="bold")]
-    how = "a bar: from issue to answer, with the operation and its reply; dashed: no answer; colours are words"
-    parts.append(drawing.text(12, 44, how))
-    if trace.why:
-        parts.append(drawing.text(12, 64, trace.why, fill=RED))
-    bars: List[str] = []
-    top = 96.0 if trace.why else 76.0
-    low = top
-    for processor in sorted({it.processor for it in window.operations}):
+def drawn_lanes(trace: Trace, window: Window, top: float) -> Tuple[List[str], float]:
+    """The lanes of a window, and where they end."""
+    grounds, bars, low = [], [], top  # type: List[str], List[str], float
+    for number, processor in enumerate(sorted({it.processor for it in window.operations})):
         own = [it for it in window.operations if it.processor == processor]
         rows = report.rows_of(own)  # type: ignore[arg-type]
         has_bad = any(trace.bad is not None and trace.bad in (it.issued, it.answered) for it in own)
         # (room for the text of the operation at fault, which stands below its bar)
         rows = [row + (has_bad and any(row > bad for bad in bad_rows(trace, own, rows))) for row in rows]
         height = ROW * (1 + has_bad + max(rows)) + GAP
-        parts.append(drawing.element("rect", x=0, y=low, width=window.width(), height=height, fill="#f6f8fa"))
-        parts.append(drawing.text(12, low + height / 2 + 4, own[0].lane))
+        grounds.append(drawing.element("rect", x=0, y=low, width=window.width(), height=height, fill=palette.GROUND))
+        grounds.append(drawing.text(paper.MARGIN, low + height / 2 + 4, own[0].lane, FONT) if window.on else
+                       drawing.text(12, low + height / 2 + 4, own[0].lane))
         for it, row in zip(own, rows):
             is_bad = trace.bad is not None and trace.bad in (it.issued, it.answered)
             bars.append(drawn_bar(it, window, low + GAP + ROW * row, FAULT_WIDTH if is_bad else 2 if it.issued in trace.pending else 1))
         low += height + 2
-    for event in range(window.first, window.last + 1):
+    lines, numbers = axis(trace, window, top, low)
+    return [*grounds, *lines, *bars, *numbers], low
+
+
+def axis(trace: Trace, window: Window, top: float, low: float) -> Tuple[List[str], List[str]]:
+    """The lines of the events, and their numbers or times. No number stands so near to another that they touch."""
+    lines, numbers, right = [], [], 0.0  # type: List[str], List[str], float
+    is_shown = trace.bad is not None and window.first <= trace.bad <= window.last
+    bad = window.at(trace.bad) if trace.bad is not None and is_shown else None
+    for event in range(window.first, min(window.last, len(trace.lines)) + 1):
         if (event - window.first) % 5 == 0 or event == trace.bad:
-            x, colour = window.at(event), RED if event == trace.bad else "#d0d7de"
-            bars.insert(0, drawing.element("path", d=drawing.path([(x, top - 4), (x, low)]), stroke=colour))
-            if event == trace.bad or trace.bad is None or abs(event - trace.bad) > 2:
-                if not trace.times or (event - window.first) % 10 == 0 or event == trace.bad:
-                    bars.append(drawing.text(x, top - 8, trace.times.get(event, str(event)), FONT, text_anchor="middle"))
-    return drawing.svg(window.width(), low + 12, [*parts, *bars])
+            x, colour = window.at(event), RED if event == trace.bad else palette.GRID
+            said = trace.times.get(event, str(event))
+            half = width_of(said, FONT) / 2 + 2
+            lines.insert(0, drawing.element("path", d=drawing.path([(x, top - 4), (x, low)]), stroke=colour))
+            is_free = x - half >= right and (bad is None or abs(x - bad) >= 2 * half)
+            if event == trace.bad or is_free and x + half <= window.width():
+                numbers.append(drawing.text(x, top - 8, said, FONT, text_anchor="middle"))
+                right = x + half
+    return lines, numbers
+
+
+def drawn(trace: Trace, window: Window, on: Optional[Paper] = None, tool: str = "") -> str:
+    """The whole picture; on paper time is broken into pieces."""
+    events = f"events {window.first} to {window.last} of {len(trace.lines)}"
+    head = f"a trace, {trace.verdict}: {events}"
+    how = "a bar: from issue to answer, with the operation and its reply; dashed: no answer; colours are words"
+    parts = [drawing.text(12, 24, head, 14, font_weight="bold"), drawing.text(12, 44, how)]
+    if not on:
+        if trace.why:
+            parts.append(drawing.text(12, 64, trace.why, fill=RED))
+        lanes, low = drawn_lanes(trace, window, 96.0 if trace.why else 76.0)
+        return drawing.svg(window.width(), low + 12, [*parts, *lanes])
+    parts = []
+    low = paper.say(parts, paper.MARGIN, 16, head, on.inside(), font_weight="bold")
+    for said in filter(None, (how, trace.why)):
+        low = paper.say(parts, paper.MARGIN, low, said, on.inside(), fill=RED if said == trace.why else drawing.INK)
+    low -= 16
+    for piece in pieces(window, on):
+        lanes, low = drawn_lanes(trace, piece, low + 26)
+        parts += lanes
+    return on.svg(tool, on.room(), low + 8, parts)

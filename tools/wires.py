@@ -14,20 +14,29 @@ WIDE, HIGH = 44, 30
 MOST_ACROSS, ROW_WIDTH, LEAST_DOWN = 132, 728, 92
 SLOT_ACROSS, SLOT_DOWN = 74, 60
 MARGIN, TOP, LEAST_WIDTH = 76, 128, 720
+# The same in a picture of a given width: the least way to a neighbour, how far the links round the torus go out,
+# and a tile where neighbours are near.
+LEAST_ACROSS, NARROW_MARGIN, NARROW_TILE = 70, 50, 28
 
 
 class Layout:
     """Where the tiles and the links lie: dimension 0 to the right, 1 down, 2 up to the right."""
 
-    def __init__(self, shape: Shape, scale: float = 1, top: float = TOP) -> None:
-        self.shape = shape
+    def __init__(self, shape: Shape, scale: float = 1, top: float = TOP, room: float | None = None,
+                 least: tuple[float, float] = (LEAST_ACROSS, NARROW_MARGIN)) -> None:
+        self.shape, self.tile = shape, WIDE
         radices = [*shape.radices, 1, 1][:3]
         self.across = scale * max(min(MOST_ACROSS, ROW_WIDTH / (radices[0] - 1)), SLOT_ACROSS * radices[2])
         self.down = scale * max(LEAST_DOWN, SLOT_DOWN * radices[2])
         self.rise = scale * SLOT_DOWN * (radices[2] - 1)
         self.scale = scale
-        net = self.across * (radices[0] - 1) + scale * SLOT_ACROSS * (radices[2] - 1)
-        self.width = max(LEAST_WIDTH, net + 2 * scale * MARGIN)
+        slots, margin = scale * SLOT_ACROSS * (radices[2] - 1), scale * (MARGIN if room is None else least[1])
+        if room is not None:
+            fits, apart = (room - slots - 2 * margin) / (radices[0] - 1), max(least[0], SLOT_ACROSS * radices[2] * (radices[2] > 1))
+            self.across = max(min(scale * MOST_ACROSS, fits), scale * apart)
+            self.tile = WIDE if self.across >= 2 * WIDE else NARROW_TILE
+        net = self.across * (radices[0] - 1) + slots
+        self.width = max(room or LEAST_WIDTH, net + 2 * margin)
         self.left = (self.width - net) / 2
         self.top = top
         self.low = self.top + self.rise + self.down * (radices[1] - 1) + 60 * scale
