@@ -11,7 +11,7 @@ ghost use Rattle.trace_judge.specs.Verdicts.{IsGoodUntil, Tells};
 ghost use Rattle.trace_judge.specs.Marks.{AreNodes, IsBelow, AreMarked, ArePicked};
 ghost use Rattle.trace_judge.specs.Sets.{lists_of};
 
-use crate::likely::{are_all_answered, is_silent, likely};
+use crate::likely::{are_all_answered, is_silent, likely, try_guess};
 use crate::nodes::no_marks;
 use crate::search::{Search, start};
 use crate::stuck::{answer_from, between};
@@ -184,8 +184,8 @@ fn try_likely<A: Allocator + Copy>(
     }
 }
 
-/// An order that explains the trace: none of its operations, if nothing is answered; or one of a likely trace,
-/// if operations are never answered and that has one.
+/// An order that explains the trace: none of its operations, if nothing is answered; or one that is guessed; or one
+/// of a likely trace, if operations are never answered and that has one.
 fn likely_order<A: Allocator + Copy>(
     alloc: A,
     opening: &[u64],
@@ -196,11 +196,14 @@ fn likely_order<A: Allocator + Copy>(
     ensures { IfOk result (λ found. MatchOption found (Unit {0})
         (λ order. IsOrder opening.now events.now order.items)) }
 {
-    if are_all_answered(events) {
-        return Ok(None);
-    }
     if is_silent(events) {
         return Ok(Some(Vec::new(alloc)));
+    }
+    if let Some(order) = try_guess(alloc, opening, events, bound)? {
+        return Ok(Some(order));
+    }
+    if are_all_answered(events) {
+        return Ok(None);
     }
     if let Some(order) = try_likely(alloc, opening, events, false, bound)? {
         return Ok(Some(order));

@@ -1,9 +1,10 @@
 //! A trace that likely has an order: what explains it explains the trace that it is made from.
 
-ghost use Rattle.std.specs.Prelude.{◌≡◌, ◌⊎◌, ◌<◌, ◌∷◌, ◌++◌, ℕ, List, [], true, Some, IfOk, OnOk, length, slice_get};
+ghost use Rattle.std.specs.Prelude.{◌≡◌, ◌⊎◌, ◌<◌, ◌∷◌, ◌++◌, ℕ, List, [], true, Some, IfOk, OnOk, MatchOption, length, slice_get};
 ghost use Rattle.packet.specs.declared.kinds.Reply.{Reply};
 ghost use Rattle.trace_laws.specs.declared.event.Event.TheVariants.{Answer};
 ghost use Rattle.trace_laws.specs.declared.event.Event.{Event};
+ghost use Rattle.trace_laws.specs.Orders.{IsOrder};
 ghost use Rattle.trace_laws.specs.Traces.{IsTrace, TraceAnswersAt};
 ghost use Rattle.trace_laws.specs.Unanswered.{IssuesUnanswered};
 ghost use Rattle.trace_judge.specs.Guesses.{IsLikely, IsKeptOrLeft, HasAnswer};
@@ -12,7 +13,9 @@ use crate::reading::promise_of;
 use crate::sights::{Guess, guess_of};
 use packet::Reply;
 use std::alloc::{AllocError, Allocator};
-use trace_laws::Event;
+use trace_guess::beam::STATES;
+use trace_guess::guess::guessed_order;
+use trace_laws::{Call, Event};
 
 /// Whether there are as many answers as issues.
 pub fn are_all_answered(events: &[Event]) -> bool {
@@ -133,4 +136,22 @@ pub fn likely<A: Allocator + Copy>(
     let mut other = guessed(alloc, opening, events, &guess)?;
     answer_rest(&mut other, &guess.behind, events.len())?;
     Ok(other)
+}
+
+/// An order that explains the trace, if one is guessed. Where fewer configurations are allowed than a guess follows,
+/// none is.
+pub fn try_guess<A: Allocator + Copy>(
+    alloc: A,
+    opening: &[u64],
+    events: &[Event],
+    bound: usize,
+) -> Result<Option<Vec<Call, A>>, AllocError>
+    requires { IsTrace (length opening.now) events.now }
+    ensures { IfOk result (λ found. MatchOption found (Unit {0})
+        (λ order. IsOrder opening.now events.now order.items)) }
+{
+    if bound < STATES {
+        return Ok(None);
+    }
+    guessed_order(alloc, opening, events)
 }
