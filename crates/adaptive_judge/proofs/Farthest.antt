@@ -6,7 +6,7 @@ use Rattle.std.proofs.lemmas.List.{get_or-set_same, get_or-set_other, length-set
 use Rattle.rising.specs.Graph.{Digraph, RisesAlong}
 use Rattle.rising.specs.Search.{LeadsWithin}
 use Rattle.rising.specs.Found.{IsPermutationBelow}
-use Rattle.adaptive_judge.specs.Longest.{IsOrderOf, IsFarthest, AreFarthest}
+use Rattle.adaptive_judge.specs.Longest.{IsOrderByNumber, IsFarthest, AreFarthest}
 
 index_same : (xs : List ℕ) (i a : ℕ) → i < length xs → slice_index (set xs i a) i ≡ a
 index_same xs i a low = get_or-set_same xs i a 0 low
@@ -40,7 +40,7 @@ order_more numbers order x m e low p o =
       ];
     }
 
-pub order_end : (numbers order : List ℕ) (x : ℕ) → x ≡ length numbers → IsOrderSo numbers order x → IsOrderOf numbers order
+pub order_end : (numbers order : List ℕ) (x : ℕ) → x ≡ length numbers → IsOrderSo numbers order x → IsOrderByNumber numbers order
 order_end numbers order x e o = record { size = o.size; each = λ z l. o.each z (omega arith); back = o.back }
 
 -- what is behind a node in the columns so far
@@ -179,7 +179,7 @@ module _ (g : Digraph) (numbers : List ℕ) (p : IsPermutationBelow g.nodes numb
   so_end far left e s = record { size = s.size; each = λ x low. s.each x low (omega arith) }
 
   -- the node with the next number, if there is one
-  module _ (order : List ℕ) (o : IsOrderOf numbers order) (far : List ℕ) (left m x : ℕ) (e : left ≡ suc m) (at : x ≡ slice_index order m)
+  module _ (order : List ℕ) (o : IsOrderByNumber numbers order) (far : List ℕ) (left m x : ℕ) (e : left ≡ suc m) (at : x ≡ slice_index order m)
       (s : AreFarSo g number far left) where
     here : x < g.nodes → number x ≡ m
     here low =

@@ -287,8 +287,7 @@ module _ (t : ChoiceTable) (none : List Bool) (down : AreDown none) (shaped : Is
 -- where packets go round no distances fall
 pub no_distances : (n : AdaptiveNet) (j x : ℕ) → CanGoRound n j x → (far : ℕ → ℕ → ℕ) → AreNearer n far → ⊥
 no_distances n j x r far near =
-    let f = on r.last r.way in
-    let down = near j r.last x f.0 r.back in
+    let f = on r.last r.way in let down = near j r.last x f.0 r.back in
     let no_more = f.1 in
     omega arith
   where

@@ -7,7 +7,7 @@ use Rattle.network_judge.specs.declared.table.Join.{Join}
 use Rattle.network_judge.specs.Marks.{is_marked_at}
 use Rattle.adaptive_judge.specs.Spread.{Path, Stop, Go, names, opens, leads_on, choice_step}
 use Rattle.adaptive_judge.specs.Flags.{AreBehind, AreComes}
-use Rattle.adaptive_judge.specs.Between.{waits_at, IsWhether, IsAmong, LeadsToWait, StepsToward, HasStepToward, IsWayBetween, MayWaitTo}
+use Rattle.adaptive_judge.specs.Between.{waits_at, IsWhether, IsChoiceBehind, LeadsToWait, StepsToward, HasStepToward, IsWayBetween, MayWaitTo}
 use Rattle.adaptive_judge.proofs.Flags.{any_at, any_from, not_true, true_not, set_other, step_leads}
 use Rattle.adaptive_judge.proofs.Puts.{path_up}
 
@@ -67,7 +67,7 @@ module _ (kinds : List Kind) (choices : List ℕ) (base ways : ℕ) where
 
   -- none so far
   abbrev pub NoneAmong : List Bool → ℕ → ℕ → Type 0
-  NoneAmong flags m y = (a : IsAmong kinds choices base ways flags y) → a.head < m → ⊥
+  NoneAmong flags m y = (a : IsChoiceBehind kinds choices base ways flags y) → a.head < m → ⊥
 
   pub none_among_more : (flags : List Bool) (x m y : ℕ) → m ≡ suc x → (is_marked_at flags x ≡ true → waits_at kinds choices base ways x y ≡ true → ⊥)
       → NoneAmong flags x y → NoneAmong flags m y
@@ -79,7 +79,7 @@ module _ (kinds : List Kind) (choices : List ℕ) (base ways : ℕ) where
 
   -- the flags behind a channel tell whether it leads to one
   pub whether_leads : (shut flags : List Bool) (x y : ℕ) (b : Bool) → AreBehind kinds (step shut) x flags
-      → IsWhether (IsAmong kinds choices base ways flags y) b → IsWhether (LeadsToWait kinds choices base ways shut x y) b
+      → IsWhether (IsChoiceBehind kinds choices base ways flags y) b → IsWhether (LeadsToWait kinds choices base ways shut x y) b
   whether_leads shut flags x y true are a = record { head = a.head; path = are.only a.head a.up; waits = a.waits }
   whether_leads shut flags x y false are no_one = λ l.
       no_one (record { head = l.head; up = path_up (step shut) flags x l.head are.closed are.begin l.path; waits = l.waits })

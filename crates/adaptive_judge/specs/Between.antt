@@ -58,7 +58,7 @@ waits_at kinds choices base ways x y =
     leads_on kinds x && names choices (base + x * ways) ways y
 
 -- channel y is a choice behind a channel whose flag is up, and that packets go on from
-pub record IsAmong (kinds : List Kind) (choices : List ℕ) (base ways : ℕ) (flags : List Bool)
+pub record IsChoiceBehind (kinds : List Kind) (choices : List ℕ) (base ways : ℕ) (flags : List Bool)
     (y : ℕ) : Type 0 where
   pub head : ℕ
   pub up : is_marked_at flags head ≡ true

@@ -19,7 +19,7 @@ pub record IsLongestWay (n : AdaptiveNet) (most : ℕ) : Type 0 where
   pub some : 0 < most → (j : ℕ) × ComesOver n j j most
 
 -- the node with each number
-pub record IsOrderOf (numbers order : List ℕ) : Type 0 where
+pub record IsOrderByNumber (numbers order : List ℕ) : Type 0 where
   pub size : length order ≡ length numbers
   pub each : (x : ℕ) → x < length numbers → slice_index order (slice_index numbers x) ≡ x
   pub back : (m : ℕ) → m < length numbers → slice_index order m < length numbers

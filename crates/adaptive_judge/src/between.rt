@@ -1,7 +1,7 @@
 //! The ways between the channels of a cycle: how a packet that holds the one comes to wait for the next.
 
 ghost use Rattle.std.specs.Prelude.{◌≡◌, ◌+◌, ◌*◌, ◌<◌, ◌≤◌, true, length, slice_set, IfOk};
-ghost use Rattle.adaptive_judge.specs.Between.{waits_at, IsWhether, IsAmong, LeadsToWait};
+ghost use Rattle.adaptive_judge.specs.Between.{waits_at, IsWhether, IsChoiceBehind, LeadsToWait};
 ghost use Rattle.adaptive_judge.specs.Between.{HasStepToward, StepsToward, IsWayBetween};
 
 use crate::comes::behind;
@@ -38,7 +38,7 @@ fn is_among(
 ) -> bool
     requires room { base + length kinds.now * ways ≤ length choices.now }
     requires size { length flags.now ≡ length kinds.now }
-    ensures { IsWhether (IsAmong kinds.now choices.now base ways flags.now y) result }
+    ensures { IsWhether (IsChoiceBehind kinds.now choices.now base ways flags.now y) result }
 {
     for x in 0..kinds.len() {
         if !flags[x] {

@@ -5,7 +5,7 @@ ghost use Rattle.rising.specs.Graph.{RisesAlong};
 ghost use Rattle.rising.specs.Found.{IsPermutationBelow};
 ghost use Rattle.network_judge.specs.Table.{table_of, joins_of};
 ghost use Rattle.adaptive_judge.specs.Travel.{chosen_at, choice_graph, is_taken};
-ghost use Rattle.adaptive_judge.specs.Longest.{IsOrderOf, IsFarthest, AreFarthest, IsMostOf};
+ghost use Rattle.adaptive_judge.specs.Longest.{IsOrderByNumber, IsFarthest, AreFarthest, IsMostOf};
 
 use crate::choices::Choices;
 use network_judge::Join;
@@ -16,7 +16,7 @@ use std::alloc::{AllocError, Allocator};
 /// Errors: memory.
 fn order_of<A: Allocator + Copy>(alloc: A, numbers: &[usize]) -> Result<Vec<usize, A>, AllocError>
     requires { IsPermutationBelow (length numbers.now) numbers.now }
-    ensures { IfOk result (λ order. IsOrderOf numbers.now order.items) }
+    ensures { IfOk result (λ order. IsOrderByNumber numbers.now order.items) }
 {
     let mut order = vec![in alloc; numbers.len(); numbers.len()]?;
     for x in 0..numbers.len() {

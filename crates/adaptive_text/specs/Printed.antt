@@ -55,13 +55,13 @@ travel_line (Bounded most) = (codes "bounded " ++ decimal most) ++ codes "\n"
 travel_line (Round r) = pair_line (codes "round ") r.to (codes " ") r.at (codes "\n")
 
 -- a channel behind a space
-abbrev pub spaced : List ℕ → ℕ → List ℕ
-spaced over k = codes " " ++ decimal (slice_index over k)
+abbrev pub spaced_number : List ℕ → ℕ → List ℕ
+spaced_number over k = codes " " ++ decimal (slice_index over k)
 
 -- over which channels, if any
 abbrev pub over_words : List ℕ → List ℕ
 over_words over = if length over == 0 then []
-    else codes " over" ++ first_lines (spaced over) (length over)
+    else codes " over" ++ first_lines (spaced_number over) (length over)
 
 -- how channel x leads on: by packets to ejection channel j that go on over these channels, or to the
 -- channel on which it is answered

@@ -3,7 +3,7 @@
 ghost use Rattle.std.specs.Prelude.{◌≡◌, [], ◌++◌, codes, decimal, length, IfOk, OnOk};
 ghost use Rattle.network_text.specs.Answer.{first_lines, pair_line};
 ghost use Rattle.adaptive_text.specs.Printed.{misfit_words, no_choice_line, no_escape_line};
-ghost use Rattle.adaptive_text.specs.Printed.{travel_line, spaced, over_words, how_line};
+ghost use Rattle.adaptive_text.specs.Printed.{travel_line, spaced_number, over_words, how_line};
 ghost use Rattle.adaptive_text.specs.Printed.{dependency_line, circuit_text};
 ghost use Rattle.adaptive_text.specs.Printed.{choosing_verdict_text, judgement_text};
 
@@ -63,7 +63,7 @@ fn put_travel<A: Allocator>(out: &mut Vec<u8, A>, travel: &Travel) -> Result<(),
 /// Adds channels, each behind a space.
 fn put_spaced<A: Allocator>(out: &mut Vec<u8, A>, over: &[usize]) -> Result<(), AllocError>
     ensures { OnOk result
-        (out.new.items ≡ out.old.items ++ first_lines (spaced over.now) (length over.now)) }
+        (out.new.items ≡ out.old.items ++ first_lines (spaced_number over.now) (length over.now)) }
 {
     for k in 0..over.len() {
         put_number(out, " ", over[k])?;

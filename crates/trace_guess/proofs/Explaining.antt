@@ -15,7 +15,7 @@ use Rattle.trace_laws.specs.Orders.{IsOrder, memory_of, operations_of}
 use Rattle.trace_laws.proofs.Issues.{one_issue}
 use Rattle.trace_laws.proofs.Lists.{get_push_cases, get_within, take_push}
 use Rattle.trace_laws.proofs.Memory.{memory_push}
-use Rattle.trace_guess.specs.Explained.{AreIssued, StandsBelow, AreBelow, AreHeights, AreAllBelow, IsBehind}
+use Rattle.trace_guess.specs.Explained.{AreIssued, StandsBelow, AreBelow, AreHeights, AreAllBelow, IsBehindAnswered}
 
 pub issued_more : (events : List Event) (issues : List ℕ) (old new : List Call) (i : ℕ) (call : Call)
     → slice_get issues (length old) ≡ Some i → TraceIssuesAt events i call → new ≡ old ++ call ∷ []
@@ -99,7 +99,7 @@ reply_at (p ∷ order) m (suc x) c reply h g = reply_at order (memory_after_one 
 -- an operation has one place
 one_place : (words : ℕ) (events : List Event) (issues heights places : List ℕ) (order : List Call)
     → IsTrace words events → AreIssued events issues order
-    → ((x i : ℕ) → slice_get issues x ≡ Some i → IsBehind heights places x i)
+    → ((x i : ℕ) → slice_get issues x ≡ Some i → IsBehindAnswered heights places x i)
     → (x y : ℕ) (c d : Call) → slice_get order x ≡ Some c → slice_get order y ≡ Some d → c.id ≡ d.id → x ≡ y
 one_place words events issues heights places order t issued behind x y c d h g e =
     let a = issued x c h in
@@ -113,7 +113,7 @@ pub order_explains : (opening : List ℕ) (events : List Event) (issues heights 
     (told : List Reply) → IsTrace (length opening) events → AreIssued events issues order
     → told ≡ replies (operations_of order) opening → AreHeights events order told heights
     → AreAllBelow events order told
-    → ((x i : ℕ) → slice_get issues x ≡ Some i → IsBehind heights places x i) → IsOrder opening events order
+    → ((x i : ℕ) → slice_get issues x ≡ Some i → IsBehindAnswered heights places x i) → IsOrder opening events order
 order_explains opening events issues heights places order told t issued is below all behind =
     let one = one_place (length opening) events issues heights places order t issued behind in
     record {

@@ -11,7 +11,7 @@ AreIssued events issues order = (x : ℕ) (c : Call) → slice_get order x ≡ S
     → (i : ℕ) × (slice_get issues x ≡ Some i) × TraceIssuesAt events i c
 
 -- the operation of this number stands at place x of an order, where it is told this reply
-pub record StandsAt (order : List Call) (told : List Reply) (id : ℕ) (reply : Reply) (x : ℕ) : Type 0
+pub record IsPlacedAt (order : List Call) (told : List Reply) (id : ℕ) (reply : Reply) (x : ℕ) : Type 0
   where
     pub call : Call
     pub there : slice_get order x ≡ Some call
@@ -20,7 +20,7 @@ pub record StandsAt (order : List Call) (told : List Reply) (id : ℕ) (reply : 
 
 -- it stands at a place before place h
 abbrev pub StandsBelow : List Call → List Reply → ℕ → Reply → ℕ → Type 0
-StandsBelow order told id reply h = (x : ℕ) × (x < h) × StandsAt order told id reply x
+StandsBelow order told id reply h = (x : ℕ) × (x < h) × IsPlacedAt order told id reply x
 
 -- what is answered before event k stands before place h
 abbrev pub AreBelow : List Event → List Call → List Reply → ℕ → ℕ → Type 0
@@ -37,7 +37,7 @@ abbrev pub AreAllBelow : List Event → List Call → List Reply → Type 0
 AreAllBelow events order told = (h : ℕ) × AreBelow events order told (length events) h
 
 -- event i has place x, and what is answered before it stands before that place
-pub record IsBehind (heights places : List ℕ) (x i : ℕ) : Type 0 where
+pub record IsBehindAnswered (heights places : List ℕ) (x i : ℕ) : Type 0 where
   pub height : ℕ
   pub there : slice_get heights i ≡ Some height
   pub low : height ≤ x

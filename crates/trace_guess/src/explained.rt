@@ -6,8 +6,8 @@ ghost use Rattle.packet.specs.Memory.{memory_after_one, reply_of_one, replies};
 ghost use Rattle.trace_laws.specs.declared.event.Event.TheVariants.{Answer};
 ghost use Rattle.trace_laws.specs.Orders.{IsOrder, operations_of};
 ghost use Rattle.trace_laws.specs.Traces.{IsTrace, TraceIssuesAt};
-ghost use Rattle.trace_guess.specs.Explained.{AreIssued, StandsAt, StandsBelow, AreHeights, AreAllBelow};
-ghost use Rattle.trace_guess.specs.Explained.{IsBehind};
+ghost use Rattle.trace_guess.specs.Explained.{AreIssued, IsPlacedAt, StandsBelow, AreHeights, AreAllBelow};
+ghost use Rattle.trace_guess.specs.Explained.{IsBehindAnswered};
 
 use packet::{Reply, apply};
 use std::alloc::{AllocError, Allocator};
@@ -81,7 +81,7 @@ fn told_by<A: Allocator>(
 
 /// Whether the operation of this number stands at a place, where it is told this reply.
 fn stands_at(order: &[Call], told: &[Reply], x: usize, id: u64, reply: Reply) -> bool
-    ensures { result ≡ true → StandsAt order.now told.now id reply x }
+    ensures { result ≡ true → IsPlacedAt order.now told.now id reply x }
 {
     x < order.len() && x < told.len() && order[x].id == id && told[x] == reply
 }
@@ -136,7 +136,7 @@ fn heights_of<A: Allocator>(
 
 /// Whether an event has this place, and what is answered before it stands before that.
 fn is_behind(heights: &[usize], places: &[usize], x: usize, i: usize) -> bool
-    ensures { result ≡ true → IsBehind heights.now places.now x i }
+    ensures { result ≡ true → IsBehindAnswered heights.now places.now x i }
 {
     i < heights.len() && i < places.len() && heights[i] <= x && places[i] == x
 }
@@ -144,7 +144,7 @@ fn is_behind(heights: &[usize], places: &[usize], x: usize, i: usize) -> bool
 /// Whether these events have their places in turn, and what is answered before each stands before it.
 fn are_behind(issues: &[usize], heights: &[usize], places: &[usize]) -> bool
     ensures { result ≡ true → (x i : ℕ) → slice_get issues.now x ≡ Some i
-        → IsBehind heights.now places.now x i }
+        → IsBehindAnswered heights.now places.now x i }
 {
     for x in 0..issues.len() {
         if !is_behind(heights, places, x, issues[x]) {
