@@ -4,6 +4,7 @@ an unknown command, wrong words, and the names of files. The texts are those of 
 
 from __future__ import annotations
 
+import errno
 import os
 import re
 import stat
@@ -31,6 +32,8 @@ COMMANDS: dict[str, tuple[list[str], dict[str, tuple[int, int] | None]]] = {
 REQUIRED = {"draw": ["seed"]}  # the options that have to be given
 APART = {"network": {"run", "replay"}}  # the options that don't stand beside each other
 TILES = (0, 4294967295)
+# Why a file can't be read, where the program has words for it.
+WHY = {errno.ENOENT: "no such file or directory", errno.EACCES: "permission denied", errno.EISDIR: "it is a directory"}
 FILES = ("MACHINE", "SCRIPT", "STEPS", "REPORT", "NETWORK", "TRACE", "LOG")
 TRY = "\n\nFor more information, try '--help'.\n"
 
@@ -46,10 +49,11 @@ class Answer:
 
 @dataclass
 class Job:
-    """A command with its words as they are given, and the places of those that name files."""
+    """A command with its words as they are given, the places of those that name files, and whether `--explain` is one."""
 
     words: list[str]
     files: list[int]
+    is_explained: bool = False
 
 
 class Wrong(Exception):
@@ -212,7 +216,7 @@ def command(name: str, rest: list[str]) -> Answer | Job:
     if missing:
         lines = "".join(f"\n  {it}" for it in missing)
         raise Wrong(f"the following required arguments were not provided:{lines}{usage_with(name, given)}")
-    return Job([name, *rest], [1 + place for place, it in zip(found, needed) if it in FILES])
+    return Job([name, *rest], [1 + place for place, it in zip(found, needed) if it in FILES], "explain" in given)
 
 
 def usage_with(name: str, used: list[str]) -> str:
@@ -243,18 +247,20 @@ def unread(job: Job) -> Answer | None:
     standard input, whose name is `-`, and which can be one text only."""
     names = [job.words[place] for place in job.files]
     for at, name in enumerate(names):
+        why: str | None = ""
         if name == "-":
-            if "-" in names[:at]:
-                return Answer("cannot read -\n", 1)
-            continue
-        try:
-            kind = os.stat(name).st_mode
-            if stat.S_ISREG(kind):
-                with open(name, "rb"):
-                    pass
-            is_fine = not stat.S_ISDIR(kind)
-        except (OSError, ValueError):
-            is_fine = False
-        if not is_fine:
-            return Answer(f"cannot read {name}\n", 1)
+            why = "standard input can be one text only" if "-" in names[:at] else ""
+        else:
+            try:
+                kind = os.stat(name).st_mode
+                if stat.S_ISREG(kind):
+                    with open(name, "rb"):
+                        pass
+                elif stat.S_ISDIR(kind):
+                    why = WHY[errno.EISDIR]
+            except (OSError, ValueError) as fault:
+                why = WHY.get(getattr(fault, "errno", None))
+        if why != "":
+            is_told = why and (job.is_explained or os.isatty(2))
+            return Answer(f"cannot read {name}\n" + (f"{name}: {why}\n" if is_told else ""), 1)
     return None

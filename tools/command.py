@@ -1,7 +1,7 @@
 """What the tools of this folder share: their command lines, files, streams and statuses, and calls of torusmem.
 
 Every tool prints to standard output only when all of its work is done. On a fault it prints one line on
-standard error. Its status is 0, or 1 (a text can't be read or is refused), 2 (the words of the command line
+standard error, and of a text that torusmem refuses its reason on the next. Its status is 0, or 1 (a text can't be read or is refused), 2 (the words of the command line
 are wrong), 4 (standard output failed), or 130 (interrupted). Where the reader of its output goes away, as `head`
 does, it ends without a word by SIGPIPE.
 """
@@ -207,14 +207,22 @@ def torusmem(*words: str, program: str | None = None, fine: tuple[int, ...] = (0
 
 def torusmem_on(texts: dict[str, str], *words: str, fine: tuple[int, ...] = (0,)) -> str:
     """What the program prints on words of which some are copies of texts, each with the name of its text. Where a text
-    is refused, its name stands before the program's line."""
+    is refused, its name stands before the program's line, and the reason behind that on a line of its own."""
     try:
         return torusmem(*words, fine=fine)
     except Refusal as why:
         for path, name in texts.items():
-            if explained(path, *words):
-                raise Refusal(f"{name}: {why}") from None
+            reasons = explained(path, *words)
+            if reasons or len(texts) == 1:
+                raise named(why, name, reasons) from None
         raise
+
+
+def named(why: Refusal, name: str, reasons: Sequence[str]) -> Refusal:
+    """A refusal of the program by the name of the text, with its reasons."""
+    made = Refusal(f"{name}: {why}")
+    made.lines = [f"{name}:{it}" for it in reasons]
+    return made
 
 
 def explained(path: str, *words: str) -> list[str]:

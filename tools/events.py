@@ -96,6 +96,13 @@ class Calls:
         """The greatest address that is named."""
         return max(map(int, {it.split(" ", 2)[1] for it in self.asked}), default=0)
 
+    def first_address_from(self, least: int) -> Tuple[int, str]:
+        """The first line that names an address from this one on, and the address, with the name that it stands for."""
+        numbers = (it.split(" ", 2)[1] for it in self.asked)
+        line, number = next((line, it) for line, it in zip(self.issues, numbers) if int(it) >= least)
+        name = self.names.shown_key(number)
+        return line, number if name == number else f"{number} of `{name}`"
+
     def left_out(self, is_placed: bool) -> str:
         """What was skipped and why, by count; empty where nothing was. Failed cas count if they aren't placed."""
         gone = [f"{count} {what}" for what, count in self.skipped.items()]

@@ -10,6 +10,7 @@ from typing import Dict, List, Optional, Tuple
 
 import command
 import edn
+import table
 from events import Calls
 from numbered import MASK, NIL
 from progress import Progress
@@ -22,6 +23,7 @@ KINDS = {"read": "load", "get": "load", "write": "store", "put": "store", "cas":
 LINE = re.compile(r"jepsen\.util(?:\s+-|:)?\s+(\S+)\s+:(invoke|ok|fail|info)\s+:(\S+)(?:\s+(.*))?")
 TIME = re.compile(r'[:"]time"?:?\s+([0-9]+)')
 IS_LINE = re.compile(rb"jepsen\.util")
+TAG = re.compile(rb"#[A-Za-z]")
 REGISTER = "the register"
 
 
@@ -184,7 +186,8 @@ class Log:
 def is_log(text: bytes) -> Tuple[bool, bool]:
     """Whether a text is a log of maps, and whether it is one of `jepsen.util`."""
     begin = text[: 2**16].lstrip(b"\xef\xbb\xbf \t\r\n[")
-    return begin[:1] in (b"{", b"#"), bool(IS_LINE.search(begin))
+    # A tag of EDN has its letters behind the `#`, and a comment a space.
+    return begin[:1] == b"{" or bool(TAG.match(begin)), bool(IS_LINE.search(begin))
 
 
 def of_log(text: bytes, path: str, is_map: bool, progress: Progress) -> Calls:
@@ -193,7 +196,7 @@ def of_log(text: bytes, path: str, is_map: bool, progress: Progress) -> Calls:
     try:
         lines = text.decode("utf-8-sig").split("\n")
     except UnicodeDecodeError:
-        raise command.Refusal(f"{path} is no text in UTF-8") from None
+        raise table.not_utf8(text, path) from None
     for line, row in enumerate(lines, 1):
         try:
             row = row.strip(" \t\r,[]") if is_map and row[:1] in "[]" or row[-2:] in ("}]", "},") else row.strip()

@@ -51,6 +51,10 @@ class Table:
         """The greatest address that is named."""
         return max((it.address for it in self.rows), default=0)
 
+    def first_address_from(self, least: int) -> Tuple[int, str]:
+        """The first line that names an address from this one on, and the address."""
+        return next((it.line, str(it.address)) for it in self.rows if it.address >= least)
+
     def lines(self, words: int, opening: Dict[int, int]) -> Iterator[Tuple[int, str]]:
         """The lines of the log text, each with the line of the table that tells of it; 0 for one that none tells of."""
         yield 0, "log 1"
@@ -97,12 +101,11 @@ def read(text: bytes, path: str, opening: Dict[int, int]) -> Table:
     rows = table.cut(text, path)
     columns = next(rows, (0, []))[1]
     if missing := [it for it in COLUMNS if it not in columns]:
-        raise command.Refusal(f"{path}: the first line doesn't name the columns {','.join(missing)}")
+        raise table.unnamed(path, missing)
     found, counts = Table(), {}
     for line, fields in rows:
         try:
-            if len(fields) != len(columns):
-                raise BadLine(f"there are {len(fields)} fields in place of {len(columns)}")
+            table.refuse_count(len(fields), len(columns))
             said = dict(zip(columns, fields))
             it = row_of(said, line, counts.get(said["processor"], 0))
         except BadLine as why:

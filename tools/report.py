@@ -244,11 +244,8 @@ def read(given: argparse.Namespace) -> Report:
     """The report that the command line names, which `torusmem check` finds good if it is asked."""
     text = command.contents(given.report, command.MOST_BYTES)
     if not given.unchecked:
-        try:
-            with command.kept(text) as path:
-                command.torusmem("check", path)
-        except command.Refusal as why:
-            raise command.Refusal(f"{given.report}: {why}") from None
+        with command.kept(text) as path:
+            command.torusmem_on({path: given.report}, "check", path)
     return parsed(text, given.report)
 
 

@@ -35,6 +35,19 @@ PLAIN = re.compile(
     rf"{SHORT}?,{TIME},{TIME},{TIME}?\r?$|^(.*)$",
     re.ASCII | re.MULTILINE,
 )
+# The line of the column names, up to a line feed, with what stands before it; and a carriage return that ends no such line.
+HEAD = re.compile(rb"(?:\xef\xbb\xbf)?[\s,]*[^\n]*\n?")
+ALONE = re.compile(rb"\r(?!\n)")
+# What the reader of Python says of a row, in other words.
+SAID = {
+    "unexpected end of data": "a quote is opened in this row and never closed",
+    "field larger than field limit (131072)": "a field has more than 131072 characters: is a quote left open?",
+    "new-line character seen in unquoted field - do you need to open the file in universal-newline mode?":
+        "a carriage return stands alone, and lines end with a line feed",
+    "new-line character seen in unquoted field - do you need to open the file with newline=''?":
+        "a carriage return stands alone, and lines end with a line feed",
+    "',' expected after '\"'": "behind a closing quote stands neither a comma nor the end of the line",
+}
 # Of each kind how many values there are, and whether the reply is `ok`.
 PLAIN_KINDS = {(kind, count, kind == "store") for kind, count in report.VALUES.items()}
 
@@ -56,25 +69,53 @@ class Limits:
         return MASK if self.words is None else self.words - 1
 
 
+def not_utf8(text: bytes, path: str, before: int = 0) -> command.Refusal:
+    """The refusal of a text that isn't one in UTF-8, where so many lines stand before it."""
+    try:
+        text.decode("utf-8")
+    except UnicodeDecodeError as fault:
+        before += text.count(b"\n", 0, fault.start)
+    return command.Refusal(f"{path}, line {before + 1}: this is no text in UTF-8")
+
+
 def cut(text: bytes, path: str, before: int = 0) -> Iterator[tuple[int, list[str]]]:
     """The rows of a table, each with the number of its line, where so many lines stand before the text."""
-    rows = csv.reader(io.TextIOWrapper(io.BytesIO(text), encoding="utf-8-sig", newline=""), strict=True)
+    head = HEAD.match(text) if not before else None
+    if head and (alone := ALONE.search(text, 0, head.end())):
+        line = text.count(b"\n", 0, alone.start()) + 1
+        raise command.Refusal(f"{path}, line {line}: a carriage return stands alone, and lines end with a line feed")
+    rows, begun = csv.reader(io.TextIOWrapper(io.BytesIO(text), encoding="utf-8-sig", newline=""), strict=True), 1
     try:
         for row in rows:
             if any(map(str.strip, row)):
                 yield before + rows.line_num, [it.strip() for it in row]
+            begun = rows.line_num + 1
     except UnicodeDecodeError:
-        raise command.Refusal(f"{path} is no text in UTF-8") from None
+        raise not_utf8(text, path, before) from None
     except csv.Error as fault:
-        raise command.Refusal(f"{path}, line {before + rows.line_num}: {fault}") from None
+        why = SAID.get(str(fault), str(fault))
+        raise command.Refusal(f"{path}, line {before + begun}: {why}") from None
+
+
+def unnamed(path: str, missing: List[str]) -> command.Refusal:
+    """The refusal of a table whose first line doesn't name these columns."""
+    return command.Refusal(f"{path}: the first line doesn't name the column{'s' * (len(missing) > 1)} {','.join(missing)}")
+
+
+def refuse_count(count: int, wanted: int) -> None:
+    """Refuses a row that has not so many fields as it must have."""
+    if count != wanted:
+        has = "there is 1 field" if count == 1 else f"there are {count} fields"
+        raise BadLine(f"{has} in place of {wanted}")
 
 
 def values_of(kind: str, words: list[str]) -> tuple[int, ...]:
     """The values of an operation, as many as it has."""
     if kind not in report.VALUES:
-        raise BadLine("there is no such operation")
+        raise BadLine(f"there is no operation `{kind}`" if kind else "there is no operation")
     if len(words) != report.VALUES[kind]:
-        raise BadLine(f"{kind} has not so many values")
+        wanted = ("no value", "one value", "two values")[report.VALUES[kind]]
+        raise BadLine(f"{kind} takes {wanted}, and here {'is' if len(words) == 1 else 'are'} {len(words)}")
     return tuple(map(report.value, words))
 
 
@@ -82,14 +123,19 @@ def reply_of(kind: str, word: str) -> int | None:
     """The reply of an operation."""
     if (kind == "store") != (word == "ok"):
         raise BadLine("the reply is `ok` for a store, and a number for every other operation")
+    if not word:
+        raise BadLine("there is no reply")
     return report.number(word, 0, MASK, "the reply") if word != "ok" else None
 
 
 def moment(word: str, what: str) -> int:
     """The time that a word spells, in billionths: a whole number, or one with one to nine digits behind a point."""
+    if not word:
+        raise BadLine(f"{what} is missing")
     whole, point, part = word.partition(".")
-    if point and not (part.isascii() and part.isdigit() and len(part) <= 9):
-        raise BadLine(f"{what} is no number")
+    is_fine = part.isascii() and part.isdigit() and len(part) <= 9 if point else True
+    if not (is_fine and whole.isascii() and whole.isdigit()):
+        raise BadLine(f"{what} is no number as 1000 or 2.5, with at most nine digits behind the point")
     return report.number(whole, 0, LATEST, what) * BILLION + int(part.ljust(9, "0"))
 
 
@@ -101,8 +147,7 @@ def moment_text(moment: int) -> str:
 
 def entry_of(fields: list[str], limits: Limits) -> Entry | None:
     """The operation of a row, with its times in place of event numbers, and no place yet; None if it isn't served."""
-    if len(fields) != len(COLUMNS):
-        raise BadLine(f"there are {len(fields)} fields in place of {len(COLUMNS)}")
+    refuse_count(len(fields), len(COLUMNS))
     row = dict(zip(COLUMNS, fields))
     if not row["served"] and not row["answered"]:
         return None
@@ -225,4 +270,4 @@ class Rows:
             else:
                 self.take_plain(text.decode("utf-8"), before)
         except UnicodeDecodeError:
-            raise command.Refusal(f"{self.path} is no text in UTF-8") from None
+            raise not_utf8(text, self.path, before) from None

@@ -116,8 +116,7 @@ class Reader:
 
     def take(self, line: int, fields: List[str]) -> None:
         """Takes a row, field by field."""
-        if len(fields) != len(self.columns):
-            raise BadLine(f"there are {len(fields)} fields in place of {len(self.columns)}")
+        table.refuse_count(len(fields), len(self.columns))
         said = dict(zip(self.columns, fields))
         kind, calls = said["operation"], self.calls
         if not said["processor"]:
@@ -215,7 +214,7 @@ def of_table(text: bytes, path: str, is_strict: bool, progress: Progress) -> Cal
     rows = table.cut(text, path)
     first, columns = next(rows, (0, []))
     if missing := [it for it in COLUMNS if it not in columns]:
-        raise command.Refusal(f"{path}: the first line doesn't name the columns {','.join(missing)}")
+        raise table.unnamed(path, missing)
     reader = Reader(calls, columns, b"." in text)
     if b'"' in text or len(set(columns)) < len(columns):
         for line, fields in rows:
@@ -224,7 +223,7 @@ def of_table(text: bytes, path: str, is_strict: bool, progress: Progress) -> Cal
         try:
             plain = text.decode("utf-8-sig")
         except UnicodeDecodeError:
-            raise command.Refusal(f"{path} is no text in UTF-8") from None
+            raise table.not_utf8(text, path) from None
         begin = sum(len(it) + 1 for it in plain.split("\n", first)[:first])
         for before, part in chunks(plain, begin):
             reader.take_text(part, before)
@@ -282,7 +281,7 @@ def refuse_other_table(path: str) -> None:
     columns = columns_of(begin_of(path))
     missing = [it for it in COLUMNS if it not in columns]
     if 0 < len(missing) < len(COLUMNS) - 1:
-        raise command.Refusal(f"{path}: the first line doesn't name the columns {','.join(missing)}")
+        raise table.unnamed(path, missing)
 
 
 def refuse_calls(path: str, is_log: bool) -> None:

@@ -113,10 +113,11 @@ def read(text: bytes, name: str) -> Trace:
             order, said = command.torusmem("linearize", path), "linearizable"
         except command.Refusal as why:
             said = str(why)
-        if said.startswith("not linearizable"):
+        is_judged = order != "" or bool(re.match("(not linearizable|undecided) at line [0-9]+", said))
+        if said.startswith("not linearizable") or not is_judged:
             reasons = command.explained(path, "linearize")
-    if order == "" and not re.match("(not linearizable|undecided) at line [0-9]+", said):
-        raise command.Refusal(f"{name}: {said}")
+    if not is_judged:
+        raise command.named(command.Refusal(said), name, reasons)
     found = parsed(text)
     found.verdict = said
     places = {tuple(it.split()[1:3]): at for at, it in enumerate(order.split("\n"), 1)}
