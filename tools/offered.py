@@ -16,6 +16,7 @@ import command
 import drawn
 import replay
 import report
+import runs
 
 TRAFFIC = ("uniform", "transpose", "bit-complement", "neighbour", "tornado", "hot-spot")
 # Words of each bank.
@@ -120,11 +121,7 @@ def measured(point: Point) -> Found:
     """Makes a run, has the program make the same moves, and measures it."""
     case, asks = asked(point)
     machine, lines = made(point, case, asks)
-    texts = case.machine_text(), case.script_text(), "".join(f"{it}\n" for it in lines)
-    first, second, third = (command.kept(it.encode("ascii")) for it in texts)
-    with first as a, second as b, third as c:
-        printed = command.torusmem("steps", a, b, c, fine=(0, 3))
-    replay.compare(machine, report.parsed(printed.encode("ascii"), "the report"))
+    runs.confirm(case, machine, lines)
     return found_of(point, machine, asks)
 
 

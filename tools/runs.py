@@ -30,6 +30,15 @@ def in_rounds(case: drawn.Case, most: int, is_clocked: bool) -> str:
     return "".join(f"{it}\n" for it in replay.scheduled(machine, most, rounds))
 
 
+def confirm(case: drawn.Case, machine: replay.Machine, lines: list[str]) -> None:
+    """Has `torusmem steps` make the moves that a machine of the case has made; refuses a report of another run."""
+    texts = case.machine_text(), case.script_text(), "".join(f"{it}\n" for it in lines)
+    first, second, third = (command.kept(it.encode("ascii")) for it in texts)
+    with first as a, second as b, third as c:
+        printed = command.torusmem("steps", a, b, c, fine=(0, 3))
+    replay.compare(machine, report.parsed(printed.encode("ascii"), "the report"))
+
+
 def read(given: argparse.Namespace) -> replay.Texts:
     """The run of the texts that the command line names, which `torusmem steps` accepts."""
     if [given.machine, given.script, given.schedule].count("-") > 1:

@@ -1,0 +1,44 @@
+"""Clocked rounds as docs/FORMATS.md words them, and how far flits go in a round; for checks/clocked_rows."""
+from __future__ import annotations
+
+import copy
+from collections import Counter
+from typing import Iterator
+
+import clocked
+import drawn
+import replay
+
+
+def turned(shape: replay.Shape, number: int) -> Iterator[clocked.Attempt]:
+    """The attempts of the clocked round of a number, in their order, enabled or not."""
+    for agent, choice, port in replay.attempts(shape):
+        yield agent, choice, ((port or 0) + (number - 1 if choice == "put" else 0)) % shape.ports
+
+
+def moves(machine: replay.Machine, number: int, _: replay.Begins) -> list[str]:
+    """Makes the clocked round of this number as docs/FORMATS.md words it, and answers the lines of its moves."""
+    twin = lambda: copy.deepcopy(machine, {id(machine.shape): machine.shape})
+    enabled, tried = [], twin()
+    for attempt in turned(machine.shape, number):
+        if tried.step(*attempt, number):
+            enabled.append(attempt)
+            tried = twin()
+    return [clocked.line(it) for it in enabled if machine.step(*it, number)]
+
+
+def stages(case: drawn.Case, schedule: str) -> int:
+    """The most stages that a flit of a schedule goes in one round."""
+    machine, most = replay.Machine(case), 0
+    for number, attempts in replay.schedule_of(schedule.encode("ascii")).rounds:
+        gone: Counter[replay.Flit | None] = Counter()
+        for agent, choice, port in attempts:
+            at = (machine.processors, machine.routers, machine.banks)[agent % 3][agent // 3]
+            flit = at.latches[port] if choice == "put" else None
+            if choice == "take":
+                flit = (at.inputs[port] if agent % 3 == 1 else at.input).flits[0]
+            machine.step(agent, choice, port, number)
+            gone[at.output.flits[-1] if choice == "send" else flit] += 1
+        del gone[None]
+        most = max(most, *gone.values(), 0)
+    return most
