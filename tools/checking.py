@@ -14,6 +14,7 @@ import command
 import exchange
 import jobs
 import table
+from operations import MASK
 from pieces import ADDRESS, LINE, SERVED, Fault, Judge, pieces_of
 from progress import Progress
 
@@ -155,7 +156,7 @@ class Check:
             rows = self.rows_of(chunk)
             for name, row in zip(rows.names, rows.served):
                 if name in lines:
-                    which = f"operation {name & table.MASK} of processor {name >> 64}"
+                    which = f"operation {name & MASK} of processor {name >> 64}"
                     return Fault((-1, row[LINE], 0), row[LINE], f"{which} is in line {lines[name]} already")
                 if name in names:
                     lines[name] = row[LINE]

@@ -6,16 +6,12 @@ from collections import deque
 from typing import Callable, Dict, Iterable, List, Tuple
 
 from command import Refusal
-from walked import Network, Place, Router, number_of
+from places import grid, torus_router
+from walked import Network, Router, number_of
 
 # Directions of a mesh: east, west, north (the row number falls), south.
 STEPS = {"E": (1, 0), "W": (-1, 0), "N": (0, -1), "S": (0, 1)}
 Turn = Callable[[int, str, str], bool]
-
-
-def round_about(k: int, count: int) -> Place:
-    """The place of one of so many routers on a circle, the first of which is at its top."""
-    return round(500 + 500 * math.sin(2 * math.pi * k / count)), round(500 - 500 * math.cos(2 * math.pi * k / count))
 
 
 def ends(net: Network, routers: Iterable[int]) -> Tuple[Dict[int, int], Dict[int, int]]:
@@ -26,11 +22,6 @@ def ends(net: Network, routers: Iterable[int]) -> Tuple[Dict[int, int], Dict[int
     eject = {r: net.channel("eject", r, r) for r in inject}
     net.joins = [(inject[r], eject[s]) for r in inject for s in eject]
     return inject, eject
-
-
-def grid(net: Network, width: int, height: int) -> None:
-    """The names and places of a mesh's routers."""
-    net.routers = {r: Router(f"{r % width},{r // width}", (r % width, r // width)) for r in range(width * height)}
 
 
 def nearer(width: int, r: int, goal: int) -> List[str]:
@@ -124,9 +115,7 @@ def adaptive_torus(radices: List[int]) -> Network:
                 for v in range(3):
                     hops[r, d, by, v] = net.channel("hop", r, r + ((here + by) % k - here) * weight[d], v)
     for r in range(tiles):
-        digits = [r // w % k for w, k in zip(weight, radices)]
-        place = round_about(r, tiles) if digits[1:] == [] else (digits[0], digits[1]) if len(digits) == 2 else None
-        net.routers[r] = Router(",".join(map(str, digits)), place)
+        net.routers[r] = torus_router(r, radices)
     net.escapes = {x for (_, _, _, v), x in hops.items() if v > 0}
     into = inputs(net, inject)
     for r in range(tiles):

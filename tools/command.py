@@ -153,6 +153,12 @@ def contents(path: str, most: int = MOST_TEXT) -> bytes:
     return b"".join(parts)
 
 
+def refuse_twice(*paths: Optional[str]) -> None:
+    """Refuses words of the command line of which two are standard input."""
+    if paths.count("-") > 1:
+        raise WrongWords("- is given twice, and there is one standard input")
+
+
 def mapped(path: str) -> bytes | mmap.mmap:
     """The bytes of a file, or of standard input for `-`. A long file isn't read into memory, and may have any length."""
     try:

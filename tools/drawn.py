@@ -7,8 +7,9 @@ from __future__ import annotations
 from dataclasses import dataclass, field, replace
 
 import report
+from operations import MASK
+from tiles import digits
 
-MASK = (1 << 64) - 1
 MOST_OF_ALL = 65536
 MOST_OF_ONE = 4096
 WAYS = ["workers", "rounds", "draw", "library"]
@@ -111,20 +112,17 @@ def bank(numbers: Numbers, pattern: str, source: int, radices: list[int], hot: i
         return numbers.below(tiles)
     if pattern == "hot bank":
         return hot if numbers.below(4) else numbers.below(tiles)
-    digits, rest = [], source
-    for radix in radices:
-        digits.append(rest % radix)
-        rest //= radix
+    place = digits(source, radices)
     if pattern == "neighbour":
-        digits[0] = (digits[0] + 1) % radices[0]
+        place[0] = (place[0] + 1) % radices[0]
     elif pattern == "tornado":
-        digits = [(it + (radix + 1) // 2 - 1) % radix for it, radix in zip(digits, radices)]
+        place = [(it + (radix + 1) // 2 - 1) % radix for it, radix in zip(place, radices)]
     elif pattern == "complement":
-        digits = [radix - 1 - it for it, radix in zip(digits, radices)]
+        place = [radix - 1 - it for it, radix in zip(place, radices)]
     else:
-        digits = [it % radix for it, radix in zip(digits[::-1], radices)]
+        place = [it % radix for it, radix in zip(place[::-1], radices)]
     made = 0
-    for it, radix in zip(digits[::-1], radices[::-1]):
+    for it, radix in zip(place[::-1], radices[::-1]):
         made = made * radix + it
     return made
 

@@ -11,7 +11,6 @@ from typing import Callable, Dict, Iterable, List, Optional, Set, Tuple
 import command
 import report
 from numbered import LAST_PROCESSOR, MOST_WORDS, NIL, Names, is_number, processors
-from report import BadLine
 
 COUNTING = {"add", "and", "or", "xor", "max", "min"}
 # What an operation is called whose failure says that it did not happen.

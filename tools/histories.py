@@ -6,13 +6,14 @@ from __future__ import annotations
 import json
 import re
 from dataclasses import dataclass, field
-from typing import Dict, List, Optional, Tuple
+from typing import Dict, Optional, Tuple
 
 import command
 import edn
 import table
 from events import Calls
-from numbered import MASK, NIL
+from numbered import NIL
+from operations import MASK
 from progress import Progress
 from report import BadLine
 

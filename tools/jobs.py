@@ -38,17 +38,27 @@ def answers(work: Callable[[Task], Answer], tasks: List[Task], jobs: int) -> Ite
             pipes.append(out)
         yield from in_order(pipes, len(tasks))
     finally:
-        for child in children:
-            os.kill(child, signal.SIGKILL)
-            os.waitpid(child, 0)
+        end(children)
+
+
+def end(children: List[int]) -> None:
+    """Ends processes, and waits until they are gone."""
+    for child in children:
+        os.kill(child, signal.SIGKILL)
+        os.waitpid(child, 0)
+
+
+def leave_signals() -> None:
+    """A process of its own leaves an interrupt to the one that started it, which ends it."""
+    signal.signal(signal.SIGINT, signal.SIG_IGN)
+    signal.signal(signal.SIGTERM, signal.SIG_DFL)
 
 
 def told(
     work: Callable[[Task], Answer], mine: List[int], tasks: List[Task], pipe: connection.Connection
 ) -> NoReturn:
     """In a process of its own: does the tasks of the numbers, and writes each answer into the pipe."""
-    signal.signal(signal.SIGINT, signal.SIG_IGN)
-    signal.signal(signal.SIGTERM, signal.SIG_DFL)
+    leave_signals()
     gc.disable()  # it would look again and again at rows that hold no circles
     try:
         for at in mine:

@@ -10,8 +10,8 @@ from __future__ import annotations
 from collections import Counter
 from dataclasses import dataclass, field
 
-import report
-from drawn import MASK, Case
+from drawn import Case
+from operations import written
 from report import Entry, Report
 
 
@@ -40,20 +40,6 @@ class Followed:
     is_over: bool = False
 
 
-NEW_WORDS = {
-    "load": lambda old, given: old,
-    "store": lambda old, given: given[0],
-    "swap": lambda old, given: given[0],
-    "cas": lambda old, given: given[1] if old == given[0] else old,
-    "add": lambda old, given: (old + given[0]) & MASK,
-    "and": lambda old, given: old & given[0],
-    "or": lambda old, given: old | given[0],
-    "xor": lambda old, given: old ^ given[0],
-    "max": lambda old, given: max(old, given[0]),
-    "min": lambda old, given: min(old, given[0]),
-}
-
-
 def check_memory(case: Case, found: Report) -> None:
     """The report is of this machine, and its entries replay on one memory."""
     memory = {address: word for address, word in case.opening if word}
@@ -66,7 +52,7 @@ def check_memory(case: Case, found: Report) -> None:
             raise Wrong("memory", f"entry {it.bank} {it.place} isn't in its home bank")
         if it.reply != (None if it.kind == "store" else old):
             raise Wrong("memory", f"entry {it.bank} {it.place} found {old} and replied {it.replied()}")
-        memory[it.address] = NEW_WORDS[it.kind](old, it.values)
+        memory[it.address] = written(it.kind, it.values, old)
     if found.closing != {address: word for address, word in memory.items() if word}:
         raise Wrong("memory", "the words at the end aren't those that the entries leave")
 

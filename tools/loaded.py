@@ -11,9 +11,9 @@ import palette
 import wires
 from drawing import Point
 from paper import Paper
-from replay import Shape
 from shapes import Box, at
 from strokes import arrow, width_of
+from tiles import Shape
 
 Row = Dict[str, Any]
 # Half of a tile, how far a link at the border goes, and the room of the name behind it; and the same without numbers.

@@ -9,6 +9,7 @@ from typing import Dict, Iterator, List, Optional, Tuple
 
 import command
 import events
+import operations
 import report
 import table
 from report import BadLine
@@ -165,7 +166,7 @@ def leavers(writes: List[Row], word: int) -> Dict[int, List[Optional[Row]]]:
     """Of each value the writes of a word that leave it; none is the opening word."""
     found: Dict[int, List[Optional[Row]]] = {word: [None]}
     for it in writes:
-        word = table.written(it.kind, it.values, word)
+        word = operations.written(it.kind, it.values, word)
         found.setdefault(word, []).append(it)
     return found
 

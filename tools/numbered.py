@@ -12,9 +12,9 @@ from itertools import count, cycle, islice
 from typing import Dict, Iterable, List
 
 import command
+from operations import MASK
 from report import BadLine
 
-MASK = 2**64 - 1
 MOST_WORDS = 2**32
 LAST_PROCESSOR = 4095
 NIL = "nil"

@@ -17,6 +17,7 @@ import drawn
 import replay
 import report
 import runs
+from ranks import percentile
 
 TRAFFIC = ("uniform", "transpose", "bit-complement", "neighbour", "tornado", "hot-spot")
 # Words of each bank.
@@ -141,7 +142,7 @@ def found_of(point: Point, machine: replay.Machine, asks: list[list[int]]) -> Fo
         raise command.Refusal("no operation is measured: --window is too short for this load")
     rising = sorted(times)
     accepted = answered / (point.window * point.tiles())
-    return Found(accepted, sum(rising) / len(rising), replay.percentile(rising, 95), len(rising), is_drained)
+    return Found(accepted, sum(rising) / len(rising), percentile(rising, 95), len(rising), is_drained)
 
 
 def zero_load(point: Point) -> float | None:

@@ -17,7 +17,8 @@ from operator import itemgetter
 from typing import Dict, Iterator, List, Optional, Tuple
 
 import command
-from table import Row, moment_text, written
+from operations import written
+from table import Row, moment_text
 
 MOST_ENTRIES = 65536
 LATER_KINDS = {"and", "or", "xor", "max", "min"}

@@ -12,6 +12,12 @@ Item = TypeVar("Item")
 FIRST, EACH = 1.0, 0.5
 
 
+def rewrite(text: str) -> None:
+    """Writes in place of what standard error's last line has."""
+    with contextlib.suppress(OSError):
+        os.write(2, b"\r\x1b[K" + text.encode("utf-8"))
+
+
 class Progress:
     """The line of a tool."""
 
@@ -24,17 +30,12 @@ class Progress:
         now = time.monotonic()
         if self.is_shown and now - self.begun > FIRST and now - self.said > EACH:
             self.said, self.is_left = now, True
-            self.put(f"{self.tool}: {what}, {now - self.begun:.0f} s")
-
-    def put(self, text: str) -> None:
-        """Writes in place of what the line has."""
-        with contextlib.suppress(OSError):
-            os.write(2, b"\r\x1b[K" + text.encode("utf-8"))
+            rewrite(f"{self.tool}: {what}, {now - self.begun:.0f} s")
 
     def clear(self) -> None:
         """Erases the line."""
         if self.is_left:
-            self.put("")
+            rewrite("")
             self.is_left = False
 
     def counted(self, items: Iterable[Item], of: int, what: str) -> Iterator[Item]:

@@ -5,8 +5,8 @@ from dataclasses import dataclass
 
 import drawing
 import paper
-from replay import Shape
 from strokes import width_of
+from tiles import Shape
 
 
 @dataclass

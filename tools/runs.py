@@ -41,8 +41,7 @@ def confirm(case: drawn.Case, machine: replay.Machine, lines: list[str]) -> None
 
 def read(given: argparse.Namespace) -> replay.Texts:
     """The run of the texts that the command line names, which `torusmem steps` accepts."""
-    if [given.machine, given.script, given.schedule].count("-") > 1:
-        raise command.WrongWords("- is given twice, and there is one standard input")
+    command.refuse_twice(given.machine, given.script, given.schedule)
     if given.schedule is not None and given.rounds_in_order:
         raise command.WrongWords("--rounds-in-order is of no use with a schedule (--help says more)")
     machine, script = (command.contents(it) for it in (given.machine, given.script))

@@ -7,7 +7,7 @@ import re
 from dataclasses import dataclass, field
 from typing import Dict, List, Optional, Tuple
 
-import table
+import operations
 from events import Calls, Trace
 
 FOREVER = 2**62
@@ -35,7 +35,7 @@ class Operation:
             return self.values[0]
         if self.kind == "cas" and self.reply is None:
             return self.values[1]
-        return None if self.reply is None else table.written(self.kind, self.values, self.reply)
+        return None if self.reply is None else operations.written(self.kind, self.values, self.reply)
 
     def changes(self) -> bool:
         """Whether it surely leaves another word than it found."""

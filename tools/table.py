@@ -15,10 +15,10 @@ from typing import Iterator, List, Optional, Tuple
 
 import command
 import report
+from operations import MASK
 from report import BadLine, Entry
 
 COLUMNS = "processor,index,tag,operation,address,values,reply,bank,issued,served,answered".split(",")
-MASK = 2**64 - 1
 LATEST = 10**20 - 1
 # Times are kept in parts of this size, so that those with a point are whole numbers too.
 BILLION = 10**9
@@ -183,25 +183,6 @@ def entries_of(text: bytes, path: str, limits: Limits) -> Iterator[tuple[int, En
             yield line, entry_of(row, limits)
         except BadLine as why:
             raise command.Refusal(f"{path}, line {line}: {why}") from None
-
-
-def written(kind: str, values: tuple[int, ...], word: int) -> int:
-    """The word that an operation leaves where it finds one (docs/FORMATS.md, Good reports, rule 4)."""
-    if kind == "load":
-        return word
-    if kind == "cas":
-        return values[1] if word == values[0] else word
-    it = values[0]
-    return {
-        "store": it,
-        "swap": it,
-        "add": (word + it) & MASK,
-        "and": word & it,
-        "or": word | it,
-        "xor": word ^ it,
-        "max": max(word, it),
-        "min": min(word, it),
-    }[kind]
 
 
 @dataclass

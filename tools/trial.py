@@ -103,6 +103,16 @@ def write(case: Case, folder: str) -> None:
                 file.write(text)
 
 
+def store(case: drawn.Case, found: Outcome, folder: str) -> None:
+    """Keeps the texts of a run, its report, and what is wrong with it."""
+    # steps that are wrong themselves are drawn again
+    write(case.with_(steps=found.steps) if found.steps and found.kind != "draw" else case, folder)
+    with open(os.path.join(folder, "report.txt"), "wb") as file:
+        file.write(found.report)
+    with open(os.path.join(folder, "verdict.txt"), "w", encoding="utf-8") as file:
+        file.write(found.verdict() + "\n")
+
+
 def started(case: Case, programs: Programs, folder: str) -> list[str]:
     """The words that start a run whose texts are in the folder."""
     machine, script, steps = (os.path.join(folder, name) for name in NAMES[:3])

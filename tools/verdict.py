@@ -14,8 +14,8 @@ from typing import Dict, List, Optional, Tuple
 
 import command
 import failed
+import operations
 import story
-import table
 from events import Calls, Trace, trace_of
 from progress import Progress
 
@@ -145,7 +145,7 @@ def without_place(judge: Judge, key: str, rows: List[int], left: set[int]) -> bo
     calls, place, words = judge.calls, {it: at for at, it in enumerate(rows, 1)}, [judge.opening.get(int(key), 0)]
     for it in rows:
         kind, _, *values = calls.asked[it].split(" ")
-        words.append(table.written(kind, tuple(map(int, values)), words[-1]))
+        words.append(operations.written(kind, tuple(map(int, values)), words[-1]))
     change = [len(words)] * len(words)
     for at in range(len(words) - 2, -1, -1):
         change[at] = change[at + 1] if words[at] == words[at + 1] else at + 1

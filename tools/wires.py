@@ -6,7 +6,7 @@ from typing import Any
 
 import drawing
 from drawing import Point
-from replay import Shape
+from tiles import Shape
 
 WIDE, HIGH = 44, 30
 # How far neighbours lie apart: across, where a row is short and where it is long; down; and for each tile of
