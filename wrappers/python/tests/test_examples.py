@@ -431,9 +431,11 @@ class Traces(unittest.TestCase):
         self.assertEqual(linearize(swap, {3: 5}), NotLinearizable(3))
 
     def test_what_is_not_decided(self):
-        many = [Issued(it, Operation.ADD, 1, (1,)) for it in range(65)]
+        many = [Issued(it, Operation.ADD, 1, (1,)) for it in range(150)]
+        answers = [Answered(it, 0, it) for it in range(150)]
         self.assertEqual(linearize(many), Linearizable(()))
-        answers = [Answered(it, 0, it) for it in range(65)]
+        # Of 65 that are open at once an order is guessed; of 150 there is none.
+        self.assertEqual(linearize([*many[:65], *answers[:65]]), Linearizable(tuple(range(65))))
         self.assertEqual(linearize([*many, *answers]), Undecided(64, True))
         sums = [*many[:4], *(Answered(it, 0, old) for it, old in enumerate((1, 0, 2, 3)))]
         self.assertEqual(linearize(sums, configurations=1), Undecided(4, False))
