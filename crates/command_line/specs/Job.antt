@@ -34,7 +34,7 @@ class_word Reply = flag_text true
 -- of the lines of an order, and of its report; `network` of a verdict, a run and a replay
 abbrev pub name_of : Job → Text
 name_of (Steps machine script steps) = codes "steps"
-name_of (Round machine script rounds) = codes "round"
+name_of (Round machine script rounds clocked) = codes "round"
 name_of (Run machine script workers turns) = codes "run"
 name_of (Live machine) = codes "live"
 name_of (Route machine src dst class) = codes "route"
@@ -46,7 +46,7 @@ name_of (Replay network run depth) = codes "network"
 name_of (Linearize trace configurations) = codes "linearize"
 name_of (Report trace configurations) = codes "linearize"
 name_of (Model log model order) = codes "model"
-name_of (Schedule machine script rounds) = codes "schedule"
+name_of (Schedule machine script rounds clocked) = codes "schedule"
 name_of (Draw machine script seed steps) = codes "draw"
 name_of (Moves machine script steps) = codes "steps"
 
@@ -60,9 +60,11 @@ AreOf (Steps machine script steps) rows = (first_of (codes "MACHINE") rows ≡ S
     × (first_of (codes "SCRIPT") rows ≡ Some script.now)
     × (first_of (codes "STEPS") rows ≡ Some steps.now)
     × IsFlag (codes "moves") false rows
-AreOf (Round machine script rounds) rows = (first_of (codes "MACHINE") rows ≡ Some machine.now)
+AreOf (Round machine script rounds clocked) rows =
+    (first_of (codes "MACHINE") rows ≡ Some machine.now)
     × (first_of (codes "SCRIPT") rows ≡ Some script.now)
     × (number_in (codes "rounds") rows ≡ Some rounds)
+    × IsFlag (codes "clocked") clocked rows
 AreOf (Run machine script workers turns) rows = (first_of (codes "MACHINE") rows ≡ Some machine.now)
     × (first_of (codes "SCRIPT") rows ≡ Some script.now)
     × (number_in (codes "workers") rows ≡ Some workers)
@@ -92,9 +94,11 @@ AreOf (Report trace configurations) rows =
 AreOf (Model log model order) rows = (first_of (codes "LOG") rows ≡ Some log.now)
     × (first_of (codes "model") rows ≡ Some model.now)
     × IsFlag (codes "order") order rows
-AreOf (Schedule machine script rounds) rows = (first_of (codes "MACHINE") rows ≡ Some machine.now)
+AreOf (Schedule machine script rounds clocked) rows =
+    (first_of (codes "MACHINE") rows ≡ Some machine.now)
     × (first_of (codes "SCRIPT") rows ≡ Some script.now)
     × (number_in (codes "rounds") rows ≡ Some rounds)
+    × IsFlag (codes "clocked") clocked rows
 AreOf (Draw machine script seed steps) rows = (first_of (codes "MACHINE") rows ≡ Some machine.now)
     × (first_of (codes "SCRIPT") rows ≡ Some script.now)
     × (number_in (codes "seed") rows ≡ Some seed) × (number_in (codes "steps") rows ≡ steps)
@@ -106,14 +110,14 @@ AreOf (Moves machine script steps) rows = (first_of (codes "MACHINE") rows ≡ S
 -- the numbers of a job are within their limits: 1 to 1000000 rounds, 1 to 16 workers, 1 to
 -- 1000000000 turns, a depth of 1 to 8, at least one configuration
 abbrev pub AreJobLimits : Job → Type 0
-AreJobLimits (Round machine script rounds) = (1 ≤ rounds) × (rounds ≤ 1000000)
+AreJobLimits (Round machine script rounds clocked) = (1 ≤ rounds) × (rounds ≤ 1000000)
 AreJobLimits (Run machine script workers turns) =
     ((1 ≤ workers) × (workers ≤ 16)) × ((1 ≤ turns) × (turns ≤ 1000000000))
 AreJobLimits (LockUp network depth) = (1 ≤ depth) × (depth ≤ 8)
 AreJobLimits (Replay network run depth) = (1 ≤ depth) × (depth ≤ 8)
 AreJobLimits (Linearize trace configurations) = 1 ≤ configurations
 AreJobLimits (Report trace configurations) = 1 ≤ configurations
-AreJobLimits (Schedule machine script rounds) = (1 ≤ rounds) × (rounds ≤ 1000000)
+AreJobLimits (Schedule machine script rounds clocked) = (1 ≤ rounds) × (rounds ≤ 1000000)
 AreJobLimits _ = Unit {0}
 
 -- a job of the subcommand of this name, with the values of these rows, within its limits

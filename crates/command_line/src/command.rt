@@ -24,11 +24,13 @@ pub enum Job<'a> {
         script: &'a str,
         steps: &'a str,
     },
-    /// Run in rounds, at most so many, until every script is finished, and print the report.
+    /// Run in rounds, clocked or in order, at most so many, until every script is finished, and print
+    /// the report.
     Round {
         machine: &'a str,
         script: &'a str,
         rounds: u32,
+        clocked: bool,
     },
     /// Run by workers in threads, so many, each with at most so many turns, and print the report.
     Run {
@@ -89,11 +91,12 @@ pub enum Job<'a> {
         model: &'a str,
         order: bool,
     },
-    /// Print the moves of rounds, at most so many, until every script is finished.
+    /// Print the moves of rounds, clocked or in order, at most so many, until every script is finished.
     Schedule {
         machine: &'a str,
         script: &'a str,
         rounds: u32,
+        clocked: bool,
     },
     /// Print a schedule that is drawn by this seed, of at most so many moves where there is a
     /// number, until every script is finished.

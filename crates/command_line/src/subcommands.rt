@@ -1,10 +1,9 @@
 //! The subcommands, each with its arguments.
 ghost use Rattle.clap.specs.Words.{new_app, with_rule};
 ghost use Rattle.command_line.specs.CommandLine.{channels_app, check_app, draw_app, explain};
-ghost use Rattle.command_line.specs.CommandLine.{linearize_app, loading_app, model_app, needed};
+ghost use Rattle.command_line.specs.CommandLine.{linearize_app, model_app, needed};
 ghost use Rattle.command_line.specs.CommandLine.{network_app};
-ghost use Rattle.command_line.specs.CommandLine.{round_app, rounds, route_app, run_app};
-ghost use Rattle.command_line.specs.CommandLine.{schedule_app, steps_app};
+ghost use Rattle.command_line.specs.CommandLine.{rounds_app, route_app, run_app, steps_app};
 ghost use Rattle.command_line.specs.Making.{IsCommand};
 
 use crate::arguments::{count, file, flag, long_number, seed, tile, word_if_given, word_option};
@@ -25,13 +24,14 @@ pub(crate) fn steps<'a>(alloc: Global) -> Making<'a>
 
 /// A subcommand of this name that runs in rounds.
 pub(crate) fn in_rounds<'a>(alloc: Global, name: &'a str, about: &'a str) -> Making<'a>
-    ensures { IsCommand
-        (with_rule (with_rule (loading_app name.entry.now) rounds) explain) result }
+    ensures { IsCommand (rounds_app name.entry.now) result }
 {
     let command = loading(alloc, name, about);
     let help = "At most this many rounds, 1 to 1000000";
     let numbers = ValueParser::Signed(1, 1000000);
     let command = with_argument(command, count(alloc, "rounds", numbers, "1000000", help));
+    let help = "Clocked rounds: each attempts what is enabled when it begins";
+    let command = with_argument(command, flag(alloc, "clocked", help));
     with_explain(alloc, command)
 }
 

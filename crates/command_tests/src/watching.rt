@@ -95,6 +95,7 @@ fn watched<P: Progress>(
         PAIR.as_bytes(),
         script.as_bytes(),
         rounds,
+        false,
         sink,
         progress,
         &mut Silent,
