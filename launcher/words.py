@@ -17,7 +17,7 @@ VERSION = "torusmem 0.2.0\n"
 WORD = (0, -1)
 COMMANDS: dict[str, tuple[list[str], dict[str, tuple[int, int] | None]]] = {
     "steps": (["MACHINE", "SCRIPT", "STEPS"], {"moves": None, "explain": None}),
-    "round": (["MACHINE", "SCRIPT"], {"rounds": (1, 1000000), "explain": None}),
+    "round": (["MACHINE", "SCRIPT"], {"rounds": (1, 1000000), "clocked": None, "explain": None}),
     "run": (["MACHINE", "SCRIPT"], {"workers": (1, 16), "turns": (1, 1000000000), "explain": None}),
     "live": (["MACHINE"], {"explain": None}),
     "schedule": (["MACHINE", "SCRIPT"], {"rounds": (1, 1000000), "explain": None}),

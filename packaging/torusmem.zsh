@@ -27,7 +27,8 @@ _torusmem() {
   case $words[2] in
   help) _describe command _torusmem_commands; return ;;
   steps) options=(--moves) ;;
-  round | schedule) options=(--rounds) ;;
+  round) options=(--rounds --clocked) ;;
+  schedule) options=(--rounds) ;;
   draw) options=(--seed --steps) ;;
   run) options=(--workers --turns) ;;
   route) options=(--reply) ;;

@@ -29,8 +29,8 @@ ShowsEnd (Steps machine script steps) texts saw old new result = Does
     (lines texts.third.items))) saw)
     (IsTextsFault (asked_of (lines texts.first.items) (lines texts.second.items)
     (lines texts.third.items))) old new result
-ShowsEnd (Round machine script rounds) texts saw old new result = Does
-    (ShowsReached (HasEndedRounds (load_by (lines texts.first.items) (lines texts.second.items))
-    rounds) saw)
+ShowsEnd (Round machine script rounds clocked) texts saw old new result = Does
+    (ShowsReached (HasEndedRounds clocked (load_by (lines texts.first.items)
+    (lines texts.second.items)) rounds) saw)
     (IsTextsFault (load_by (lines texts.first.items) (lines texts.second.items))) old new result
 ShowsEnd _ texts saw old new result = Unit {0}

@@ -19,7 +19,7 @@ use Rattle.command_jobs.specs.declared.answering.Ended.{Ended}
 -- whether the work of a job stands in `commands`
 abbrev pub is_of_commands : Job → Bool
 is_of_commands (Steps machine script steps) = true
-is_of_commands (Round machine script rounds) = true
+is_of_commands (Round machine script rounds clocked) = true
 is_of_commands (Route machine src dst class) = true
 is_of_commands (Channels machine) = true
 is_of_commands (Check report) = true
@@ -55,7 +55,7 @@ abbrev pub Answers : Job → Texts → Output → Output → Result Ended Progra
 Answers (Steps machine script steps) texts old new result = PrintsRun
     (asked_of (lines texts.first.items) (lines texts.second.items) (lines texts.third.items))
     old new (finished_in result)
-Answers (Round machine script rounds) texts old new result = PrintsRounds
+Answers (Round machine script rounds clocked) texts old new result = PrintsRounds clocked
     (load_by (lines texts.first.items) (lines texts.second.items)) rounds old new
     (finished_in result)
 Answers (Route machine src dst class) texts old new result =

@@ -65,7 +65,11 @@ pub fn answer<R: Eprint + Clock + AllocGlobal, W: Out, E: Ending>(
     let first = texts.first.as_slice();
     match *job {
         Job::Steps { .. } => by_steps(rt, texts, is_seen, out, ending),
-        Job::Round { rounds, .. } => in_rounds(rt, texts, u64::from(rounds), is_seen, out, ending),
+        Job::Round {
+            rounds,
+            clocked,
+            ..
+        } => in_rounds(rt, texts, u64::from(rounds), clocked, is_seen, out, ending),
         Job::Route {
             src,
             dst,
@@ -128,21 +132,22 @@ fn by_steps<R: Eprint + Clock + AllocGlobal, W: Out, E: Ending>(
     }
 }
 
-/// Runs in rounds, at most so many.
+/// Runs in rounds, clocked or in order, at most so many.
 fn in_rounds<R: Eprint + Clock + AllocGlobal, W: Out, E: Ending>(
     rt: &R,
     texts: &Texts,
     rounds: u64,
+    clocked: bool,
     is_seen: bool,
     out: &mut W,
     ending: &mut E,
 ) -> Result<Ended, ProgramFault>
-    ensures prints { PrintsRounds
+    ensures prints { PrintsRounds clocked
         (load_by (lines texts.now.first.items) (lines texts.now.second.items)) rounds
         (output (W.taken out.old) (W.failures out.old))
         (output (W.taken out.new) (W.failures out.new)) (finished_in result) }
     ensures ends { Does
-        (ShowsReached (HasEndedRounds
+        (ShowsReached (HasEndedRounds clocked
         (load_by (lines texts.now.first.items) (lines texts.now.second.items)) rounds)
         (E.saw ending.new))
         (IsTextsFault (load_by (lines texts.now.first.items) (lines texts.now.second.items)))
@@ -152,7 +157,9 @@ fn in_rounds<R: Eprint + Clock + AllocGlobal, W: Out, E: Ending>(
     let (machine, script) = (texts.first.as_slice(), texts.second.as_slice());
     let mut line = ProgressLine::new(rt, is_seen);
     let alloc = rt.alloc();
-    match round_text_with(alloc, machine, script, rounds, out, &mut line, ending) {
+    match round_text_with(
+        alloc, machine, script, rounds, clocked, out, &mut line, ending,
+    ) {
         Ok(finished) => {
             let course = Course::Rounds {
                 rounds: line.rounds_made(),

@@ -93,9 +93,10 @@ abbrev pub steps_app : App
 steps_app = with_rule (with_rule (with_rule (loading_app (codes "steps"))
     (needed (codes "STEPS"))) (flag_option (codes "moves"))) explain
 
--- `round MACHINE SCRIPT [--rounds R] [--explain]`
+-- `round MACHINE SCRIPT [--rounds R] [--clocked] [--explain]`
 abbrev pub round_app : App
-round_app = with_rule (with_rule (loading_app (codes "round")) rounds) explain
+round_app = with_rule (with_rule (with_rule (loading_app (codes "round")) rounds)
+    (flag_option (codes "clocked"))) explain
 
 -- `run MACHINE SCRIPT [--workers W] [--turns T] [--explain]`
 abbrev pub run_app : App

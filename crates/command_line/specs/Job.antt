@@ -34,7 +34,7 @@ class_word Reply = flag_text true
 -- of the lines of an order, and of its report; `network` of a verdict, a run and a replay
 abbrev pub name_of : Job → Text
 name_of (Steps machine script steps) = codes "steps"
-name_of (Round machine script rounds) = codes "round"
+name_of (Round machine script rounds clocked) = codes "round"
 name_of (Run machine script workers turns) = codes "run"
 name_of (Live machine) = codes "live"
 name_of (Route machine src dst class) = codes "route"
@@ -60,9 +60,11 @@ AreOf (Steps machine script steps) rows = (first_of (codes "MACHINE") rows ≡ S
     × (first_of (codes "SCRIPT") rows ≡ Some script.now)
     × (first_of (codes "STEPS") rows ≡ Some steps.now)
     × IsFlag (codes "moves") false rows
-AreOf (Round machine script rounds) rows = (first_of (codes "MACHINE") rows ≡ Some machine.now)
+AreOf (Round machine script rounds clocked) rows =
+    (first_of (codes "MACHINE") rows ≡ Some machine.now)
     × (first_of (codes "SCRIPT") rows ≡ Some script.now)
     × (number_in (codes "rounds") rows ≡ Some rounds)
+    × IsFlag (codes "clocked") clocked rows
 AreOf (Run machine script workers turns) rows = (first_of (codes "MACHINE") rows ≡ Some machine.now)
     × (first_of (codes "SCRIPT") rows ≡ Some script.now)
     × (number_in (codes "workers") rows ≡ Some workers)
@@ -106,7 +108,7 @@ AreOf (Moves machine script steps) rows = (first_of (codes "MACHINE") rows ≡ S
 -- the numbers of a job are within their limits: 1 to 1000000 rounds, 1 to 16 workers, 1 to
 -- 1000000000 turns, a depth of 1 to 8, at least one configuration
 abbrev pub AreJobLimits : Job → Type 0
-AreJobLimits (Round machine script rounds) = (1 ≤ rounds) × (rounds ≤ 1000000)
+AreJobLimits (Round machine script rounds clocked) = (1 ≤ rounds) × (rounds ≤ 1000000)
 AreJobLimits (Run machine script workers turns) =
     ((1 ≤ workers) × (workers ≤ 16)) × ((1 ≤ turns) × (turns ≤ 1000000000))
 AreJobLimits (LockUp network depth) = (1 ≤ depth) × (depth ≤ 8)

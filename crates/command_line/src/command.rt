@@ -24,11 +24,13 @@ pub enum Job<'a> {
         script: &'a str,
         steps: &'a str,
     },
-    /// Run in rounds, at most so many, until every script is finished, and print the report.
+    /// Run in rounds, clocked or in order, at most so many, until every script is finished, and print
+    /// the report.
     Round {
         machine: &'a str,
         script: &'a str,
         rounds: u32,
+        clocked: bool,
     },
     /// Run by workers in threads, so many, each with at most so many turns, and print the report.
     Run {

@@ -38,6 +38,7 @@ pub(crate) fn round_job<'a>(given: &ArgMatches<'a>) -> Option<Job<'a>>
         machine: word(given, "MACHINE")?,
         script: word(given, "SCRIPT")?,
         rounds: number_within(given, "rounds", 1000000)?,
+        clocked: flag_of(given, "clocked")?,
     })
 }
 

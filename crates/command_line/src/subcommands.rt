@@ -23,15 +23,31 @@ pub(crate) fn steps<'a>(alloc: Global) -> Making<'a>
     with_explain(alloc, command)
 }
 
-/// A subcommand of this name that runs in rounds.
-pub(crate) fn in_rounds<'a>(alloc: Global, name: &'a str, about: &'a str) -> Making<'a>
-    ensures { IsCommand
-        (with_rule (with_rule (loading_app name.entry.now) rounds) explain) result }
+/// A subcommand of this name that runs in rounds, at most so many.
+fn in_rounds<'a>(alloc: Global, name: &'a str, about: &'a str) -> Making<'a>
+    ensures { IsCommand (with_rule (loading_app name.entry.now) rounds) result }
 {
     let command = loading(alloc, name, about);
     let help = "At most this many rounds, 1 to 1000000";
     let numbers = ValueParser::Signed(1, 1000000);
-    let command = with_argument(command, count(alloc, "rounds", numbers, "1000000", help));
+    with_argument(command, count(alloc, "rounds", numbers, "1000000", help))
+}
+
+pub(crate) fn round<'a>(alloc: Global) -> Making<'a>
+    ensures { IsCommand round_app result }
+{
+    let about = "Runs in rounds until every script is finished, and prints the report";
+    let command = in_rounds(alloc, "round", about);
+    let help = "Clocked rounds: each attempts what is enabled when it begins";
+    let command = with_argument(command, flag(alloc, "clocked", help));
+    with_explain(alloc, command)
+}
+
+pub(crate) fn schedule<'a>(alloc: Global) -> Making<'a>
+    ensures { IsCommand schedule_app result }
+{
+    let about = "Runs in rounds until every script is finished, and prints the moves as steps";
+    let command = in_rounds(alloc, "schedule", about);
     with_explain(alloc, command)
 }
 

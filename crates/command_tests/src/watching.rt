@@ -82,11 +82,26 @@ fn are_alike(one: &Result<bool, ProgramFault>, other: &Result<bool, ProgramFault
     status_of(one) == status_of(other) && printed(one).as_str() == printed(other).as_str()
 }
 
-/// Runs two tiles in rounds, and is watched.
+/// Runs in clocked rounds that are watched: the scripts of two tiles, and the most rounds; how many are
+/// made, and how many operations are answered and moves made in them (as many as `tools/clocked.py`
+/// makes, which is a model of its own).
+const CLOCKED: [(&str, u64, u64, u64, u64); 8] = [
+    (SCRIPT, 1000000, 34, 2, 74),
+    (SCRIPT, 17, 17, 1, 37),
+    (SCRIPT, 16, 16, 0, 36),
+    (SCRIPT, 0, 0, 0, 0),
+    ("0 load 0\n1 load 1\n", 1000000, 13, 2, 48),
+    ("0 load 1\n1 load 0\n0 cas 0 0 1\n", 1000000, 31, 3, 123),
+    ("0 load 1\n1 load 0\n0 cas 0 0 1\n", 17, 17, 1, 77),
+    ("", 1000000, 0, 0, 0),
+];
+
+/// Runs two tiles in rounds, clocked or in order, and is watched.
 fn watched<P: Progress>(
     alloc: Global,
     script: &str,
     rounds: u64,
+    clocked: bool,
     sink: &mut Sink,
     progress: &mut P,
 ) -> Result<bool, ProgramFault> {
@@ -95,6 +110,7 @@ fn watched<P: Progress>(
         PAIR.as_bytes(),
         script.as_bytes(),
         rounds,
+        clocked,
         sink,
         progress,
         &mut Silent,
@@ -116,7 +132,7 @@ fn is_same_watched(alloc: Global, script: &str, rounds: u64, watch: &mut Watch) 
     let mut alone = Sink::whole();
     let answer = unwatched(alloc, script, rounds, &mut alone);
     let mut sink = Sink::whole();
-    let seen = watched(alloc, script, rounds, &mut sink, watch);
+    let seen = watched(alloc, script, rounds, false, &mut sink, watch);
     are_alike(&seen, &answer) && sink.bytes.as_slice() == alone.bytes.as_slice()
 }
 
@@ -129,6 +145,24 @@ fn watched_runs_are_the_same(rt: HostRuntime) {
         assert!(rt;
             is_same && watch.saw(told, made, answered, moves),
             "{script}, {rounds}, {every}"
+        );
+    }
+}
+
+/// Whether two tiles run in clocked rounds without a fault.
+fn runs_clocked(alloc: Global, script: &str, rounds: u64, watch: &mut Watch) -> bool {
+    watched(alloc, script, rounds, true, &mut Sink::whole(), watch).is_ok()
+}
+
+/// Runs in clocked rounds make as many rounds and moves as the model of the tools.
+#[test]
+fn clocked_runs_are_those_of_the_model(rt: HostRuntime) {
+    for &(script, rounds, made, answered, moves) in &CLOCKED {
+        let mut watch = Watch::new(1);
+        let has_run = runs_clocked(rt.alloc(), script, rounds, &mut watch);
+        assert!(rt;
+            has_run && watch.saw(made, made, answered, moves),
+            "{script}, {rounds}"
         );
     }
 }
@@ -199,7 +233,7 @@ fn tells_rounds(alloc: Global, script: &str, count: usize) -> bool {
         asked: 0,
         ended: 0,
     };
-    let answer = watched(alloc, script, 1000, &mut Sink::whole(), &mut recorder);
+    let answer = watched(alloc, script, 1000, false, &mut Sink::whole(), &mut recorder);
     says(&answer, "finished")
         && recorder.told.len() == count
         && recorder.asked == count
@@ -224,7 +258,7 @@ fn answers_watched(
     word: &str,
     watch: &mut Watch,
 ) -> bool {
-    let answer = watched(alloc, script, 12, &mut Sink::new(4096, failing), watch);
+    let answer = watched(alloc, script, 12, false, &mut Sink::new(4096, failing), watch);
     says(&answer, word)
 }
 

@@ -5,7 +5,7 @@ use Rattle.script.specs.declared.fault.LineFault.{LineFault}
 use Rattle.order_abstract.specs.Load.{Load}
 use Rattle.core_progress.specs.Moves.{most_moves, moves_made}
 use Rattle.core_machine.specs.Machine.{Core, IsAfter, core_after_load}
-use Rattle.machine_core.specs.Rounds.{rounds_of}
+use Rattle.clocked_laws.specs.Fewest.{rounds_from}
 use Rattle.machine_core.specs.Loading.{HasLoaded}
 use Rattle.program_fault.specs.declared.fault.ProgramFault.{ProgramFault}
 use Rattle.program_fault.specs.declared.fault.ProgramFault.TheVariants as program
@@ -24,23 +24,24 @@ pub hears_then : (old mid new : List Call → Type 0) (first more : List Call) �
 hears_then old mid new first more a b = λ calls o. subst new (append_assoc calls first more) (b (calls ++ first) (a calls o))
 
 -- the calls behind one round more
-calls_more : (l : Load) (k : ℕ) (c : Core) (calls : List Call) (wants : Bool) → AreCallsOf l k calls → IsAfter l c (rounds_of l.shape (k + 1))
+calls_more : (clocked : Bool) (l : Load) (k : ℕ) (c : Core) (calls : List Call) (wants : Bool) → AreCallsOf clocked l k calls
+    → IsAfter l c (rounds_from clocked l (k + 1))
     → ((l : Load) (c : Core) (steps : List Step) → IsAfter l c steps → c ≡ core_after_load l steps)
-    → AreCallsOf l (k + 1) (calls ++ round_calls (k + 1) (answered_by c) wants)
-calls_more l k c calls wants each after named =
+    → AreCallsOf clocked l (k + 1) (calls ++ round_calls (k + 1) (answered_by c) wants)
+calls_more clocked l k c calls wants each after named =
     let one : suc k ≡ k + 1 = omega arith in
-    let count : answered_by c ≡ answered_after l (k + 1) = ap answered_by (named l c (rounds_of l.shape (k + 1)) after) in
-    subst (λ (n : ℕ). AreCallsOf l n (calls ++ round_calls (k + 1) (answered_by c) wants)) one
+    let count : answered_by c ≡ answered_after clocked l (k + 1) = ap answered_by (named l c (rounds_from clocked l (k + 1)) after) in
+    subst (λ (n : ℕ). AreCallsOf clocked l n (calls ++ round_calls (k + 1) (answered_by c) wants)) one
     (calls, wants, each, ap (λ (n : ℕ). calls ++ round_calls (k + 1) n wants) count)
 
 -- what was heard behind the first rounds, and then behind one more
-pub round_heard : (l : Load) (k : ℕ) (c : Core) (old mid new : List Call → Type 0) → HearsSome (AreCallsOf l k) old mid
-    → IsAfter l c (rounds_of l.shape (k + 1))
+pub round_heard : (clocked : Bool) (l : Load) (k : ℕ) (c : Core) (old mid new : List Call → Type 0) → HearsSome (AreCallsOf clocked l k) old mid
+    → IsAfter l c (rounds_from clocked l (k + 1))
     → ((l : Load) (c : Core) (steps : List Step) → IsAfter l c steps → c ≡ core_after_load l steps)
-    → ((wants : Bool) × Hears mid new (round_calls (k + 1) (answered_by c) wants)) → HearsSome (AreCallsOf l (k + 1)) old new
-round_heard l k c old mid new so_far after named more = (
+    → ((wants : Bool) × Hears mid new (round_calls (k + 1) (answered_by c) wants)) → HearsSome (AreCallsOf clocked l (k + 1)) old new
+round_heard clocked l k c old mid new so_far after named more = (
   so_far.0 ++ round_calls (k + 1) (answered_by c) more.0,
-  calls_more l k c so_far.0 more.0 so_far.1 after named,
+  calls_more clocked l k c so_far.0 more.0 so_far.1 after named,
   hears_then old mid new so_far.0 (round_calls (k + 1) (answered_by c) more.0) so_far.2 more.1,
 )
 
@@ -65,14 +66,14 @@ moved_since l start c steps from after counted =
     omega (arith, no_move, first, all)
 
 -- all calls, where the report was written, or the output or memory for it failed
-pub run_told : (asked : Result Load LineFault) (most moves : ℕ) (start : Core) (loaded : HasLoaded asked start) (old mid new : List Call → Type 0)
-    → (heard : HearsSome (AreRoundsCalls loaded.load most) old mid)
-    → moves ≡ moves_made loaded.load (rounds_of loaded.load.shape heard.1.rounds)
+pub run_told : (clocked : Bool) (asked : Result Load LineFault) (most moves : ℕ) (start : Core) (loaded : HasLoaded asked start) (old mid new : List Call → Type 0)
+    → (heard : HearsSome (AreRoundsCalls clocked loaded.load most) old mid)
+    → moves ≡ moves_made loaded.load (rounds_from clocked loaded.load heard.1.rounds)
     → Hears mid new (Ended moves ∷ [])
     → (gives : Bool → List ℕ → Type 0) (before behind : Output) (r : Result Bool ProgramFault) → Does gives IsNoFault before behind r
-    → TellsRounds asked most old new r
-run_told asked most moves start loaded old mid new rounds made ended gives before behind r done =
-    let all : HearsSome (AreRunCalls asked most) old new = (
+    → TellsRounds clocked asked most old new r
+run_told clocked asked most moves start loaded old mid new rounds made ended gives before behind r done =
+    let all : HearsSome (AreRunCalls clocked asked most) old new = (
       rounds.0 ++ Ended moves ∷ [],
       record {
         load = loaded.load;
@@ -83,7 +84,7 @@ run_told asked most moves start loaded old mid new rounds made ended gives befor
       },
       hears_then old mid new rounds.0 (Ended moves ∷ []) rounds.2 ended,
     ) in
-    told_all (AreRunCalls asked most) old new all gives before behind r done
+    told_all (AreRunCalls clocked asked most) old new all gives before behind r done
 
 -- the end of a list of steps, where the report was written, or the output or memory for it failed
 pub steps_told : (asked : Result Asked LineFault) (moves : ℕ) (moved : HasMoved asked moves) (old new : List Call → Type 0)

@@ -8,10 +8,11 @@ use Rattle.report_lines.specs.Line.{text_of}
 use Rattle.machine_report.specs.Report.{machine_report}
 use Rattle.commands.specs.Rounds.{HasMadeRounds}
 
--- a machine has made the fewest rounds that finish every script, at most so many, from what was asked
--- for
-abbrev pub HasEndedRounds : Result Load LineFault → ℕ → Core → Type 0
-HasEndedRounds asked most c = (load : Load) × (asked ≡ Ok load) × HasMadeRounds load most c
+-- a machine has made the fewest rounds, clocked or in order, that finish every script, at most so
+-- many, from what was asked for
+abbrev pub HasEndedRounds : Bool → Result Load LineFault → ℕ → Core → Type 0
+HasEndedRounds clocked asked most c =
+    (load : Load) × (asked ≡ Ok load) × HasMadeRounds clocked load most c
 
 -- a text is the report of the machine that a run reached, and this machine was shown
 pub record ShowsReached (reached saw : Core → Type 0) (finished : Bool) (text : List ℕ) : Type 0 where

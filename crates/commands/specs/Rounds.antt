@@ -4,33 +4,34 @@ use Rattle.std.specs.Prelude.{◌≡◌, ℕ, List, Bool, Result, Ok}
 use Rattle.script.specs.declared.fault.LineFault.{LineFault}
 use Rattle.order_abstract.specs.Load.{Load}
 use Rattle.core_machine.specs.Machine.{Core, IsAfter}
-use Rattle.machine_core.specs.Rounds.{rounds_of}
-use Rattle.machine_core.specs.FewestRounds.{AreFewest}
+use Rattle.clocked_laws.specs.Fewest.{AreFewestFrom, rounds_from}
 use Rattle.program_fault.specs.declared.fault.ProgramFault.{ProgramFault}
 use Rattle.program_fault.specs.Done.{Does, Output}
 use Rattle.program_fault.specs.Outcome.{IsTextsFault}
 use Rattle.commands.specs.Run.{Asked, IsRunText}
 
--- a load that is to make so many rounds
-abbrev pub asked_rounds : Load → ℕ → Asked
-asked_rounds l k = record { load = l; steps = rounds_of l.shape k }
+-- a load that is to make so many rounds, clocked or in order
+abbrev pub asked_rounds : Bool → Load → ℕ → Asked
+asked_rounds clocked l k = record { load = l; steps = rounds_from clocked l k }
 
--- a machine has made the fewest rounds that finish every script, at most so many, from the load
-pub record HasMadeRounds (l : Load) (most : ℕ) (c : Core) : Type 0 where
+-- a machine has made the fewest rounds, clocked or in order, that finish every script, at most so
+-- many, from the load
+pub record HasMadeRounds (clocked : Bool) (l : Load) (most : ℕ) (c : Core) : Type 0 where
   pub rounds : ℕ
-  pub fewest : AreFewest l most rounds
-  pub after : IsAfter l c (rounds_of l.shape rounds)
+  pub fewest : AreFewestFrom clocked l most rounds
+  pub after : IsAfter l c (rounds_from clocked l rounds)
 
--- a text is the report of the run of the fewest rounds that finish every script, at most so many
-pub record IsRoundText (asked : Result Load LineFault) (most : ℕ) (finished : Bool)
+-- a text is the report of the run of the fewest rounds, clocked or in order, that finish every
+-- script, at most so many
+pub record IsRoundText (clocked : Bool) (asked : Result Load LineFault) (most : ℕ) (finished : Bool)
     (text : List ℕ) : Type 0 where
   pub load : Load
   pub read : asked ≡ Ok load
   pub rounds : ℕ
-  pub fewest : AreFewest load most rounds
-  pub report : IsRunText (Ok (asked_rounds load rounds)) finished text
+  pub fewest : AreFewestFrom clocked load most rounds
+  pub report : IsRunText (Ok (asked_rounds clocked load rounds)) finished text
 
--- the report of the run in rounds was printed
-abbrev pub PrintsRounds : Result Load LineFault → ℕ → Output → Output → Result Bool ProgramFault
-    → Type 0
-PrintsRounds asked most = Does (IsRoundText asked most) (IsTextsFault asked)
+-- the report of the run in rounds, clocked or in order, was printed
+abbrev pub PrintsRounds : Bool → Result Load LineFault → ℕ → Output → Output
+    → Result Bool ProgramFault → Type 0
+PrintsRounds clocked asked most = Does (IsRoundText clocked asked most) (IsTextsFault asked)

@@ -1,8 +1,9 @@
-ghost use Rattle.std.specs.Prelude.{◌≡◌, Bool, IfErr, IfOk, []};
+ghost use Rattle.std.specs.Prelude.{◌≡◌, Bool, IfErr, IfOk, [], false};
 ghost use Rattle.std.specs.Str.Lines.{lines};
 ghost use Rattle.order_abstract.specs.Load.{Load};
-ghost use Rattle.core_machine.specs.Machine.{IsAfter};
+ghost use Rattle.core_machine.specs.Machine.{IsAfter, RunsOn};
 ghost use Rattle.machine_core.specs.Loading.{HasLoaded, load_by};
+ghost use Rattle.clocked_laws.specs.Fewest.{round_behind};
 ghost use Rattle.program_fault.specs.Done.{Does, output};
 ghost use Rattle.program_fault.specs.Outcome.{IsReadFault, IsTextsFault};
 ghost use Rattle.commands.specs.Ends.{HasEndedRounds, ShowsReached};
@@ -69,7 +70,7 @@ pub fn round_text<A: Allocator + Copy, W: Out>(
     rounds: u64,
     out: &mut W,
 ) -> Result<bool, ProgramFault>
-    ensures { PrintsRounds (load_by (lines machine.now) (lines scripts.now)) rounds
+    ensures { PrintsRounds false (load_by (lines machine.now) (lines scripts.now)) rounds
         (output (W.taken out.old) (W.failures out.old))
         (output (W.taken out.new) (W.failures out.new)) result }
 {
@@ -78,17 +79,19 @@ pub fn round_text<A: Allocator + Copy, W: Out>(
         machine,
         scripts,
         rounds,
+        false,
         out,
         &mut Silent,
         &mut Silent,
     )
 }
 
-/// Does what `round_text` does, and tells `progress` how far the run is: after each round it asks
-/// whether that is wanted, and where it is, tells how many rounds are made and how many operations
-/// answered; and behind the last round it tells the end, with how many moves all rounds made. A fault
-/// of the texts, and memory refused for the machine, come before it is told anything. `ending` is
-/// shown the machine whose report is printed.
+/// Does what `round_text` does, and tells `progress` how far the run is. Where `clocked` is true, the
+/// rounds are clocked, with the turns from 0 on. After each round it asks `progress` whether that is
+/// wanted, and if so tells how many rounds are made and how many operations are answered. Behind the
+/// last round it tells the end, with how many moves all rounds made. A fault of the texts, and memory
+/// refused for the machine, come before it tells anything. `ending` is shown the machine whose report
+/// is printed.
 ///
 /// Errors: as `round_text`.
 pub fn round_text_with<A: Allocator + Copy, W: Out, P: Progress, E: Ending>(
@@ -96,17 +99,19 @@ pub fn round_text_with<A: Allocator + Copy, W: Out, P: Progress, E: Ending>(
     machine: &[u8],
     scripts: &[u8],
     rounds: u64,
+    clocked: bool,
     out: &mut W,
     progress: &mut P,
     ending: &mut E,
 ) -> Result<bool, ProgramFault>
-    ensures prints { PrintsRounds (load_by (lines machine.now) (lines scripts.now)) rounds
+    ensures prints { PrintsRounds clocked (load_by (lines machine.now) (lines scripts.now)) rounds
         (output (W.taken out.old) (W.failures out.old))
         (output (W.taken out.new) (W.failures out.new)) result }
-    ensures told { TellsRounds (load_by (lines machine.now) (lines scripts.now)) rounds
+    ensures told { TellsRounds clocked (load_by (lines machine.now) (lines scripts.now)) rounds
         (P.heard progress.old) (P.heard progress.new) result }
     ensures ends { Does
-        (ShowsReached (HasEndedRounds (load_by (lines machine.now) (lines scripts.now)) rounds)
+        (ShowsReached
+        (HasEndedRounds clocked (load_by (lines machine.now) (lines scripts.now)) rounds)
         (E.saw ending.new))
         (IsTextsFault (load_by (lines machine.now) (lines scripts.now)))
         (output (W.taken out.old) (W.failures out.old))
@@ -114,7 +119,7 @@ pub fn round_text_with<A: Allocator + Copy, W: Out, P: Progress, E: Ending>(
 {
     let mut machine = loaded(alloc, machine, scripts)?;
     let most = machine.moves_left();
-    make_rounds(&mut machine, rounds, progress);
+    make_rounds(&mut machine, rounds, clocked, progress);
     moves_are_counted();
     progress.ended(moves_since(most, &machine));
     ending.shown(&machine);
@@ -136,19 +141,38 @@ pub fn loaded<A: Allocator + Copy>(
     Ok(load(alloc, machine, scripts)?)
 }
 
-/// Makes rounds until every script is finished, and at most so many, and tells `progress` of them.
-fn make_rounds<A: Allocator, P: Progress>(machine: &mut Machine<A>, rounds: u64, progress: &mut P)
-    ensures made { (l : Load) → IsAfter l machine.old [] → HasMadeRounds l rounds machine.new }
+/// Makes rounds, clocked or in order, until every script is finished, and at most so many, and tells
+/// `progress` of them.
+fn make_rounds<A: Allocator, P: Progress>(
+    machine: &mut Machine<A>,
+    rounds: u64,
+    clocked: bool,
+    progress: &mut P,
+)
+    ensures made { (l : Load) → IsAfter l machine.old []
+        → HasMadeRounds clocked l rounds machine.new }
     ensures told { (l : Load) → IsAfter l machine.old []
-        → HearsSome (AreRoundsCalls l rounds) (P.heard progress.old) (P.heard progress.new) }
+        → HearsSome (AreRoundsCalls clocked l rounds) (P.heard progress.old)
+        (P.heard progress.new) }
 {
     steps_decide_the_machine();
     for before in 0..rounds {
         if machine.finished() {
             return;
         }
-        machine.round();
+        make_round(machine, clocked, before);
         tell_round(machine, before + 1, progress);
+    }
+}
+
+/// Makes the round behind so many, clocked or in order.
+fn make_round<A: Allocator>(machine: &mut Machine<A>, clocked: bool, before: u64)
+    ensures { RunsOn machine.old machine.new (round_behind clocked machine.old before) }
+{
+    if clocked {
+        machine.clocked_round(before);
+    } else {
+        machine.round();
     }
 }
 

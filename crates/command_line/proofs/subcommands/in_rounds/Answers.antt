@@ -2,5 +2,4 @@
 use Rattle.command_line.proofs.subcommands.in_rounds.Goals as goal
 
 pub returns : goal.returns
-returns c = c.with_explain.ensures _
-    (c.with_argument-command.ensures _ _ c.loading-command.ensures c.count.ensures.rule c.count.ensures.local)
+returns c = c.with_argument.ensures _ _ c.loading-command.ensures c.count.ensures.rule c.count.ensures.local

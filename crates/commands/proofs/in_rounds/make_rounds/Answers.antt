@@ -2,28 +2,28 @@
 use Rattle.std.proofs.Common.{◌≡◌, ℕ, ◌+◌, [], refl, sym, subst, ◌∙◌, arith}
 use Rattle.order_abstract.specs.Load.{Load}
 use Rattle.core_machine.specs.Machine.{IsAfter}
-use Rattle.machine_core.specs.FewestRounds.{AreFewest}
+use Rattle.clocked_laws.specs.Fewest.{AreFewestFrom}
 use Rattle.commands.specs.Telling.{AreCallsOf}
-use Rattle.commands.proofs.InRounds.{HasMade, as_allowed, enough, none_made, one_more}
+use Rattle.clocked_laws.proofs.Rounds.{HasMade, as_allowed, enough, none_made, one_more}
 use Rattle.commands.proofs.Telling.{hears_none, round_heard}
 use Rattle.commands.proofs.in_rounds.make_rounds.Goals as goal
 
 pub loop-before-init : goal.loop-before-init
 loop-before-init g c = record {
-  made = λ l start. none_made l c.args.machine.now start;
+  made = λ l start. none_made c.args.clocked l c.args.machine.now start;
   told = λ l start. ([], refl, hears_none (g.P.Progress.heard c.args.progress.now));
 }
 
 pub loop-before-preserved : goal.loop-before-preserved
 loop-before-preserved g c =
     let k : ℕ = c.loop-before.before in
-    let more : (l : Load) → IsAfter l c.args.machine.now [] → HasMade l (k + 1) c.round.new.self = λ l start.
-    one_more l k c.loop-before.machine c.round.new.self (c.loop-before.invariant.made l start)
-    (sym c.if-finished.false ∙ c.finished.ensures.value) (λ steps h. c.round.ensures.runs_on l steps h) in
+    let more : (l : Load) → IsAfter l c.args.machine.now [] → HasMade c.args.clocked l (k + 1) c.make_round.new.machine = λ l start.
+    one_more c.args.clocked l k c.loop-before.machine c.make_round.new.machine (c.loop-before.invariant.made l start)
+    (sym c.if-finished.false ∙ c.finished.ensures.value) (λ steps h. c.make_round.ensures l steps h) in
     record {
       made = more;
       told = λ l start.
-          round_heard l k c.round.new.self (g.P.Progress.heard c.args.progress.now) (g.P.Progress.heard c.loop-before.progress)
+          round_heard c.args.clocked l k c.make_round.new.machine (g.P.Progress.heard c.args.progress.now) (g.P.Progress.heard c.loop-before.progress)
           (g.P.Progress.heard c.tell_round.new.progress)
           (c.loop-before.invariant.told l start) (more l start).after c.steps_decide_the_machine.ensures.named c.tell_round.ensures;
     }
@@ -32,8 +32,8 @@ pub returns-then-finished : goal.returns-then-finished
 returns-then-finished g c =
     let k : ℕ = c.loop-before.before in
     let finished = sym c.if-finished.true ∙ c.finished.ensures.value in
-    let fewest : (l : Load) → IsAfter l c.args.machine.now [] → AreFewest l c.args.rounds k =
-    λ l start. enough l c.args.rounds k c.loop-before.machine (c.loop-before.invariant.made l start) c.loop-before-test.true finished in
+    let fewest : (l : Load) → IsAfter l c.args.machine.now [] → AreFewestFrom c.args.clocked l c.args.rounds k =
+    λ l start. enough c.args.clocked l c.args.rounds k c.loop-before.machine (c.loop-before.invariant.made l start) c.loop-before-test.true finished in
     record {
       made = λ l start. record { rounds = k; fewest = fewest l start; after = (c.loop-before.invariant.made l start).after };
       told = λ l start. (let h = c.loop-before.invariant.told l start in (h.0, record { rounds = k; fewest = fewest l start; each = h.1 }, h.2));
@@ -42,13 +42,13 @@ returns-then-finished g c =
 pub returns : goal.returns
 returns g c =
     let end : c.loop-before.before ≡ c.args.rounds = omega arith in
-    let made : (l : Load) → IsAfter l c.args.machine.now [] → HasMade l c.args.rounds c.loop-before.machine =
-    λ l start. subst (λ (k : ℕ). HasMade l k c.loop-before.machine) end (c.loop-before.invariant.made l start) in
-    let fewest : (l : Load) → IsAfter l c.args.machine.now [] → AreFewest l c.args.rounds c.args.rounds =
-    λ l start. as_allowed l c.args.rounds c.loop-before.machine (made l start) in
+    let made : (l : Load) → IsAfter l c.args.machine.now [] → HasMade c.args.clocked l c.args.rounds c.loop-before.machine =
+    λ l start. subst (λ (k : ℕ). HasMade c.args.clocked l k c.loop-before.machine) end (c.loop-before.invariant.made l start) in
+    let fewest : (l : Load) → IsAfter l c.args.machine.now [] → AreFewestFrom c.args.clocked l c.args.rounds c.args.rounds =
+    λ l start. as_allowed c.args.clocked l c.args.rounds c.loop-before.machine (made l start) in
     record {
       made = λ l start. record { rounds = c.args.rounds; fewest = fewest l start; after = (made l start).after };
       told = λ l start.
           (let h = c.loop-before.invariant.told l start in
-          (h.0, record { rounds = c.args.rounds; fewest = fewest l start; each = subst (λ (k : ℕ). AreCallsOf l k h.0) end h.1 }, h.2));
+          (h.0, record { rounds = c.args.rounds; fewest = fewest l start; each = subst (λ (k : ℕ). AreCallsOf c.args.clocked l k h.0) end h.1 }, h.2));
     }

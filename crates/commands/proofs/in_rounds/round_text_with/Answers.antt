@@ -4,7 +4,7 @@ use Rattle.std.proofs.lemmas.Result.{err_from_is_err_and}
 use Rattle.std.specs.Str.Lines.{lines}
 use Rattle.script.specs.declared.fault.LineFault.{LineFault}
 use Rattle.order_abstract.specs.Load.{Load}
-use Rattle.machine_core.specs.Rounds.{rounds_of}
+use Rattle.clocked_laws.specs.Fewest.{rounds_from}
 use Rattle.core_progress.specs.Moves.{moves_made}
 use Rattle.program_fault.specs.Outcome.{IsReadFault, IsTextsFault}
 use Rattle.commands.specs.Run.{IsNoFault, IsOfMachine}
@@ -13,7 +13,8 @@ use Rattle.commands.specs.Ends.{HasEndedRounds, ShowsReached}
 use Rattle.commands.specs.Rounds.{HasMadeRounds, IsRoundText}
 use Rattle.commands.specs.Telling.{AreRoundsCalls, AreRunCalls, HearsSome}
 use Rattle.commands.proofs.Asked.{does_more}
-use Rattle.commands.proofs.InRounds.{fewest_once, rounds_printed}
+use Rattle.clocked_laws.proofs.Rounds.{fewest_once}
+use Rattle.commands.proofs.InRounds.{rounds_printed}
 use Rattle.commands.proofs.Telling.{moved_since, none_told, run_told}
 use Rattle.commands.proofs.in_rounds.round_text_with.Goals as goal
 
@@ -21,15 +22,15 @@ pub returns-in_err-machine-clause-told : goal.returns-in_err-machine-clause-told
 returns-in_err-machine-clause-told g c =
     let p = err_from_is_err_and c.from_residual.result c.from_residual.ensures.1 in
     let asked : Result Load LineFault = load_by (lines c.args.machine.now) (lines c.args.scripts.now) in
-    rw p.1 (none_told asked (AreRunCalls asked c.args.rounds) (g.P.Progress.heard c.args.progress.now) p.0 (subst (IsReadFault asked) (sym p.2) c.in_err-machine.ensures.err))
+    rw p.1 (none_told asked (AreRunCalls c.args.clocked asked c.args.rounds) (g.P.Progress.heard c.args.progress.now) p.0 (subst (IsReadFault asked) (sym p.2) c.in_err-machine.ensures.err))
 
 pub returns-clause-prints : goal.returns-clause-prints
 returns-clause-prints g c =
     let asked : Result Load LineFault = load_by (lines c.args.machine.now) (lines c.args.scripts.now) in
     let loaded : HasLoaded asked c.in_ok-machine.machine = c.in_ok-machine.ensures.ok in
-    let made : HasMadeRounds loaded.load c.args.rounds c.make_rounds.new.machine = c.make_rounds.ensures.made loaded.load loaded.after in
-    does_more (IsOfMachine c.make_rounds.new.machine) (IsRoundText asked c.args.rounds) IsNoFault (IsTextsFault asked) _ _ c.print_run.result
-    (λ finished text printed. rounds_printed asked c.args.rounds c.in_ok-machine.machine c.make_rounds.new.machine finished text loaded made
+    let made : HasMadeRounds c.args.clocked loaded.load c.args.rounds c.make_rounds.new.machine = c.make_rounds.ensures.made loaded.load loaded.after in
+    does_more (IsOfMachine c.make_rounds.new.machine) (IsRoundText c.args.clocked asked c.args.rounds) IsNoFault (IsTextsFault asked) _ _ c.print_run.result
+    (λ finished text printed. rounds_printed c.args.clocked asked c.args.rounds c.in_ok-machine.machine c.make_rounds.new.machine finished text loaded made
     c.steps_decide_the_machine.ensures.named printed)
     (λ e h. absurd h) c.print_run.ensures
 
@@ -37,17 +38,17 @@ pub returns-clause-told : goal.returns-clause-told
 returns-clause-told g c =
     let asked : Result Load LineFault = load_by (lines c.args.machine.now) (lines c.args.scripts.now) in
     let loaded : HasLoaded asked c.in_ok-machine.machine = c.in_ok-machine.ensures.ok in
-    let heard : HearsSome (AreRoundsCalls loaded.load c.args.rounds) (g.P.Progress.heard c.args.progress.now) (g.P.Progress.heard c.make_rounds.new.progress) =
+    let heard : HearsSome (AreRoundsCalls c.args.clocked loaded.load c.args.rounds) (g.P.Progress.heard c.args.progress.now) (g.P.Progress.heard c.make_rounds.new.progress) =
     c.make_rounds.ensures.told loaded.load loaded.after in
-    let made : HasMadeRounds loaded.load c.args.rounds c.make_rounds.new.machine = c.make_rounds.ensures.made loaded.load loaded.after in
-    let same : made.rounds ≡ heard.1.rounds = fewest_once loaded.load c.args.rounds made.rounds heard.1.rounds made.fewest heard.1.fewest in
-    let moves : c.moves_since.result ≡ moves_made loaded.load (rounds_of loaded.load.shape heard.1.rounds) =
+    let made : HasMadeRounds c.args.clocked loaded.load c.args.rounds c.make_rounds.new.machine = c.make_rounds.ensures.made loaded.load loaded.after in
+    let same : made.rounds ≡ heard.1.rounds = fewest_once c.args.clocked loaded.load c.args.rounds made.rounds heard.1.rounds made.fewest heard.1.fewest in
+    let moves : c.moves_since.result ≡ moves_made loaded.load (rounds_from c.args.clocked loaded.load heard.1.rounds) =
     c.moves_since.ensures
     ∙ (ap (λ (n : ℕ). n - c.make_rounds.new.machine.moves_left) c.moves_left-most.ensures.value
-    ∙ (moved_since loaded.load c.in_ok-machine.machine c.make_rounds.new.machine (rounds_of loaded.load.shape made.rounds) loaded.after made.after
+    ∙ (moved_since loaded.load c.in_ok-machine.machine c.make_rounds.new.machine (rounds_from c.args.clocked loaded.load made.rounds) loaded.after made.after
     c.moves_are_counted.ensures.all
-    ∙ ap (λ (k : ℕ). moves_made loaded.load (rounds_of loaded.load.shape k)) same)) in
-    run_told asked c.args.rounds c.moves_since.result c.in_ok-machine.machine loaded
+    ∙ ap (λ (k : ℕ). moves_made loaded.load (rounds_from c.args.clocked loaded.load k)) same)) in
+    run_told c.args.clocked asked c.args.rounds c.moves_since.result c.in_ok-machine.machine loaded
     (g.P.Progress.heard c.args.progress.now) (g.P.Progress.heard c.make_rounds.new.progress) (g.P.Progress.heard c.ended.new.self)
     heard moves c.ended.ensures
     (IsOfMachine c.make_rounds.new.machine) _ _ c.print_run.result c.print_run.ensures
@@ -56,8 +57,8 @@ pub returns-clause-ends : goal.returns-clause-ends
 returns-clause-ends g c =
     let asked : Result Load LineFault = load_by (lines c.args.machine.now) (lines c.args.scripts.now) in
     let loaded : HasLoaded asked c.in_ok-machine.machine = c.in_ok-machine.ensures.ok in
-    let made : HasMadeRounds loaded.load c.args.rounds c.make_rounds.new.machine = c.make_rounds.ensures.made loaded.load loaded.after in
-    does_more (IsOfMachine c.make_rounds.new.machine) (ShowsReached (HasEndedRounds asked c.args.rounds) (g.E.Ending.saw c.shown.new.self)) IsNoFault
+    let made : HasMadeRounds c.args.clocked loaded.load c.args.rounds c.make_rounds.new.machine = c.make_rounds.ensures.made loaded.load loaded.after in
+    does_more (IsOfMachine c.make_rounds.new.machine) (ShowsReached (HasEndedRounds c.args.clocked asked c.args.rounds) (g.E.Ending.saw c.shown.new.self)) IsNoFault
     (IsTextsFault asked) _ _ c.print_run.result
     (λ finished text printed. record {
       end = c.make_rounds.new.machine;
