@@ -21,11 +21,12 @@ class Fill(NamedTuple):
 
 
 class Flit(NamedTuple):
-    """Where a flit goes, and whether it is its packet's first and its last one."""
+    """Where a flit goes, whether it is its packet's first and its last one, and the number of its packet where these have one."""
 
     goal: int
     head: bool
     tail: bool
+    packet: int = 0
 
 
 def route(net: Network, i: int, j: int) -> List[int]:
