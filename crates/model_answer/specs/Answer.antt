@@ -1,5 +1,5 @@
 -- The answer to the question which memory models a log obeys (this project's own format).
-use Rattle.std.specs.Prelude.{◌≡◌, ◌⊎◌, ℕ, ◌<◌, Bool, true, false, not, List, [], ◌++◌, Option}
+use Rattle.std.specs.Prelude.{◌≡◌, ◌⊎◌, ℕ, ◌<◌, Bool, true, false, not, ◌&&◌, List, [], ◌++◌, Option}
 use Rattle.std.specs.Prelude.{Some, None, Ok, Err, codes, length, if◌then◌else◌}
 use Rattle.lexer.specs.Outcome.{refusal_at}
 use Rattle.memory_models.specs.declared.kinds.Operation.{Operation}
@@ -66,13 +66,13 @@ weakest_broken o =
     else (if not o.sc then Some Sc
     else None))))
 
--- the strongest model that it obeys
-abbrev pub strongest_obeyed : Obeys → Option MemoryModel
-strongest_obeyed o =
+-- the strongest model that it obeys; the rule of fences counts only where the log has its fences
+abbrev pub strongest_obeyed : Bool → Obeys → Option MemoryModel
+strongest_obeyed fences o =
     if o.sc then Some Sc
     else (if o.tso then Some Tso
     else (if o.pso then Some Pso
-    else (if o.fenced then Some Fenced
+    else (if o.fenced && fences then Some Fenced
     else (if o.coherent then Some Coherent
     else None))))
 
@@ -124,9 +124,9 @@ IsOrderPart t v None part = part ≡ []
 IsOrderPart t v (Some model) part = IsOrderOf t model (verdict_by model v) part
 
 -- nothing where no order is asked for
-abbrev pub IsAskedPart : {A : Type 0} → LogTrace A → Verdicts A → Bool → List ℕ → Type 0
-IsAskedPart t v false part = part ≡ []
-IsAskedPart t v true part = IsOrderPart t v (strongest_obeyed (obeys_of v)) part
+abbrev pub IsAskedPart : {A : Type 0} → LogTrace A → Verdicts A → Bool → Bool → List ℕ → Type 0
+IsAskedPart t v fences false part = part ≡ []
+IsAskedPart t v fences true part = IsOrderPart t v (strongest_obeyed fences (obeys_of v)) part
 
 -- what is printed: the models, the cycle, the order
 pub record IsAnswerText {A : Type 0} (t : LogTrace A) (v : Verdicts A) (options : Options)
@@ -135,8 +135,8 @@ pub record IsAnswerText {A : Type 0} (t : LogTrace A) (v : Verdicts A) (options 
     pub cycle : List ℕ
     pub order : List ℕ
     pub cycle_is : IsCyclePart t v (weakest_broken (obeys_of v)) cycle
-    pub order_is : IsAskedPart t v options.order order
-    pub is : text ≡ (obeys_text (obeys_of v) ++ cycle) ++ order
+    pub order_is : IsAskedPart t v options.fences options.order order
+    pub is : text ≡ (obeys_text options.fences (obeys_of v) ++ cycle) ++ order
 
 -- the answer on a trace: which models it obeys, and what is printed
 pub record IsAnswer {A : Type 0} (t : LogTrace A) (options : Options) (a : Answer A) : Type 0 where

@@ -26,9 +26,14 @@ abbrev pub model_line : MemoryModel → Bool → List ℕ
 model_line model true = model_word model ++ codes " yes\n"
 model_line model false = model_word model ++ codes " no\n"
 
+-- the line on fences; a log that doesn't say where they stand gets neither yes nor no
+abbrev pub fenced_line : Bool → Bool → List ℕ
+fenced_line true obeyed = model_line Fenced obeyed
+fenced_line false obeyed = codes "fenced not told: a report has no fences\n"
+
 -- the lines of the models, weakest first
-abbrev pub obeys_text : Obeys → List ℕ
-obeys_text o = model_line Coherent o.coherent ++ model_line Fenced o.fenced
+abbrev pub obeys_text : Bool → Obeys → List ℕ
+obeys_text fences o = model_line Coherent o.coherent ++ fenced_line fences o.fenced
     ++ model_line Pso o.pso ++ model_line Tso o.tso ++ model_line Sc o.sc
 
 -- some values, each behind a space

@@ -22,6 +22,9 @@ use std::alloc::{AllocError, Allocator, Global};
 pub struct Options {
     /// An order of the strongest model that the log obeys.
     pub order: bool,
+    /// Whether the log says where fences stand. If not, the line on fences has neither yes nor no, and no
+    /// order by their rule is printed.
+    pub fences: bool,
 }
 
 /// Which models a log obeys, and what is printed of it.
@@ -50,15 +53,16 @@ fn put_asked<A: Allocator + Copy>(
     text: &mut Vec<u8, A>,
     trace: &LogTrace<A>,
     verdicts: &Verdicts<A>,
+    fences: bool,
     order: bool,
 ) -> Result<(), AllocError>
     ensures { OnOk result (AddsPart text.old.items text.new.items
-        (IsAskedPart trace.now verdicts.now order)) }
+        (IsAskedPart trace.now verdicts.now fences order)) }
 {
     if !order {
         return Ok(());
     }
-    put_strongest(alloc, text, trace, verdicts)?;
+    put_strongest(alloc, text, trace, verdicts, fences)?;
     Ok(())
 }
 
@@ -78,9 +82,10 @@ fn text_of<A: Allocator + Copy>(
     ensures { IfOk result (λ text. IsAnswerText trace.now verdicts.now options text.items) }
 {
     let mut text = Vec::new(alloc);
-    put_obeys(&mut text, verdicts.obeys())?;
+    let Options { order, fences } = options;
+    put_obeys(&mut text, fences, verdicts.obeys())?;
     put_failing(alloc, &mut text, trace, verdicts)?;
-    put_asked(alloc, &mut text, trace, verdicts, options.order)?;
+    put_asked(alloc, &mut text, trace, verdicts, fences, order)?;
     Ok(text)
 }
 

@@ -14,9 +14,9 @@ use model_text::placing::places_in;
 use model_text::trace::logged_at;
 use std::alloc::{AllocError, Allocator};
 
-/// The strongest model that a trace obeys.
-fn strongest_obeyed(obeys: Obeys) -> Option<MemoryModel>
-    ensures { result ≡ strongest_obeyed obeys }
+/// The strongest model that a trace obeys. The rule of fences counts only where the log has its fences.
+fn strongest_obeyed(fences: bool, obeys: Obeys) -> Option<MemoryModel>
+    ensures { result ≡ strongest_obeyed fences obeys }
 {
     if obeys.sc {
         return Some(MemoryModel::Sc);
@@ -27,7 +27,7 @@ fn strongest_obeyed(obeys: Obeys) -> Option<MemoryModel>
     if obeys.pso {
         return Some(MemoryModel::Pso);
     }
-    if obeys.fenced {
+    if obeys.fenced && fences {
         return Some(MemoryModel::Fenced);
     }
     if obeys.coherent {
@@ -108,11 +108,12 @@ pub(crate) fn put_strongest<A: Allocator + Copy>(
     text: &mut Vec<u8, A>,
     trace: &LogTrace<A>,
     verdicts: &Verdicts<A>,
+    fences: bool,
 ) -> Result<(), AllocError>
     ensures { OnOk result (AddsPart text.old.items text.new.items
-        (IsOrderPart trace.now verdicts.now (strongest_obeyed (obeys_of verdicts.now)))) }
+        (IsOrderPart trace.now verdicts.now (strongest_obeyed fences (obeys_of verdicts.now)))) }
 {
-    match strongest_obeyed(verdicts.obeys()) {
+    match strongest_obeyed(fences, verdicts.obeys()) {
         None => Ok(()),
         Some(model) => {
             put_verdict_of(alloc, text, trace, model, verdicts.by(model))?;

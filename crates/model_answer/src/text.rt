@@ -1,7 +1,7 @@
 //! The text of an answer.
 
 ghost use Rattle.std.specs.Prelude.{◌≡◌, ◌++◌, OnOk, decimal, codes};
-ghost use Rattle.model_answer.specs.Texts.{model_line, obeys_text, operation_text, values_text};
+ghost use Rattle.model_answer.specs.Texts.{model_line, obeys_text, fenced_line, operation_text, values_text};
 ghost use Rattle.packet.specs.Names.{values_listed};
 ghost use Rattle.model_answer.specs.Texts.{step_text, fence_or_operation};
 
@@ -52,12 +52,31 @@ fn put_verdict<A: Allocator>(
     }
 }
 
+/// Adds the line on fences. A log that doesn't say where they stand gets neither yes nor no.
+fn put_fenced<A: Allocator>(
+    text: &mut Vec<u8, A>,
+    fences: bool,
+    yes: bool,
+) -> Result<(), AllocError>
+    ensures { OnOk result (text.new.items ≡ text.old.items ++ fenced_line fences yes) }
+{
+    if fences {
+        put_verdict(text, MemoryModel::Fenced, yes)
+    } else {
+        put(text, b"fenced not told: a report has no fences\n")
+    }
+}
+
 /// Adds the lines of the models, weakest first.
-pub(crate) fn put_obeys<A: Allocator>(text: &mut Vec<u8, A>, obeys: Obeys) -> Result<(), AllocError>
-    ensures { OnOk result (text.new.items ≡ text.old.items ++ obeys_text obeys) }
+pub(crate) fn put_obeys<A: Allocator>(
+    text: &mut Vec<u8, A>,
+    fences: bool,
+    obeys: Obeys,
+) -> Result<(), AllocError>
+    ensures { OnOk result (text.new.items ≡ text.old.items ++ obeys_text fences obeys) }
 {
     put_verdict(text, MemoryModel::Coherent, obeys.coherent)?;
-    put_verdict(text, MemoryModel::Fenced, obeys.fenced)?;
+    put_fenced(text, fences, obeys.fenced)?;
     put_verdict(text, MemoryModel::Pso, obeys.pso)?;
     put_verdict(text, MemoryModel::Tso, obeys.tso)?;
     put_verdict(text, MemoryModel::Sc, obeys.sc)

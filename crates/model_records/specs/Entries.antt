@@ -19,6 +19,7 @@ use Rattle.model_text.specs.Made.{LogLines, add_operation, add_step, nothing_log
 use Rattle.model_text.specs.Sources.{found, add_reply, add_served, add_source, add_write, read_write}
 use Rattle.model_records.specs.declared.entry.LogEntry.{LogEntry}
 use Rattle.model_records.specs.declared.entry.LogEntry.TheVariants as entry
+use Rattle.model_records.specs.declared.entry.LineEntry.{LineEntry}
 use Rattle.model_records.specs.declared.entry.Named.{Named}
 
 -- the number that a reply tells; none for `ok`
@@ -74,18 +75,42 @@ after_entry r number (entry.ReadOpening name) = opening_read r name
 after_entry r number (entry.Served name) = entry_served r name
 after_entry r number (entry.Replied name reply) = entry_replied r number name reply
 
--- the log of these entries, of which the first has this number, after what was read
-abbrev pub entries_from : LogLines → ℕ → List LogEntry → Result LogLines (Refusal LogReason)
-entries_from r number [] = log_ended r number
-entries_from r number (e ∷ entries) =
-    then_lines number (after_entry r number e) (λ next. entries_from next (number + 1) entries)
+-- the log of some items, of which the first has this number, after what was read: where an item
+-- stands, by its number, and what it makes of a log there
+abbrev pub log_from : {E : Type 0} → (ℕ → E → ℕ) → (LogLines → ℕ → E → Result LogLines LogReason)
+    → LogLines → ℕ → List E → Result LogLines (Refusal LogReason)
+log_from line_of after r number [] = log_ended r number
+log_from line_of after r number (e ∷ items) =
+    then_lines (line_of number e) (after r (line_of number e) e)
+    (λ next. log_from line_of after next (number + 1) items)
 
 -- a log of a memory of so many words, of which nothing else is said so far
 abbrev pub begun_log : LogLines → ℕ → Result LogLines LogReason
 begun_log r words = head_logged r (words_read (record (r.head) { begun = true }) words)
 
--- the log that entries are, over a memory of so many words; or which entry is refused first, by its
--- number from 1, and why
+-- the log of all items, over a memory of so many words; or where the first bad item stands, and why it
+-- is refused
+abbrev pub log_of : {E : Type 0} → (ℕ → E → ℕ) → (LogLines → ℕ → E → Result LogLines LogReason) → ℕ
+    → List E → Result LogLines (Refusal LogReason)
+log_of line_of after words items = then_lines 0 (begun_log nothing_logged words)
+    (λ first. log_from line_of after first 1 items)
+
+-- an item of an array stands at its number, from 1
+abbrev pub numbered : {E : Type 0} → ℕ → E → ℕ
+numbered number e = number
+
+-- the log that entries are
 abbrev pub log_of_entries : ℕ → List LogEntry → Result LogLines (Refusal LogReason)
-log_of_entries words entries =
-    then_lines 0 (begun_log nothing_logged words) (λ first. entries_from first 1 entries)
+log_of_entries words entries = log_of numbered after_entry words entries
+
+-- an entry of a text stands at its line
+abbrev pub line_of_entry : ℕ → LineEntry → ℕ
+line_of_entry number e = e.line
+
+-- what an entry of a text makes of a log, the one of this line
+abbrev pub after_line_entry : LogLines → ℕ → LineEntry → Result LogLines LogReason
+after_line_entry r line e = after_entry r line e.entry
+
+-- the log that entries of a text are
+abbrev pub log_of_lines : ℕ → List LineEntry → Result LogLines (Refusal LogReason)
+log_of_lines words entries = log_of line_of_entry after_line_entry words entries

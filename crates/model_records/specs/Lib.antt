@@ -1,2 +1,3 @@
 pub mod Entries
+pub mod Records
 pub mod Answers

@@ -2,9 +2,14 @@
 
 ghost use Rattle.std.specs.Prelude.{IfOk, IfErr};
 ghost use Rattle.model_records.specs.Answers.{IsAnswerToEntries, IsNoAnswerToEntries};
+ghost use Rattle.model_records.specs.Answers.{IsAnswerToLines, IsNoAnswerToLines};
+ghost use Rattle.model_records.specs.Answers.{IsAnswerToRecords, IsNoAnswerToRecords};
 
 use crate::entries::log_of_entries;
-use crate::entry::LogEntry;
+use crate::entry::{LineEntry, LogEntry};
+use crate::lined::log_of_lines;
+use crate::record::LogRecord;
+use crate::records::log_of_records;
 use model_answer::{Answer, NoAnswer, Options, answer_to_log};
 use std::alloc::Allocator;
 
@@ -23,6 +28,52 @@ pub fn answer_to_entries<A: Allocator + Copy>(
     ensures none { IfErr result (IsNoAnswerToEntries words entries.now) }
 {
     let log = match log_of_entries(alloc, words, entries) {
+        Ok(log) => log,
+        Err(refusal) => return Err(NoAnswer::Refused(refusal)),
+    };
+    match answer_to_log(alloc, &log, options) {
+        Ok(answer) => Ok(answer),
+        Err(why) => Err(why),
+    }
+}
+
+/// The same of the log that records are: a record's number, from 1, stands for its line.
+///
+/// Errors: which record is refused first and why, a reply that isn't what its operation does to its
+/// word, or memory.
+pub fn answer_to_records<A: Allocator + Copy>(
+    alloc: A,
+    words: u64,
+    records: &[LogRecord],
+    options: Options,
+) -> Result<Answer<A>, NoAnswer>
+    ensures answer { IfOk result (IsAnswerToRecords words records.now options) }
+    ensures none { IfErr result (IsNoAnswerToRecords words records.now) }
+{
+    let log = match log_of_records(alloc, words, records) {
+        Ok(log) => log,
+        Err(refusal) => return Err(NoAnswer::Refused(refusal)),
+    };
+    match answer_to_log(alloc, &log, options) {
+        Ok(answer) => Ok(answer),
+        Err(why) => Err(why),
+    }
+}
+
+/// The same of the log that entries of a text are, each with its line.
+///
+/// Errors: the line of the first entry that is refused and why, a reply that isn't what its operation does
+/// to its word, or memory.
+pub fn answer_to_lines<A: Allocator + Copy>(
+    alloc: A,
+    words: u64,
+    entries: &[LineEntry],
+    options: Options,
+) -> Result<Answer<A>, NoAnswer>
+    ensures answer { IfOk result (IsAnswerToLines words entries.now options) }
+    ensures none { IfErr result (IsNoAnswerToLines words entries.now) }
+{
+    let log = match log_of_lines(alloc, words, entries) {
         Ok(log) => log,
         Err(refusal) => return Err(NoAnswer::Refused(refusal)),
     };

@@ -21,7 +21,7 @@ fn entry_at(entries: &[LogEntry], place: usize) -> LogEntry
 }
 
 /// Begins a log of a memory of so many words.
-fn begin<A: Allocator + Copy>(log: &mut Log<A>, words: u64) -> Result<(), LogReason>
+pub(crate) fn begin<A: Allocator + Copy>(log: &mut Log<A>, words: u64) -> Result<(), LogReason>
     ensures { Makes (LogReason.Line LineReason.Memory) (log_so_far log.new) result
         (begun_log (log_so_far log.old) words) }
 {

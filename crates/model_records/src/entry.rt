@@ -43,6 +43,14 @@ pub enum LogEntry {
     Replied(Named, Reply),
 }
 
+/// An entry with the line that says it, where entries are those of a text.
+#[derive(Clone, Copy)]
+pub struct LineEntry {
+    /// The line, from 1.
+    pub line: u64,
+    pub entry: LogEntry,
+}
+
 /// The number that a reply tells; none for `ok`.
 fn reply_told(reply: Reply) -> Option<u128>
     ensures { result ≡ reply_told reply }

@@ -5,7 +5,8 @@ use std::test::Fail;
 /// What is printed of a log, or why it has no answer, must be this.
 fn tells<R: Abort + AllocGlobal>(rt: &R, log: &str, order: bool, wanted: &str) -> Result<(), Fail> {
     let text = log.as_bytes();
-    match model_answer(rt.alloc(), text, Options { order }) {
+    let fences = true;
+    match model_answer(rt.alloc(), text, Options { order, fences }) {
         Ok(answer) => assert_eq!(rt; answer.text.as_slice(), wanted.as_bytes()),
         Err(NoAnswer::Refused(refusal)) => {
             let sentence = LogSentence {

@@ -63,7 +63,8 @@ pub(crate) fn answer<R: Eprint + Clock + AllocGlobal + Threads + Wait + Sync, W:
             judged_with(judged, configurations)
         }
         Job::Model { model, order, .. } => {
-            modelled_by(model_text(alloc, first, Options { order }, out), model)
+            let fences = true;
+            modelled_by(model_text(alloc, first, Options { order, fences }, out), model)
         }
         Job::Run { workers, turns, .. } => {
             let (workers, turns) = (workers as usize, u64::from(turns));

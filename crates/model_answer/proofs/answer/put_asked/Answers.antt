@@ -5,4 +5,4 @@ use Rattle.model_answer.proofs.answer.put_asked.Goals as goal
 
 pub returns-then-not-order : goal.returns-then-not-order
 returns-then-not-order g c = adds_nothing c.args.text.now.items
-    (subst (λ (o : Bool). IsAskedPart c.args.trace.now c.args.verdicts.now o []) (sym c.if-not-order.true) refl)
+    (subst (λ (o : Bool). IsAskedPart c.args.trace.now c.args.verdicts.now c.args.fences o []) (sym c.if-not-order.true) refl)

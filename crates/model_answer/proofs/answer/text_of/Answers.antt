@@ -7,8 +7,8 @@ pub returns : goal.returns
 returns g c =
     let cycle = c.in_ok-put_failing.ensures in
     let order = c.in_ok-put_asked.ensures in
-    let first : c.put_obeys.new.text.items ≡ obeys_text (obeys_of c.args.verdicts.now) =
-    c.in_ok-put_obeys.ensures ∙ (ap (λ t. t ++ obeys_text c.obeys.result) c.new-text.ensures.items ∙ ap obeys_text c.obeys.ensures.value) in
+    let first : c.put_obeys.new.text.items ≡ obeys_text c.args.options.fences (obeys_of c.args.verdicts.now) =
+    c.in_ok-put_obeys.ensures ∙ (ap (λ t. t ++ obeys_text c.args.options.fences c.obeys.result) c.new-text.ensures.items ∙ ap (obeys_text c.args.options.fences) c.obeys.ensures.value) in
     record {
       cycle = cycle.part;
       order = order.part;

@@ -4,6 +4,6 @@ use Rattle.model_records.proofs.answer.answer_to_entries.Goals as goal
 pub returns-in-Ok-answer_to_log-clause-answer : goal.returns-in-Ok-answer_to_log-clause-answer
 returns-in-Ok-answer_to_log-clause-answer g c = record {
   log = log_so_far c.in-Ok.log;
-  read = c.in-Ok.ensures;
+  is_log = c.in-Ok.ensures;
   is = c.in-Ok-answer_to_log.ensures.answer;
 }
