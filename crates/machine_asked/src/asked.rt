@@ -34,7 +34,7 @@ use torus::{Fault, Step, Stepped};
 /// the depth and the tags that were loaded.
 #[derive(Drop)]
 pub struct AskedMachine<A: Allocator = Global> {
-    machine: Machine<A>,
+    pub(crate) machine: Machine<A>,
     counts: Vec<u32, A>,
     spins: Vec<bool, A>,
     depth: u32,

@@ -2,6 +2,7 @@
 #![tactic(auto)]
 
 pub mod asked;
+mod clocked;
 mod flags;
 pub mod laws;
 mod opening;

@@ -16,3 +16,4 @@ pub mod Read
 pub mod Drawing
 pub mod DrawnMoves
 pub mod DrawTold
+pub mod Turned

@@ -1,5 +1,5 @@
 -- What is told of the run whose moves are printed.
-use Rattle.std.proofs.Common.{◌≡◌, ℕ, zero, suc, ◌+◌, ◌≤◌, ◌<◌, ◌^◌, ◌++◌, List, [], ◌∷◌, Bool, Result, Ok, Err, map, refl, sym, ap, subst, ◌∙◌, arith, append-nil, length}
+use Rattle.std.proofs.Common.{◌≡◌, ℕ, zero, suc, ◌+◌, ◌≤◌, ◌<◌, ◌^◌, ◌++◌, List, [], ◌∷◌, Bool, true, false, Result, Ok, Err, map, refl, sym, ap, subst, ◌∙◌, arith, append-nil, length}
 use Rattle.std.specs.Prelude.{◌↔◌, IsTrue, None}
 use Rattle.std.specs.Str.Lines.{lines}
 use Rattle.std.specs.List.{flat_map, range_with_len}
@@ -11,9 +11,8 @@ use Rattle.script.specs.Machine.{MachineSpec}
 use Rattle.script.specs.Steps.{steps_of}
 use Rattle.order_abstract.specs.Load.{Load}
 use Rattle.order_abstract.specs.Scripts.{AreFinished}
-use Rattle.core_laws.specs.Core.{round, run_of}
+use Rattle.core_laws.specs.Core.{run_of}
 use Rattle.core_laws.specs.Runs.{IsAcceptedLoad}
-use Rattle.machine_core.specs.Rounds.{rounds_of}
 use Rattle.machine_core.specs.Loading.{HasLoaded}
 use Rattle.core_machine.specs.Machine.{Core, IsAfter, all_finished, core_after, core_after_load}
 use Rattle.core_machine.proofs.Machines.{named_machine, stands_after, after_steps, finished_of_machine}
@@ -28,11 +27,11 @@ use Rattle.program_fault.specs.Done.{Output, TookAll, TookFront, Wrote}
 use Rattle.machine_core.specs.Run.{Asked}
 use Rattle.schedule_commands.specs.Asked.{HasOpened}
 use Rattle.schedule_commands.specs.Output.{headed}
-use Rattle.machine_core.specs.FewestRounds.{AreFewest, after_rounds}
+use Rattle.clocked_laws.specs.Fewest.{AreFewestFrom, after_rounds_from, round_behind, rounds_from}
+use Rattle.clocked_laws.proofs.Rounds.{round_more}
 use Rattle.schedule_commands.specs.Rounds.{HasPutRounds, HasPutSome, moves_of_rounds, round_moves, rounds_text}
 use Rattle.schedule_commands.specs.Schedules.{TellsRun, IsRoundsText, IsMovesText}
 use Rattle.schedule_commands.proofs.Outputs.{took_then, front_then, front_of_more}
-use Rattle.schedule_commands.proofs.InRounds.{round_more}
 
 -- the last line behind others
 pub with_end : (ls : List ScheduleLine) (finished : Bool) → text_of (ls ++ End finished ∷ []) ≡ text_of ls ++ line_text (End finished)
@@ -40,22 +39,28 @@ with_end ls finished =
     flat_map-append line_text ls (End finished ∷ []) ∙ ap (λ (t : List ℕ). text_of ls ++ t) (append-nil (line_text (End finished)))
 
 -- the moves of rounds, one after the other, are the moves among the attempts of all
-one_round : (l : Load) (k : ℕ) → flat_map (λ moves. moves) (moves_of_rounds l (k + 1)) ≡ flat_map (λ moves. moves) (moves_of_rounds l k) ++ round_moves l k
-one_round l k =
-    ap (flat_map (λ moves. moves)) (map-range_with_len_more (round_moves l) 0 k k (omega arith))
-    ∙ flat_map-append (λ moves. moves) (moves_of_rounds l k) (round_moves l k ∷ [])
-    ∙ ap (λ (xs : List Step). flat_map (λ moves. moves) (moves_of_rounds l k) ++ xs) (append-nil (round_moves l k))
+one_round : (clocked : Bool) (l : Load) (k : ℕ)
+    → flat_map (λ moves. moves) (moves_of_rounds clocked l (k + 1))
+    ≡ flat_map (λ moves. moves) (moves_of_rounds clocked l k) ++ round_moves clocked l k
+one_round clocked l k =
+    ap (flat_map (λ moves. moves)) (map-range_with_len_more (round_moves clocked l) 0 k k (omega arith))
+    ∙ flat_map-append (λ moves. moves) (moves_of_rounds clocked l k) (round_moves clocked l k ∷ [])
+    ∙ ap (λ (xs : List Step). flat_map (λ moves. moves) (moves_of_rounds clocked l k) ++ xs) (append-nil (round_moves clocked l k))
 
-all_rounds : (l : Load) (k : ℕ) → IsAcceptedLoad l → flat_map (λ moves. moves) (moves_of_rounds l k) ≡ moves_of l (rounds_of l.shape k)
-all_rounds l zero ok = refl
-all_rounds l (suc k) ok =
+all_rounds : (clocked : Bool) (l : Load) (k : ℕ) → IsAcceptedLoad l
+    → flat_map (λ moves. moves) (moves_of_rounds clocked l k) ≡ moves_of l (rounds_from clocked l k)
+all_rounds true l zero ok = refl
+all_rounds false l zero ok = refl
+all_rounds clocked l (suc k) ok =
     let one : k + 1 ≡ suc k = omega arith in
-    let next : flat_map (λ moves. moves) (moves_of_rounds l (k + 1)) ≡ moves_of l (rounds_of l.shape (k + 1)) =
-    one_round l k
-    ∙ ap (λ (xs : List Step). xs ++ round_moves l k) (all_rounds l k ok)
-    ∙ sym (machine_further l (after_rounds l k) (rounds_of l.shape k) (round l.shape) (stands_after l (rounds_of l.shape k) ok))
-    ∙ ap (moves_of l) (round_more l.shape k) in
-    subst (λ (n : ℕ). flat_map (λ moves. moves) (moves_of_rounds l n) ≡ moves_of l (rounds_of l.shape n)) one next
+    let now : Core = after_rounds_from clocked l k in
+    let after : IsAfter l now (rounds_from clocked l k) = stands_after l (rounds_from clocked l k) ok in
+    let next : flat_map (λ moves. moves) (moves_of_rounds clocked l (k + 1)) ≡ moves_of l (rounds_from clocked l (k + 1)) =
+    one_round clocked l k
+    ∙ ap (λ (xs : List Step). xs ++ round_moves clocked l k) (all_rounds clocked l k ok)
+    ∙ sym (machine_further l now (rounds_from clocked l k) (round_behind clocked now k) after)
+    ∙ ap (moves_of l) (round_more clocked l k now after) in
+    subst (λ (n : ℕ). flat_map (λ moves. moves) (moves_of_rounds clocked l n) ≡ moves_of l (rounds_from clocked l n)) one next
 
 -- of a machine that stands behind the steps
 pub tells : (l : Load) (c : Core) (steps : List Step) (finished : Bool) (text : List ℕ) → IsAfter l c steps → finished ≡ all_finished c.state
@@ -69,13 +74,13 @@ tells l c steps finished text after is again = record {
 }
 
 -- the text of rounds with the last line
-pub rounds_are : (asked : Result Load LineFault) (most : ℕ) (start : Core) (loaded : HasLoaded asked start) (k : ℕ) (c : Core) (finished : Bool)
-    → most < 2 ^ 64 → AreFewest loaded.load most k → IsAfter loaded.load c (rounds_of loaded.load.shape k) → finished ≡ all_finished c.state
-    → IsRoundsText asked most finished (rounds_text loaded.load k ++ line_text (End finished))
-rounds_are asked most start loaded k c finished small fewest after is =
+pub rounds_are : (clocked : Bool) (asked : Result Load LineFault) (most : ℕ) (start : Core) (loaded : HasLoaded asked start) (k : ℕ) (c : Core) (finished : Bool)
+    → most < 2 ^ 64 → AreFewestFrom clocked loaded.load most k → IsAfter loaded.load c (rounds_from clocked loaded.load k) → finished ≡ all_finished c.state
+    → IsRoundsText clocked asked most finished (rounds_text clocked loaded.load k ++ line_text (End finished))
+rounds_are clocked asked most start loaded k c finished small fewest after is =
     let l : Load = loaded.load in
-    let whole : text_of (schedule_of (moves_of_rounds l k) finished) ≡ rounds_text l k ++ line_text (End finished) = with_end _ finished in
-    let count : length (moves_of_rounds l k) ≡ k = length-map-range_with_len (round_moves l) 0 k in
+    let whole : text_of (schedule_of (moves_of_rounds clocked l k) finished) ≡ rounds_text clocked l k ++ line_text (End finished) = with_end _ finished in
+    let count : length (moves_of_rounds clocked l k) ≡ k = length-map-range_with_len (round_moves clocked l) 0 k in
     let allowed : k ≤ most = fewest.allowed in
     record {
       load = l;
@@ -83,50 +88,50 @@ rounds_are asked most start loaded k c finished small fewest after is =
       rounds = k;
       fewest = fewest;
       is = sym whole;
-      run = subst (TellsRun l (rounds_of l.shape k) finished) whole
-          (tells l c (rounds_of l.shape k) finished (text_of (schedule_of (moves_of_rounds l k) finished)) after is
-          (λ machine same. rounds_again l machine (rounds_of l.shape k) (moves_of_rounds l k) finished after.accepted same
-          (all_rounds l k after.accepted) (omega (arith, count, allowed, small))));
+      run = subst (TellsRun l (rounds_from clocked l k) finished) whole
+          (tells l c (rounds_from clocked l k) finished (text_of (schedule_of (moves_of_rounds clocked l k) finished)) after is
+          (λ machine same. rounds_again l machine (rounds_from clocked l k) (moves_of_rounds clocked l k) finished after.accepted same
+          (all_rounds clocked l k after.accepted) (omega (arith, count, allowed, small))));
     }
 
 -- a beginning of the rounds is one of the whole text
-pub rounds_front : (asked : Result Load LineFault) (most : ℕ) (start : Core) (loaded : HasLoaded asked start) (old new : Output)
-    → most < 2 ^ 64 → HasPutSome loaded.load most old new → (finished : Bool) × Wrote (IsRoundsText asked most) TookFront old new finished
-rounds_front asked most start loaded old new small some =
+pub rounds_front : (clocked : Bool) (asked : Result Load LineFault) (most : ℕ) (start : Core) (loaded : HasLoaded asked start) (old new : Output)
+    → most < 2 ^ 64 → HasPutSome clocked loaded.load most old new → (finished : Bool) × Wrote (IsRoundsText clocked asked most) TookFront old new finished
+rounds_front clocked asked most start loaded old new small some =
     let l : Load = loaded.load in
-    let c : Core = after_rounds l some.rounds in
+    let c : Core = after_rounds_from clocked l some.rounds in
     let finished : Bool = all_finished c.state in (
       finished,
       (
-        rounds_text l some.rounds ++ line_text (End finished),
-        rounds_are asked most start loaded some.rounds c finished small some.fewest (stands_after l (rounds_of l.shape some.rounds) loaded.after.accepted) refl,
-        front_of_more old new (rounds_text l some.rounds) (line_text (End finished)) some.took,
+        rounds_text clocked l some.rounds ++ line_text (End finished),
+        rounds_are clocked asked most start loaded some.rounds c finished small some.fewest (stands_after l (rounds_from clocked l some.rounds) loaded.after.accepted) refl,
+        front_of_more old new (rounds_text clocked l some.rounds) (line_text (End finished)) some.took,
       ),
     )
 
 -- the rounds and the last line
-pub rounds_whole : (asked : Result Load LineFault) (most : ℕ) (start : Core) (loaded : HasLoaded asked start) (c : Core) (finished : Bool) (old mid new : Output)
-    → most < 2 ^ 64 → (put : HasPutRounds loaded.load most c old mid) → finished ≡ all_finished c.state
+pub rounds_whole : (clocked : Bool) (asked : Result Load LineFault) (most : ℕ) (start : Core) (loaded : HasLoaded asked start) (c : Core) (finished : Bool) (old mid new : Output)
+    → most < 2 ^ 64 → (put : HasPutRounds clocked loaded.load most c old mid) → finished ≡ all_finished c.state
     → TookAll mid new (line_text (End (all_finished c.state)))
-    → Wrote (IsRoundsText asked most) TookAll old new finished
-rounds_whole asked most start loaded c finished old mid new small put is took = (
-  rounds_text loaded.load put.rounds ++ line_text (End finished),
-  rounds_are asked most start loaded put.rounds c finished small put.fewest put.after is,
-  subst (λ (b : Bool). TookAll old new (rounds_text loaded.load put.rounds ++ line_text (End b))) (sym is)
-      (took_then old mid new (rounds_text loaded.load put.rounds) (line_text (End (all_finished c.state))) put.took took),
+    → Wrote (IsRoundsText clocked asked most) TookAll old new finished
+rounds_whole clocked asked most start loaded c finished old mid new small put is took = (
+  rounds_text clocked loaded.load put.rounds ++ line_text (End finished),
+  rounds_are clocked asked most start loaded put.rounds c finished small put.fewest put.after is,
+  subst (λ (b : Bool). TookAll old new (rounds_text clocked loaded.load put.rounds ++ line_text (End b))) (sym is)
+      (took_then old mid new (rounds_text clocked loaded.load put.rounds) (line_text (End (all_finished c.state))) put.took took),
 )
 
 -- the rounds and a beginning of the last line
-pub rounds_last : (asked : Result Load LineFault) (most : ℕ) (start : Core) (loaded : HasLoaded asked start) (c : Core) (old mid new : Output)
-    → most < 2 ^ 64 → (put : HasPutRounds loaded.load most c old mid)
+pub rounds_last : (clocked : Bool) (asked : Result Load LineFault) (most : ℕ) (start : Core) (loaded : HasLoaded asked start) (c : Core) (old mid new : Output)
+    → most < 2 ^ 64 → (put : HasPutRounds clocked loaded.load most c old mid)
     → TookFront mid new (line_text (End (all_finished c.state)))
-    → (finished : Bool) × Wrote (IsRoundsText asked most) TookFront old new finished
-rounds_last asked most start loaded c old mid new small put took = (
+    → (finished : Bool) × Wrote (IsRoundsText clocked asked most) TookFront old new finished
+rounds_last clocked asked most start loaded c old mid new small put took = (
   all_finished c.state,
   (
-    rounds_text loaded.load put.rounds ++ line_text (End (all_finished c.state)),
-    rounds_are asked most start loaded put.rounds c (all_finished c.state) small put.fewest put.after refl,
-    front_then old mid new (rounds_text loaded.load put.rounds) (line_text (End (all_finished c.state))) put.took took,
+    rounds_text clocked loaded.load put.rounds ++ line_text (End (all_finished c.state)),
+    rounds_are clocked asked most start loaded put.rounds c (all_finished c.state) small put.fewest put.after refl,
+    front_then old mid new (rounds_text clocked loaded.load put.rounds) (line_text (End (all_finished c.state))) put.took took,
   ),
 )
 

@@ -3,5 +3,6 @@ pub mod Schedule
 pub mod Asked
 pub mod Output
 pub mod Rounds
+pub mod Turned
 pub mod Schedules
 pub mod Drawn

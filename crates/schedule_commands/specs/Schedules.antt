@@ -8,7 +8,6 @@ use Rattle.script.specs.Steps.{steps_of}
 use Rattle.order_abstract.specs.Load.{Load}
 use Rattle.order_abstract.specs.Scripts.{AreFinished}
 use Rattle.core_laws.specs.Core.{run_of}
-use Rattle.machine_core.specs.Rounds.{rounds_of}
 use Rattle.core_machine.specs.Machine.{core_after_load, all_finished}
 use Rattle.core_machine.specs.Moves.{moves_of}
 use Rattle.schedule_commands.specs.Line.{text_of}
@@ -17,7 +16,7 @@ use Rattle.program_fault.specs.declared.fault.ProgramFault.{ProgramFault}
 use Rattle.program_fault.specs.Done.{Does, Output}
 use Rattle.program_fault.specs.Outcome.{IsTextsFault}
 use Rattle.machine_core.specs.Run.{Asked}
-use Rattle.machine_core.specs.FewestRounds.{AreFewest}
+use Rattle.clocked_laws.specs.Fewest.{AreFewestFrom, rounds_from}
 use Rattle.schedule_commands.specs.Rounds.{moves_of_rounds}
 
 -- A text tells of a run of these steps from a load: the answer says whether every script is
@@ -30,21 +29,21 @@ pub record TellsRun (l : Load) (steps : List Step) (finished : Bool) (text : Lis
       → steps_of machine (lines text) ≡ Ok (moves_of l steps)
   pub same : core_after_load l (moves_of l steps) ≡ core_after_load l steps
 
--- a text is the schedule of the fewest rounds that finish every script, at most so many: the moves
--- of each round, in their order, behind its heading
-pub record IsRoundsText (asked : Result Load LineFault) (most : ℕ) (finished : Bool)
-    (text : List ℕ) : Type 0 where
+-- a text is the schedule of the fewest rounds, clocked or in order, that finish every script, at most
+-- so many: the moves of each round, in their order, behind its heading
+pub record IsRoundsText (clocked : Bool) (asked : Result Load LineFault) (most : ℕ)
+    (finished : Bool) (text : List ℕ) : Type 0 where
   pub load : Load
   pub read : asked ≡ Ok load
   pub rounds : ℕ
-  pub fewest : AreFewest load most rounds
-  pub is : text ≡ text_of (schedule_of (moves_of_rounds load rounds) finished)
-  pub run : TellsRun load (rounds_of load.shape rounds) finished text
+  pub fewest : AreFewestFrom clocked load most rounds
+  pub is : text ≡ text_of (schedule_of (moves_of_rounds clocked load rounds) finished)
+  pub run : TellsRun load (rounds_from clocked load rounds) finished text
 
--- the schedule of the rounds was printed
-abbrev pub PrintsSchedule : Result Load LineFault → ℕ → Output → Output → Result Bool ProgramFault
-    → Type 0
-PrintsSchedule asked most = Does (IsRoundsText asked most) (IsTextsFault asked)
+-- the schedule of the rounds, clocked or in order, was printed
+abbrev pub PrintsSchedule : Bool → Result Load LineFault → ℕ → Output → Output
+    → Result Bool ProgramFault → Type 0
+PrintsSchedule clocked asked most = Does (IsRoundsText clocked asked most) (IsTextsFault asked)
 
 -- a text has the moves among the steps that were asked for
 pub record IsMovesText (asked : Result Asked LineFault) (finished : Bool) (text : List ℕ) : Type 0

@@ -1,4 +1,4 @@
-ghost use Rattle.std.specs.Prelude.{◌≡◌, IfErr, IfOk, []};
+ghost use Rattle.std.specs.Prelude.{◌≡◌, IfErr, IfOk, [], false};
 ghost use Rattle.std.specs.Str.Lines.{lines};
 ghost use Rattle.order_abstract.specs.Load.{Load};
 ghost use Rattle.core_laws.specs.Core.{round};
@@ -31,7 +31,7 @@ pub fn schedule_text<A: Allocator + Copy, W: Out>(
     rounds: u64,
     out: &mut W,
 ) -> Result<bool, ProgramFault>
-    ensures { PrintsSchedule (load_by (lines machine.now) (lines scripts.now)) rounds
+    ensures { PrintsSchedule false (load_by (lines machine.now) (lines scripts.now)) rounds
         (output (W.taken out.old) (W.failures out.old))
         (output (W.taken out.new) (W.failures out.new)) result }
 {
@@ -64,7 +64,7 @@ fn put_rounds<A: Allocator, W: Out>(
 ) -> Result<(), OutputFailed>
     requires { attempts.now ≡ round machine.old.shape }
     ensures { (l : Load) → IsAfter l machine.old []
-        → PutsRounds l rounds machine.new (output (W.taken out.old) (W.failures out.old))
+        → PutsRounds false l rounds machine.new (output (W.taken out.old) (W.failures out.old))
         (output (W.taken out.new) (W.failures out.new)) result }
 {
     for before in 0..rounds {

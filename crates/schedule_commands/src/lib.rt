@@ -2,6 +2,7 @@
 //! those among listed steps, and moves that are drawn.
 #![tactic(auto)]
 
+mod clocked;
 pub mod drawn;
 pub mod in_rounds;
 pub mod line;
@@ -11,7 +12,9 @@ mod output;
 mod round_list;
 pub mod run_laws;
 pub mod text;
+mod turned_list;
 
+pub use clocked::clocked_schedule_text;
 pub use drawn::draw_text;
 pub use in_rounds::schedule_text;
 pub use line::ScheduleLine;

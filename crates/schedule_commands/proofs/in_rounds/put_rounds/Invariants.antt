@@ -1,16 +1,16 @@
-use Rattle.std.proofs.Common.{◌≡◌, []}
+use Rattle.std.proofs.Common.{◌≡◌, [], false}
 use Rattle.order_abstract.specs.Load.{Load}
 use Rattle.core_laws.specs.Core.{round}
 use Rattle.core_machine.specs.Machine.{IsAfter}
 use Rattle.program_fault.specs.Done.{output}
-use Rattle.schedule_commands.proofs.InRounds.{HasMade}
+use Rattle.schedule_commands.proofs.InRounds.{HasPut}
 use Rattle.schedule_commands.proofs.in_rounds.put_rounds.Given as goal
 
 -- the rounds so far are made and their lines put, and before each not every script was finished
 abbrev pub invariant-loop-before : goal.invariant-loop-before
 invariant-loop-before g l = record {
-  made : (load : Load) → IsAfter load l.fn.machine []
-      → HasMade load l.before l.machine (output (g.W.Out.taken l.fn.out) (g.W.Out.failures l.fn.out))
+  put : (load : Load) → IsAfter load l.fn.machine []
+      → HasPut false load l.before l.machine (output (g.W.Out.taken l.fn.out) (g.W.Out.failures l.fn.out))
       (output (g.W.Out.taken l.out) (g.W.Out.failures l.out));
   round : l.attempts ≡ round l.machine.shape;
 }

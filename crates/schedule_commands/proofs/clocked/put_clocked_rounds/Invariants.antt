@@ -1,0 +1,17 @@
+use Rattle.std.proofs.Common.{[], true}
+use Rattle.order_abstract.specs.Load.{Load}
+use Rattle.core_machine.specs.Machine.{IsAfter}
+use Rattle.program_fault.specs.Done.{output}
+use Rattle.schedule_commands.specs.Turned.{AreTurned, HasRoom}
+use Rattle.schedule_commands.proofs.InRounds.{HasPut}
+use Rattle.schedule_commands.proofs.clocked.put_clocked_rounds.Given as goal
+
+-- the rounds so far are made and their lines put, and before each not every script was finished
+abbrev pub invariant-loop-before : goal.invariant-loop-before
+invariant-loop-before g l = record {
+  put : (load : Load) → IsAfter load l.fn.machine []
+      → HasPut true load l.before l.machine (output (g.W.Out.taken l.fn.out) (g.W.Out.failures l.fn.out))
+      (output (g.W.Out.taken l.out) (g.W.Out.failures l.out));
+  turned : AreTurned l.machine.shape l.turned;
+  room : HasRoom l.machine.shape l.room;
+}
