@@ -1,0 +1,9 @@
+use Rattle.std.specs.Prelude.{option_map}
+use Rattle.record_bytes.specs.Recorded.{recording_of}
+use Rattle.machine_record.proofs.Keeps.{keeps_rounds}
+use Rattle.machine_record.proofs.recorded.RecordedMachine.finish.Goals as goal
+
+pub invariant_of-self : goal.invariant_of-self
+invariant_of-self g c =
+    keeps_rounds (option_map recording_of c.self.inside.kept) (option_map recording_of c.keep_rounds.new.kept) c.self.inside.machine c.finish-rounds.new.self c.finish-rounds.result
+    c.self.invariant c.finish-rounds.ensures.state c.finish-rounds.ensures.spins c.keep_rounds.ensures

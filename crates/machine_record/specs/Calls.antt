@@ -1,0 +1,60 @@
+-- What bytes and records make, and why they make nothing.
+use Rattle.std.specs.Prelude.{◌≡◌, ◌⊎◌, ℕ, List, Some, Ok, Err}
+use Rattle.std.specs.Str.Lines.{lines}
+use Rattle.machine_parts.specs.Core.{Load}
+use Rattle.machine_core.specs.Loading.{load_by}
+use Rattle.machine_asked.specs.Asked.{Asked}
+use Rattle.record_bytes.specs.Recording.{Recording}
+use Rattle.record_bytes.specs.Reading.{record_of}
+use Rattle.machine_record.specs.declared.restoring.Unrestored.{Unrestored}
+use Rattle.machine_record.specs.declared.restoring.Unrestored.TheVariants as why
+use Rattle.machine_record.specs.Machine.{Recorded}
+use Rattle.machine_record.specs.Replay.{loaded, made_by}
+use Rattle.machine_record.specs.Replayed.{StopsAt}
+
+-- the machine that a record's texts are loaded to
+pub record IsLoaded (kept : Recording) (v : Asked) : Type 0 where
+  pub load : Load
+  pub texts : load_by (lines kept.machine) (lines kept.scripts) ≡ Ok load
+  pub is : v ≡ loaded load
+
+-- a machine with this record, which makes it
+pub record IsMade (kept : Recording) (v : Recorded) : Type 0 where
+  pub made : made_by kept ≡ Some v.asked
+  pub keeps : v.kept ≡ Some kept
+
+-- the action of a number can't be done, where those before it can
+pub record Stops (kept : Recording) (at : ℕ) : Type 0 where
+  pub load : Load
+  pub texts : load_by (lines kept.machine) (lines kept.scripts) ≡ Ok load
+  pub stops : StopsAt kept.rows kept.actions (loaded load) at
+
+-- why a record makes no machine: memory was refused, an action can't be done, or a text has a fault
+abbrev pub IsUnmade : Recording → Unrestored → Type 0
+IsUnmade kept why.Memory = Unit {0}
+IsUnmade kept (why.At place) = ⊥
+IsUnmade kept (why.Action at) = Stops kept at
+IsUnmade kept (why.Text f) = load_by (lines kept.machine) (lines kept.scripts) ≡ Err f
+
+-- a machine that bytes make
+pub record IsRestored (bs : List ℕ) (v : Recorded) : Type 0 where
+  pub kept : Recording
+  pub read : record_of bs ≡ Ok kept
+  pub made : IsMade kept v
+
+-- why bytes are no record's: memory was refused, or this place has what is none's
+abbrev pub IsUnread : List ℕ → Unrestored → Type 0
+IsUnread bs why.Memory = Unit {0}
+IsUnread bs (why.At place) = record_of bs ≡ Err place
+IsUnread bs (why.Action at) = ⊥
+IsUnread bs (why.Text f) = ⊥
+
+-- bytes are those of a record that makes no machine
+pub record IsUnmadeOf (bs : List ℕ) (why : Unrestored) : Type 0 where
+  pub kept : Recording
+  pub read : record_of bs ≡ Ok kept
+  pub unmade : IsUnmade kept why
+
+-- why bytes make no machine
+abbrev pub IsUnrestored : List ℕ → Unrestored → Type 0
+IsUnrestored bs why = IsUnread bs why ⊎ IsUnmadeOf bs why

@@ -1,0 +1,5 @@
+pub mod Replay
+pub mod Replayed
+pub mod Machine
+pub mod MachineInside
+pub mod Calls

@@ -1,0 +1,105 @@
+//! What a record's actions do to a machine.
+
+ghost use Rattle.std.specs.Prelude.{◌≡◌, IfOk};
+ghost use Rattle.machine_record.specs.Replay.{acted, acted_by, moved, rounds_made, row_handed};
+ghost use Rattle.machine_record.specs.Replayed.{Comes, Replays};
+
+use machine_asked::AskedMachine;
+use record_bytes::{Action, LineRow};
+use std::alloc::{AllocError, Allocator};
+use torus::{Fault, Step, Stepped};
+
+/// Makes a move. Answers whether the choice was enabled; nothing has changed otherwise.
+fn moved<A: Allocator>(machine: &mut AskedMachine<A>, step: Step) -> bool
+    ensures { Comes (moved machine.old step) machine.new result }
+{
+    match machine.step(step) {
+        Stepped::Moved => true,
+        Stepped::Idle => false,
+    }
+}
+
+/// Makes so many rounds.
+fn make_rounds<A: Allocator>(machine: &mut AskedMachine<A>, count: u32)
+    ensures { machine.new ≡ rounds_made machine.old count }
+{
+    for made in 0..count {
+        machine.round();
+    }
+}
+
+/// Hands a processor the line of a row. Answers whether the row is a line, and the machine takes it.
+///
+/// Errors: out of memory.
+fn hand<A: Allocator>(machine: &mut AskedMachine<A>, row: LineRow) -> Result<bool, AllocError>
+    ensures { IfOk result (λ done. Comes (row_handed machine.old row) machine.new done) }
+{
+    let Some(line) = row.line() else {
+        return Ok(false);
+    };
+    match machine.append(row.processor, line) {
+        Ok(()) => Ok(true),
+        Err(Fault::Memory) => Err(AllocError),
+        Err(_) => Ok(false),
+    }
+}
+
+/// Does what an action says. Answers whether it can be done.
+///
+/// Errors: out of memory.
+fn act<A: Allocator>(
+    machine: &mut AskedMachine<A>,
+    rows: &[LineRow],
+    action: Action,
+) -> Result<bool, AllocError>
+    ensures { IfOk result (λ done. Comes (acted rows.now machine.old action) machine.new done) }
+{
+    match action {
+        Action::Move(step) => Ok(moved(machine, step)),
+        Action::Rounds(count) => {
+            make_rounds(machine, count);
+            Ok(true)
+        }
+        Action::Line(number) => match rows.get(number as usize) {
+            Some(row) => hand(machine, *row),
+            None => Ok(false),
+        },
+    }
+}
+
+/// Does what the action of a number says. Answers whether there is one, and it can be done.
+///
+/// Errors: out of memory.
+fn act_by<A: Allocator>(
+    machine: &mut AskedMachine<A>,
+    rows: &[LineRow],
+    number: u32,
+) -> Result<bool, AllocError>
+    ensures { IfOk result (λ done. Comes (acted_by rows.now machine.old number) machine.new done) }
+{
+    match Action::of_number(number) {
+        Some(action) => act(machine, rows, action),
+        None => Ok(false),
+    }
+}
+
+/// Does what the actions of some numbers say, one after the other, up to the first that can't be done. Answers
+/// its place among them, if there is one.
+///
+/// Errors: out of memory.
+pub fn replay<A: Allocator>(
+    machine: &mut AskedMachine<A>,
+    rows: &[LineRow],
+    actions: &[u32],
+) -> Result<Option<usize>, AllocError>
+    ensures { IfOk result (λ at. Replays rows.now actions.now machine.old machine.new at) }
+{
+    let mut at = 0;
+    for number in actions {
+        if !act_by(machine, rows, *number)? {
+            return Ok(Some(at));
+        }
+        at += 1;
+    }
+    Ok(None)
+}

@@ -1,0 +1,4 @@
+pub mod Pieces
+pub mod Actions
+pub mod Lines
+pub mod ReadBack
