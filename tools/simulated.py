@@ -56,15 +56,13 @@ def read_packet(net: Network, words: List[str], where: str) -> Packet:
 
 
 def read_traffic(net: Network, text: str, path: str) -> List[Packet]:
-    """The packets of a traffic text; their rounds don't fall."""
+    """The packets of a traffic text."""
     found: List[Packet] = []
     for number, line in enumerate(text.split("\n"), 1):
         words = line.split()
         if not words or words[0].startswith("#"):
             continue
         found.append(read_packet(net, words, f"{path}, line {number}"))
-        if len(found) > 1 and found[-1].round < found[-2].round:
-            raise Refusal(f"{path}, line {number}: its round comes before that of the line above")
     return found
 
 
@@ -161,8 +159,9 @@ class Simulation:
             self.tag(x, self.queues[x][self.begun[x] - 1])
 
     def is_over(self, number: int) -> bool:
-        """Whether no packet is to come after this round."""
-        return all(it.packet.round <= number or it.begun is not None for it in self.courses)
+        """Whether no sender's next packet is to come after this round."""
+        left = (self.queues[x][self.begun[x]:][:1] for x in self.queues)
+        return all(self.courses[it].packet.round <= number for next_one in left for it in next_one)
 
     def run(self) -> str:
         """Makes rounds until none makes a move and no packet is to come, and answers the last line of the report."""

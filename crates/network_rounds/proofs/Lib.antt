@@ -1,3 +1,4 @@
 pub mod Lists
 pub mod Groups
 pub mod Meeting
+pub mod Longer

@@ -4,3 +4,4 @@ pub mod Choices
 pub mod Counts
 pub mod Senders
 pub mod Routers
+pub mod Simulations

@@ -9,6 +9,7 @@ mod picking;
 pub mod round;
 pub mod routers;
 pub mod senders;
+pub mod simulating;
 
 pub use choices::{Part, groups_of};
 pub use counting::{count_flits, count_packets};

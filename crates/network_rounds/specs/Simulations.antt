@@ -1,0 +1,74 @@
+-- Simulations: clocked rounds one after the other, in which senders begin packets whose round has come.
+use Rattle.std.specs.Prelude.{◌≡◌, ℕ, ◌+◌, ◌<◌, ◌≤◌, nat_lt, Bool, false, List, [], ◌∷◌, ◌++◌, Vec, length}
+use Rattle.std.specs.Prelude.{Option, Some, None, slice_get, slice_index}
+use Rattle.std.specs.List.{sum_by}
+use Rattle.network_machine.specs.declared.moves.Move.{Move}
+use Rattle.network_machine.specs.Machine.{NetworkMachineSpec, SameTables}
+use Rattle.network_machine.specs.Runs.{RunsTo}
+use Rattle.network_rounds.specs.declared.senders.Timed.{Timed}
+use Rattle.network_rounds.specs.Counts.{flits_left, packets_begun}
+use Rattle.network_rounds.specs.Rounds.{turned_groups, IsRound}
+use Rattle.network_rounds.specs.Senders.{queue_at, dues_of}
+
+-- how many flits leave a channel in some rounds
+abbrev pub flits_in : ℕ → List (List Move) → ℕ
+flits_in x rounds = sum_by (λ made. flits_left x made) rounds
+
+-- how many packets a sender begins in some rounds
+abbrev pub begun_in : ℕ → List (List Move) → ℕ
+begun_in x rounds = sum_by (λ made. packets_begun x made) rounds
+
+-- the choices of a round, behind so many: the packets whose turn it is, where so many of each sender
+-- are begun, and then the groups
+abbrev pub choices_in : {A B : Type 0} → List (Vec Timed A) → List (Vec Move B) → (ℕ → ℕ) → ℕ
+    → List Move
+choices_in queues groups begun before =
+    dues_of (queue_at queues) begun (before + 1) (length queues) ++ turned_groups before groups
+
+-- some rounds, the last one first: each begins where the one before ends
+abbrev pub AreRounds : {A B : Type 0} → List (Vec Timed A) → List (Vec Move B)
+    → NetworkMachineSpec → NetworkMachineSpec → List (List Move) → Type 0
+AreRounds queues groups old new [] = new ≡ old
+AreRounds queues groups old new (made ∷ before) =
+    (between : NetworkMachineSpec) × AreRounds queues groups old between before
+    × IsRound between new (choices_in queues groups (λ x. begun_in x before) (length before)) made
+
+-- their moves, the first one first
+abbrev pub moves_of : List (List Move) → List Move
+moves_of [] = []
+moves_of (made ∷ before) = moves_of before ++ made
+
+-- so many rounds lead from one machine to another: they are a run, in which each sender begins and
+-- from each channel goes so much
+pub record IsSimulation {A B : Type 0} (queues : List (Vec Timed A)) (groups : List (Vec Move B))
+    (old new : NetworkMachineSpec) (begun flits : List ℕ) (count : ℕ) : Type 0 where
+  pub rounds : List (List Move)
+  pub number : length rounds ≡ count
+  pub are : AreRounds queues groups old new rounds
+  pub runs : RunsTo old new (moves_of rounds)
+  pub same : SameTables old new
+  pub senders : (x : ℕ) → x < length queues → slice_index begun x ≡ begun_in x rounds
+  pub channels : (x : ℕ) → x < length flits → slice_index flits x ≡ flits_in x rounds
+
+-- whether a packet, if any, is to come behind a round
+abbrev pub is_behind : ℕ → Option Timed → Bool
+is_behind round None = false
+is_behind round (Some timed) = nat_lt round timed.round
+
+-- no packet is to come behind a round, where so many of each sender are begun
+abbrev pub NoneComes : {A : Type 0} → List (Vec Timed A) → List ℕ → ℕ → Type 0
+NoneComes queues begun round = (x : ℕ) → x < length queues
+    → is_behind round (slice_get (queue_at queues x) (slice_index begun x)) ≡ false
+
+-- the last of some rounds makes no move
+abbrev pub EndsStill : List (List Move) → Type 0
+EndsStill [] = ⊥
+EndsStill (made ∷ before) = made ≡ []
+
+-- rounds that go on until one makes no move and no packet is to come, or until they are so many
+pub record IsWhole {A B : Type 0} (queues : List (Vec Timed A)) (groups : List (Vec Move B))
+    (old new : NetworkMachineSpec) (begun flits : List ℕ) (most count : ℕ) : Type 0 where
+  pub simulation : IsSimulation queues groups old new begun flits count
+  pub few : count ≤ most
+  pub still : count < most → EndsStill simulation.rounds
+  pub none : count < most → NoneComes queues begun count
