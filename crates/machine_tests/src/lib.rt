@@ -12,6 +12,8 @@ mod bench;
 #[cfg(test)]
 mod channels;
 #[cfg(test)]
+mod clocked;
+#[cfg(test)]
 mod flits;
 #[cfg(test)]
 mod followers;
