@@ -142,9 +142,12 @@ pub(crate) fn model<'a>(alloc: Global) -> Making<'a>
     ensures { IsCommand model_app result }
 {
     let about =
-        "Judges a log by five memory models, and prints the cycle of the weakest that fails";
+        "Judges a log or report by five memory models, and prints the cycle of the weakest that fails";
     let command = named(alloc, "model", about);
-    let command = with_argument(command, file(alloc, "LOG", "The file with the log"));
+    let command = with_argument(
+        command,
+        file(alloc, "LOG", "The file with the log or the report"),
+    );
     let help = "The model that decides the status: coherent, fenced, pso, tso or sc";
     let command = with_argument(command, word_option(alloc, "model", "sc", help));
     let help = "Prints an order of the strongest model that holds, too";

@@ -1,2 +1,3 @@
 mod Verdicts
 mod Reports
+mod Refusals

@@ -1,5 +1,12 @@
 -- What the command that judges a log by memory models prints (this project's own format).
-use Rattle.std.specs.Prelude.{◌≡◌, List, [], ℕ, Result, Ok, Err}
+use Rattle.std.specs.Prelude.{◌≡◌, List, [], ℕ, Bool, false, Result, Err, codes, nat_eq}
+use Rattle.std.specs.List.{starts_with}
+use Rattle.torus.specs.declared.fault.Fault.TheVariants as fault
+use Rattle.report_check.specs.Good.{FirstBad}
+use Rattle.report_model.specs.declared.answer.NoReportAnswer.TheVariants.{NoOrder, Unjudged}
+use Rattle.report_model.specs.Answers.{HasNoRunAnswer, IsAnswerToReport}
+use Rattle.script.specs.declared.fault.LineFault.{LineFault}
+use Rattle.model_answer.specs.declared.answer.NoAnswer.TheVariants.{Refused, Wrong as WrongAnswer}
 use Rattle.lexer.specs.declared.refusal.Refusal.{Refusal}
 use Rattle.model_text.specs.declared.reason.LogReason.{LogReason}
 use Rattle.model_text.specs.Lines.{log_of}
@@ -7,12 +14,12 @@ use Rattle.model_text.specs.Reasons.{log_fault_of}
 use Rattle.model_answer.specs.declared.answer.Answer.{Answer}
 use Rattle.model_answer.specs.declared.answer.Options.{Options}
 use Rattle.model_answer.specs.Answer.{IsAnswerTo, IsWrongIn}
-use Rattle.script.specs.Outcome.{by_fault}
+use Rattle.script.specs.Outcome.{by_fault, fault_of_refusal}
 use Rattle.program_fault.specs.declared.fault.ProgramFault.{ProgramFault}
 use Rattle.program_fault.specs.declared.fault.ProgramFault.TheVariants as program
 use Rattle.program_fault.specs.Done.{Does, Output}
 use Rattle.command_verdicts.specs.declared.model.Modelled.{Modelled}
-use Rattle.command_verdicts.specs.declared.model.Modelled.TheVariants.{Obeys, Wrong}
+use Rattle.command_verdicts.specs.declared.model.Modelled.TheVariants.{Obeys, WithoutFences, Wrong}
 
 -- what is printed of what a log is judged to be: the answer of these models, or, where a reply isn't
 -- due, nothing
@@ -20,6 +27,7 @@ abbrev pub IsModelled : (A : Type 0) → List (List ℕ) → Options → Modelle
 IsModelled A lines options (Obeys obeys) text =
     (answer : Answer A) × IsAnswerTo lines options answer × (obeys ≡ answer.obeys)
     × (text ≡ answer.text.items)
+IsModelled A lines options (WithoutFences obeys) text = ⊥
 IsModelled A lines options (Wrong wrong) text = IsWrongIn lines wrong × (text ≡ [])
 
 -- the log text has this as its first fault
@@ -31,3 +39,35 @@ IsLogFault lines _ = ⊥
 abbrev pub PrintsModels : (A : Type 0) → List (List ℕ) → Options → Output → Output
     → Result Modelled ProgramFault → Type 0
 PrintsModels A lines options = Does (IsModelled A lines options) (IsLogFault lines)
+
+-- whether a text begins as reports do
+abbrev pub is_report : List ℕ → Bool
+is_report text = starts_with nat_eq text (codes "torusmem ")
+
+-- what is printed of a report: the answer on the log that its operations are, without fences; or,
+-- where a reply isn't due, nothing
+abbrev pub IsReportModelled : (A : Type 0) → List ℕ → Bool → Modelled → List ℕ → Type 0
+IsReportModelled A report order (Obeys obeys) text = ⊥
+IsReportModelled A report order (WithoutFences obeys) text =
+    (answer : Answer A) × IsAnswerToReport report (record { order = order; fences = false }) answer
+    × (obeys ≡ answer.obeys) × (text ≡ answer.text.items)
+IsReportModelled A report order (Wrong wrong) text =
+    HasNoRunAnswer report (Unjudged (WrongAnswer wrong)) × (text ≡ [])
+
+-- a good report has entries and no order lines, and this is its last line; or its log is refused
+pub data RefusesReport (report : List ℕ) (found : LineFault) : Type 0 where
+  LacksOrder : HasNoRunAnswer report (NoOrder found.line) → found.fault ≡ fault.Setting
+      → RefusesReport report found
+  RefusesEntry : (refusal : Refusal LogReason) → HasNoRunAnswer report (Unjudged (Refused refusal))
+      → found ≡ fault_of_refusal log_fault_of refusal → RefusesReport report found
+
+-- the report is bad at this line, or its operations are no log
+abbrev pub IsReportFault : List ℕ → ProgramFault → Type 0
+IsReportFault report (program.Bad line) = FirstBad report line
+IsReportFault report (program.Line found) = RefusesReport report found
+IsReportFault report _ = ⊥
+
+-- the models that a report obeys were printed
+abbrev pub PrintsModelsOfReport : (A : Type 0) → List ℕ → Bool → Output → Output
+    → Result Modelled ProgramFault → Type 0
+PrintsModelsOfReport A report order = Does (IsReportModelled A report order) (IsReportFault report)

@@ -5,7 +5,7 @@ use Rattle.model_answer.specs.declared.judged.Obeys.{Obeys}
 use Rattle.model_answer.specs.declared.model.MemoryModel.{MemoryModel}
 use Rattle.model_answer.specs.declared.model.MemoryModel.TheVariants.{Coherent, Fenced, Pso, Tso, Sc}
 use Rattle.command_verdicts.specs.declared.model.Modelled.{Modelled}
-use Rattle.command_verdicts.specs.declared.model.Modelled.TheVariants.{Obeys as ObeysModels, Wrong}
+use Rattle.command_verdicts.specs.declared.model.Modelled.TheVariants.{Obeys as ObeysModels, WithoutFences, Wrong}
 use Rattle.program_fault.specs.declared.fault.ProgramFault.{ProgramFault}
 use Rattle.program_fault.specs.Outcome.{fault_status}
 use Rattle.command_verdicts.specs.declared.command.Judged.{Judged}
@@ -56,7 +56,10 @@ is_obeyed obeys Pso = obeys.pso
 is_obeyed obeys Tso = obeys.tso
 is_obeyed obeys Sc = obeys.sc
 
--- the status that the program ends with where a log was judged
+-- the status that the program ends with where a log or a report was judged: a report doesn't say where
+-- fences stand
 abbrev pub modelled_status : Modelled → MemoryModel → ℕ
 modelled_status (ObeysModels obeys) model = if is_obeyed obeys model then 0 else 1
+modelled_status (WithoutFences obeys) Fenced = 5
+modelled_status (WithoutFences obeys) model = if is_obeyed obeys model then 0 else 1
 modelled_status (Wrong wrong) model = 1

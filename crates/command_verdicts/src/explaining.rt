@@ -2,13 +2,14 @@
 
 ghost use Rattle.std.specs.Prelude.{◌≤◌};
 
+use crate::model::is_report;
 use adaptive_text::routing_sentence;
-use error_lines::{explain_by, is_of_texts, named, told};
+use error_lines::{Kind, explain, explain_by, is_of_texts, named, told};
 use model_answer::LogSentence;
 use model_text::read_log;
 use network_run::{RunSentence, replay_text};
 use network_text::{NetworkSentence, network_answer, read_network};
-use program_fault::{ProgramFault, Texts};
+use program_fault::{Names, ProgramFault, Texts};
 use trace_why::{no_order_sentence, trace_sentence};
 
 /// The line of a fault at which routers begin to choose, where a text is refused for that alone: another
@@ -102,8 +103,29 @@ pub fn explain_trace<R: Eprint + AllocGlobal>(
     }
 }
 
+/// Says why a text that is judged by memory models has the fault that the command answers, where that can
+/// be told. The text is a report, if it begins as one, and else a log.
+pub fn explain_models<R: Eprint + AllocGlobal>(
+    rt: &R,
+    name: &str,
+    names: &Names,
+    texts: &Texts,
+    fault: &ProgramFault,
+) {
+    if !is_report(&texts.first) {
+        explain_log(rt, name, &texts.first, fault);
+    } else if let ProgramFault::Line(found) = fault {
+        let line = found.line;
+        let _ = eprintln!(rt;
+            "{name}:{line}: the report has no order lines, by which its operations stand in program order"
+        );
+    } else {
+        explain(rt, Kind::Report, names, texts, fault);
+    }
+}
+
 /// Says why the text of a log has the fault that the command answers, where that can be told.
-pub fn explain_log<R: Eprint + AllocGlobal>(rt: &R, name: &str, log: &[u8], fault: &ProgramFault) {
+fn explain_log<R: Eprint + AllocGlobal>(rt: &R, name: &str, log: &[u8], fault: &ProgramFault) {
     if is_of_texts(fault) {
         let sentence = match read_log(rt.alloc(), log) {
             Ok(_) => None,

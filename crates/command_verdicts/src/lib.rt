@@ -11,9 +11,10 @@ pub mod told;
 
 pub use command::{Judged, linearize_text};
 pub use explaining::{
-    explain_lock_up, explain_log, explain_network, explain_no_order, explain_replay, explain_trace,
+    explain_lock_up, explain_models, explain_network, explain_no_order, explain_replay,
+    explain_trace,
 };
-pub use model::{Modelled, model_text};
+pub use model::{Modelled, is_report, judged_models_text, model_text, report_models_text};
 pub use network::network_text;
 pub use report::report_text;
 pub use runs::{lock_up_text, replay_network_text};

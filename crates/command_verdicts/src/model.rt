@@ -1,14 +1,16 @@
-//! Judges a log by memory models, and prints which of them it obeys.
+//! Judges a log or a report by memory models, and prints which of them it obeys.
 
+ghost use Rattle.std.specs.Prelude.{◌≡◌, true, false};
 ghost use Rattle.std.specs.Str.Lines.{lines};
 ghost use Rattle.program_fault.specs.Done.{output};
-ghost use Rattle.command_verdicts.specs.Modelled.{PrintsModels};
+ghost use Rattle.command_verdicts.specs.Modelled.{PrintsModels, PrintsModelsOfReport, is_report};
 
 use model_answer::{NoAnswer, Obeys, Options, model_answer};
 use model_text::WrongReply;
 use program_fault::ProgramFault;
 use report_lines::Out;
 use report_lines::output::put_all;
+use report_model::{NoReportAnswer, answer_to_report};
 use script::LineFault;
 use std::alloc::Allocator;
 use torus::Fault;
@@ -18,6 +20,8 @@ use torus::Fault;
 pub enum Modelled {
     /// Its replies are due, it obeys these models, and the answer is printed.
     Obeys(Obeys),
+    /// The same of a report. It doesn't say where fences stand, so their rule isn't judged.
+    WithoutFences(Obeys),
     /// This reply isn't the one that is due, so no model is asked, and nothing is printed.
     Wrong(WrongReply),
 }
@@ -46,5 +50,74 @@ pub fn model_text<A: Allocator + Copy, W: Out>(
         Err(NoAnswer::Refused(refusal)) => Err(ProgramFault::from(LineFault::from(refusal))),
         Err(NoAnswer::Wrong(wrong)) => Ok(Modelled::Wrong(wrong)),
         Err(NoAnswer::Memory) => Err(ProgramFault::Fault(Fault::Memory)),
+    }
+}
+
+/// Whether a text begins as reports do, and logs don't.
+pub fn is_report(text: &[u8]) -> bool
+    ensures { result ≡ is_report text.now }
+{
+    text.starts_with(b"torusmem ")
+}
+
+/// Judges the operations of a report by memory models, as `model_text` does those of a log. A report has
+/// no fences, so their rule isn't judged.
+///
+/// Errors: its first bad line, F5 at its last line where it has entries and no order lines, or out of
+/// memory; and nothing was written then. If the output fails, a beginning was written.
+pub fn report_models_text<A: Allocator + Copy, W: Out>(
+    alloc: A,
+    report: &[u8],
+    order: bool,
+    out: &mut W,
+) -> Result<Modelled, ProgramFault>
+    ensures { PrintsModelsOfReport A report.now order
+        (output (W.taken out.old) (W.failures out.old))
+        (output (W.taken out.new) (W.failures out.new)) result }
+{
+    let fences = false;
+    match answer_to_report(alloc, report, Options { order, fences }) {
+        Ok(answer) => {
+            put_all(out, &answer.text)?;
+            Ok(Modelled::WithoutFences(answer.obeys))
+        }
+        Err(NoReportAnswer::Bad { line }) => Err(ProgramFault::Bad(line)),
+        Err(NoReportAnswer::NoOrder { line }) => Err(ProgramFault::Line(LineFault {
+            fault: Fault::Setting,
+            line,
+        })),
+        Err(NoReportAnswer::Unjudged(NoAnswer::Refused(refusal))) => {
+            Err(ProgramFault::from(LineFault::from(refusal)))
+        }
+        Err(NoReportAnswer::Unjudged(NoAnswer::Wrong(wrong))) => Ok(Modelled::Wrong(wrong)),
+        Err(NoReportAnswer::Unjudged(NoAnswer::Memory)) => {
+            Err(ProgramFault::Fault(Fault::Memory))
+        }
+        Err(NoReportAnswer::Memory) => Err(ProgramFault::Fault(Fault::Memory)),
+    }
+}
+
+/// Judges a text by memory models: a report, if it begins as one, and else a log.
+///
+/// Errors: those of `report_models_text`, and those of `model_text`.
+pub fn judged_models_text<A: Allocator + Copy, W: Out>(
+    alloc: A,
+    text: &[u8],
+    order: bool,
+    out: &mut W,
+) -> Result<Modelled, ProgramFault>
+    ensures report { is_report text.now ≡ true → PrintsModelsOfReport A text.now order
+        (output (W.taken out.old) (W.failures out.old))
+        (output (W.taken out.new) (W.failures out.new)) result }
+    ensures log { is_report text.now ≡ false → PrintsModels A (lines text.now)
+        (record { order = order; fences = true })
+        (output (W.taken out.old) (W.failures out.old))
+        (output (W.taken out.new) (W.failures out.new)) result }
+{
+    if is_report(text) {
+        report_models_text(alloc, text, order, out)
+    } else {
+        let fences = true;
+        model_text(alloc, text, Options { order, fences }, out)
     }
 }

@@ -72,13 +72,17 @@ fn is_obeyed(obeys: Obeys, model: MemoryModel) -> bool
     }
 }
 
-/// The status that the program ends with where a log was judged: 0 where it obeys the model, 1 where it
-/// doesn't or a reply is wrong.
+/// The status that the program ends with where a log or a report was judged: 0 where it obeys the model,
+/// 1 where it doesn't or a reply is wrong, 5 where a report would need fences.
 pub fn model_status(modelled: Modelled, model: MemoryModel) -> u8
     ensures { result ≡ modelled_status modelled model }
 {
     match modelled {
         Modelled::Obeys(obeys) => u8::from(!is_obeyed(obeys, model)),
+        Modelled::WithoutFences(obeys) => match model {
+            MemoryModel::Fenced => 5,
+            _ => u8::from(!is_obeyed(obeys, model)),
+        },
         Modelled::Wrong(_) => 1,
     }
 }

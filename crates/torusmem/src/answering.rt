@@ -5,10 +5,10 @@ use crate::running::by_workers;
 use command_jobs::Ended;
 use command_line::Job;
 use command_verdicts::{
-    Judged, Modelled, linearize_text, lock_up_text, model_text, network_text, replay_network_text,
-    report_text,
+    Judged, Modelled, judged_models_text, linearize_text, lock_up_text, network_text,
+    replay_network_text, report_text,
 };
-use model_answer::{MemoryModel, Options};
+use model_answer::MemoryModel;
 use program_fault::{ProgramFault, Texts};
 use report_lines::Out;
 use run_command::Ending;
@@ -63,8 +63,7 @@ pub(crate) fn answer<R: Eprint + Clock + AllocGlobal + Threads + Wait + Sync, W:
             judged_with(judged, configurations)
         }
         Job::Model { model, order, .. } => {
-            let fences = true;
-            modelled_by(model_text(alloc, first, Options { order, fences }, out), model)
+            modelled_by(judged_models_text(alloc, first, order, out), model)
         }
         Job::Run { workers, turns, .. } => {
             let (workers, turns) = (workers as usize, u64::from(turns));

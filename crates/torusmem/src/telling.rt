@@ -6,7 +6,7 @@ use crate::answering::Outcome;
 use command_jobs::{kind, names};
 use command_line::Job;
 use command_verdicts::{
-    Judged, Modelled, explain_lock_up, explain_log, explain_network, explain_no_order,
+    Judged, Modelled, explain_lock_up, explain_models, explain_network, explain_no_order,
     explain_replay, explain_trace, model_status, status, verdict_text,
 };
 use error_lines::explain;
@@ -74,7 +74,7 @@ pub(crate) fn explain_fault<R: Eprint + AllocGlobal>(
             run,
             depth,
         } => explain_replay(rt, (network, run), texts, u64::from(depth), fault),
-        Job::Model { log, .. } => explain_log(rt, log, &texts.first, fault),
+        Job::Model { log, .. } => explain_models(rt, log, &names(job), texts, fault),
         Job::Linearize { trace, .. } | Job::Report { trace, .. } => {
             explain_trace(rt, trace, &texts.first, fault);
         }

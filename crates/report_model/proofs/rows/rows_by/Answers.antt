@@ -1,0 +1,16 @@
+use Rattle.std.proofs.Common.{◌≤◌, ◌∙◌, length, ap, arith}
+use Rattle.std.specs.List.{filter_map}
+use Rattle.std.proofs.lemmas.List.{take_all}
+use Rattle.report_model.specs.Rows.{row_ordered}
+use Rattle.report_model.proofs.Kept.{kept_more}
+use Rattle.report_model.proofs.rows.rows_by.Goals as goal
+
+pub loop-k-preserved : goal.loop-k-preserved
+loop-k-preserved g c =
+    kept_more (row_ordered c.args.entries.now) c.args.orders.now c.loop-k.k c.order_at-order.result c.loop-k.rows.items c.push_some.new.rows.items
+    c.row_ordered.result c.order_at-order.ensures c.row_ordered.ensures c.in_ok-push_some.ensures c.loop-k.invariant
+
+pub returns : goal.returns
+returns g c =
+    let end : length c.args.orders.now ≤ c.loop-k.k = omega arith in
+    c.loop-k.invariant ∙ ap (filter_map (row_ordered c.args.entries.now)) (take_all c.loop-k.k c.args.orders.now end)

@@ -1,0 +1,5 @@
+pub mod Run
+pub mod Rows
+pub mod Indexes
+pub mod Entries
+pub mod Answers

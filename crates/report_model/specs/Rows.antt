@@ -1,0 +1,52 @@
+-- The operations of a report: in the order of service, and in the order of issue (this project's own
+-- format).
+use Rattle.std.specs.Prelude.{ℕ, ◌+◌, ◌*◌, ◌==◌, List, map, Option, option_map, slice_get}
+use Rattle.std.specs.List.{filter_map, find, range_with_len}
+use Rattle.report_lines.specs.declared.line.OrderLine.{OrderLine}
+use Rattle.report_check.specs.Seen.{line_operation}
+use Rattle.model_text.specs.Traces.{place_below}
+use Rattle.report_model.specs.declared.row.ReportRow.{ReportRow}
+use Rattle.report_model.specs.declared.run.ServedLine.{ServedLine}
+use Rattle.report_model.specs.Run.{RunSpec}
+
+-- the bank and the place of an entry as one number: a bank has at most 65536 entries
+abbrev pub entry_key : ServedLine → ℕ
+entry_key s = 65536 * s.entry.bank + s.entry.place
+
+-- those that an order line names
+abbrev pub order_key : OrderLine → ℕ
+order_key o = 65536 * o.bank + o.place
+
+-- the first entry that an order line names; there are at most 64 banks
+abbrev pub entry_ordered : List ServedLine → OrderLine → Option ServedLine
+entry_ordered entries o = slice_get entries (place_below (map entry_key entries) 4194304 (order_key o))
+
+-- the operation of an entry and its order line
+abbrev pub row_of : ServedLine → OrderLine → ReportRow
+row_of s o = record {
+  line = s.line;
+  source = s.entry.source;
+  operation = line_operation s.entry;
+  reply = s.entry.reply;
+  issued = o.issued;
+}
+
+-- the operation of an order line
+abbrev pub row_ordered : List ServedLine → OrderLine → Option ReportRow
+row_ordered entries o = option_map (λ s. row_of s o) (entry_ordered entries o)
+
+-- the operations by their services, in the order of the order lines
+abbrev pub rows_of : RunSpec → List ReportRow
+rows_of r = filter_map (row_ordered r.entries) r.orders
+
+-- the operation whose issue has a number
+abbrev pub row_issued : List ReportRow → ℕ → Option ReportRow
+row_issued rows n = find (λ row. row.issued == n) rows
+
+-- the operations by their issues: events have numbers below 196609
+abbrev pub made_of : List ReportRow → List ReportRow
+made_of rows = filter_map (row_issued rows) (range_with_len 0 196609)
+
+-- the numbers of their issues
+abbrev pub issues_of : List ReportRow → List ℕ
+issues_of rows = map (λ row. row.issued) rows

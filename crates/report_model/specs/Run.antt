@@ -1,0 +1,55 @@
+-- What the lines of a report say of its run (this project's own format).
+use Rattle.std.specs.Prelude.{ℕ, ◌+◌, List, [], ◌∷◌, ◌++◌, fold}
+use Rattle.report_lines.specs.declared.line.OrderLine.{OrderLine}
+use Rattle.report_lines.specs.declared.line.ReportLine.{ReportLine}
+use Rattle.report_lines.specs.declared.line.ReportLine.TheVariants.{Header, Shape, Init, Entry}
+use Rattle.report_lines.specs.declared.line.ReportLine.TheVariants.{Answer, Word, Order}
+use Rattle.report_lines.specs.declared.line.ReportLine.TheVariants.{End}
+use Rattle.model_records.specs.declared.entry.LineEntry.{LineEntry}
+use Rattle.model_records.specs.declared.entry.LogEntry.TheVariants as entry
+use Rattle.report_model.specs.declared.run.RunLines.{RunLines}
+use Rattle.report_model.specs.declared.run.ServedLine.{ServedLine}
+
+-- how many lines there are, the number of words, the opening words, and the entries, each with its
+-- line, and the order lines
+pub record RunSpec : Type 0 where
+  pub count : ℕ
+  pub words : ℕ
+  pub inits : List LineEntry
+  pub entries : List ServedLine
+  pub orders : List OrderLine
+
+-- before the first line
+abbrev pub nothing_run : RunSpec
+nothing_run = record { count = 0; words = 0; inits = []; entries = []; orders = [] }
+
+-- with one more line
+abbrev pub run_after : RunSpec → ReportLine → RunSpec
+run_after r (Header version) = record r { count = r.count + 1 }
+run_after r (Shape radices words) = record r { count = r.count + 1; words = words }
+run_after r (Init address word) = record r {
+  count = r.count + 1;
+  inits = r.inits ++ (record { line = r.count + 1; entry = entry.Init address word }) ∷ [];
+}
+run_after r (Entry e) = record r {
+  count = r.count + 1;
+  entries = r.entries ++ (record { line = r.count + 1; entry = e }) ∷ [];
+}
+run_after r (Answer a) = record r { count = r.count + 1 }
+run_after r (Word address word) = record r { count = r.count + 1 }
+run_after r (Order o) = record r { count = r.count + 1; orders = r.orders ++ o ∷ [] }
+run_after r (End complete) = record r { count = r.count + 1 }
+
+-- what the lines of a report say
+abbrev pub run_of : List ReportLine → RunSpec
+run_of lines = fold run_after nothing_run lines
+
+-- the same of what the program keeps
+abbrev pub run_seen : {A : Type 0} → RunLines A → RunSpec
+run_seen r = record {
+  count = r.count;
+  words = r.words;
+  inits = r.inits.items;
+  entries = r.entries.items;
+  orders = r.orders.items;
+}
