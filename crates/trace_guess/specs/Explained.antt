@@ -10,7 +10,7 @@ abbrev pub AreIssued : List Event → List ℕ → List Call → Type 0
 AreIssued events issues order = (x : ℕ) (c : Call) → slice_get order x ≡ Some c
     → (i : ℕ) × (slice_get issues x ≡ Some i) × TraceIssuesAt events i c
 
--- the operation of this number stands at place x of an order, where it is told this reply
+-- the operation of this number stands at place x of an order, and has this reply there
 pub record IsPlacedAt (order : List Call) (told : List Reply) (id : ℕ) (reply : Reply) (x : ℕ) : Type 0
   where
     pub call : Call

@@ -79,7 +79,7 @@ fn told_by<A: Allocator>(
     Ok(Some(told))
 }
 
-/// Whether the operation of this number stands at a place, where it is told this reply.
+/// Whether the operation of this number stands at a place, and has this reply there.
 fn stands_at(order: &[Call], told: &[Reply], x: usize, id: u64, reply: Reply) -> bool
     ensures { result ≡ true → IsPlacedAt order.now told.now id reply x }
 {
@@ -87,7 +87,7 @@ fn stands_at(order: &[Call], told: &[Reply], x: usize, id: u64, reply: Reply) ->
 }
 
 /// A place from this one on, before which the operation stands that an event answers; nothing, where it doesn't
-/// stand at its place, or is told another reply there.
+/// stand at its place, or has another reply there.
 fn height_after(
     order: &[Call],
     told: &[Reply],
@@ -109,7 +109,7 @@ fn height_after(
 }
 
 /// Of each event a place before which all stands that is answered before it; nothing, where an answered operation
-/// doesn't stand at its place, or is told another reply there.
+/// doesn't stand at its place, or has another reply there.
 fn heights_of<A: Allocator>(
     alloc: A,
     events: &[Event],

@@ -5,20 +5,28 @@ ghost use Rattle.trace_laws.specs.Orders.{IsOrder};
 ghost use Rattle.trace_laws.specs.Traces.{IsTrace};
 
 use crate::explained::explained;
-use crate::pairs::{NONE, call_at, number_at, partners_of, set_number};
+use crate::pairs::{number_at, partners_of, set_number};
+use crate::plan::plan_of;
+use crate::search::{Search, search_of};
+use crate::seen::{Seen, seen_of};
 use crate::values::values_of;
-use crate::walk::beam_of;
 use crate::words::by_word;
 use std::alloc::{AllocError, Allocator};
 use trace_laws::{Call, Event};
 
+/// How many slots and kinds of operations a search looks at for each event, and how many at most.
+const LOOKS: u64 = 1 << 13;
+
+const MOST: u64 = 1 << 31;
+
 /// Of each event the first operation that takes effect before it, by the event of its issue, and of each operation
-/// the next one there.
+/// the next one there; where the search has been, and how many slots and kinds it may still look at.
 #[derive(Drop)]
 struct Turns<A: Allocator> {
-    firsts: Vec<usize, A>,
-    nexts: Vec<usize, A>,
-    work: u64,
+    firsts: Vec<Option<usize>, A>,
+    nexts: Vec<Option<usize>, A>,
+    seen: Seen<A>,
+    looks: u64,
 }
 
 /// The operations of an order, by the events of their issues, and of each event the place of its operation.
@@ -29,64 +37,93 @@ struct Guess<A: Allocator> {
 }
 
 impl<A: Allocator + Copy> Turns<A> {
-    /// Notes the turns of one word. Says whether its search came to an end.
+    /// Notes the turns that a search came to, the last one first.
+    fn note(&mut self, search: &Search<A>) {
+        for n in 0..search.turns.len() {
+            let turn = search.turns[search.turns.len() - 1 - n];
+            let next = number_at(&self.firsts, turn.event);
+            set_number(&mut self.nexts, turn.issue, next);
+            set_number(&mut self.firsts, turn.event, Some(turn.issue));
+        }
+    }
+
+    /// Searches over one word, and notes the turns. Says whether the search came to the end.
     fn search(
         &mut self,
         alloc: A,
         word: u64,
         events: &[Event],
-        partners: &[usize],
+        partners: &[Option<usize>],
         mine: &[usize],
     ) -> Result<bool, AllocError> {
-        let values = values_of(alloc, events, partners, mine)?;
-        let mut beam = beam_of(alloc, word, values, self.work)?;
-        if !beam.run(events, partners, mine)? {
+        let mut values = values_of(alloc, events, partners, mine)?;
+        let Some(plan) = plan_of(alloc, &mut values, events, partners, mine)? else {
+            return Ok(false);
+        };
+        let mut search = search_of(alloc, word, plan, values, self.looks)?;
+        if !search.run(&mut self.seen)? {
             return Ok(false);
         }
-        self.work = beam.work;
-        beam.note(&mut self.firsts, &mut self.nexts);
+        self.looks = search.looks;
+        self.note(&search);
         Ok(true)
     }
 }
 
 impl<A: Allocator + Copy> Guess<A> {
+    /// Adds an operation.
+    fn add(&mut self, issue: usize) -> Result<(), AllocError> {
+        if issue < self.places.len() {
+            self.places[issue] = self.issues.len();
+        }
+        self.issues.push(issue)?;
+        Ok(())
+    }
+
     /// Adds the operations that take effect before an event.
-    fn add(&mut self, turns: &Turns<A>, first: usize) -> Result<(), AllocError> {
-        let mut issue = first;
+    fn add_all(&mut self, turns: &Turns<A>, first: Option<usize>) -> Result<(), AllocError> {
+        let mut next = first;
         for _ in 0..turns.nexts.len() {
-            if issue == NONE || self.issues.len() >= self.places.len() {
+            let Some(issue) = next else {
+                return Ok(());
+            };
+            if self.issues.len() >= self.places.len() {
                 return Ok(());
             }
-            set_number(&mut self.places, issue, self.issues.len());
-            self.issues.push(issue)?;
-            issue = number_at(&turns.nexts, issue);
+            self.add(issue)?;
+            next = number_at(&turns.nexts, issue);
         }
         Ok(())
     }
 
     /// Each answer has the place of its operation.
-    fn place_answers(&mut self, events: &[Event], partners: &[usize]) {
+    fn place_answers(&mut self, events: &[Event], partners: &[Option<usize>]) {
         for k in 0..events.len() {
-            if call_at(events, k).is_none() {
-                let place = number_at(&self.places, number_at(partners, k));
-                set_number(&mut self.places, k, place);
+            if let Event::Answer(..) = events[k]
+                && let Some(issue) = number_at(partners, k)
+                && issue < self.places.len()
+                && k < self.places.len()
+            {
+                self.places[k] = self.places[issue];
             }
         }
     }
 }
 
-/// The turns of all words, if the search over each came to an end.
+/// The turns of all words, if the search over each came to the end.
 fn turns_of<A: Allocator + Copy>(
     alloc: A,
     opening: &[u64],
     events: &[Event],
-    partners: &[usize],
+    partners: &[Option<usize>],
 ) -> Result<Option<Turns<A>>, AllocError> {
     let listed = by_word(alloc, opening.len(), events, partners)?;
+    let looks = (events.len() as u64).saturating_mul(LOOKS);
     let mut turns = Turns {
-        firsts: vec![in alloc; NONE; events.len()]?,
-        nexts: vec![in alloc; NONE; events.len()]?,
-        work: 0,
+        firsts: vec![in alloc; None; events.len()]?,
+        nexts: vec![in alloc; None; events.len()]?,
+        seen: seen_of(alloc, events.len())?,
+        looks: looks.min(MOST),
     };
     for word in 0..opening.len() {
         if !turns.search(alloc, opening[word], events, partners, listed.of(word))? {
@@ -100,15 +137,15 @@ fn turns_of<A: Allocator + Copy>(
 fn guess_of<A: Allocator + Copy>(
     alloc: A,
     events: &[Event],
-    partners: &[usize],
+    partners: &[Option<usize>],
     turns: &Turns<A>,
 ) -> Result<Guess<A>, AllocError> {
     let mut guess = Guess {
         issues: Vec::new(alloc),
-        places: vec![in alloc; NONE; events.len()]?,
+        places: vec![in alloc; 0usize; events.len()]?,
     };
     for k in 0..events.len() {
-        guess.add(turns, number_at(&turns.firsts, k))?;
+        guess.add_all(turns, number_at(&turns.firsts, k))?;
     }
     guess.place_answers(events, partners);
     Ok(guess)

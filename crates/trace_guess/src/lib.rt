@@ -1,11 +1,15 @@
 //! Guesses an order of a trace, and checks whether it explains the trace: nothing rests on the guess.
 #![tactic(auto)]
 
-pub mod beam;
+mod choices;
 pub mod explained;
 pub mod guess;
+mod needs;
 mod pairs;
+mod plan;
+mod search;
+mod seen;
+mod slots;
 mod values;
-mod waiting;
 mod walk;
 mod words;

@@ -6,9 +6,6 @@ use packet::{Op, Reply, apply};
 use std::alloc::{AllocError, Allocator};
 use trace_laws::{Call, Event};
 
-/// Stands for no event.
-pub(crate) const NONE: usize = usize::MAX;
-
 /// The operation that an event issues, if it issues one.
 pub(crate) fn call_at(events: &[Event], i: usize) -> Option<Call> {
     if i >= events.len() {
@@ -20,72 +17,69 @@ pub(crate) fn call_at(events: &[Event], i: usize) -> Option<Call> {
     }
 }
 
-/// The number at a place, none where there is no place.
-pub(crate) fn number_at(numbers: &[usize], place: usize) -> usize {
-    numbers.get(place).copied().unwrap_or(NONE)
+/// The number at a place, if there is one.
+pub(crate) fn number_at(numbers: &[Option<usize>], place: usize) -> Option<usize> {
+    numbers.get(place).copied().unwrap_or(None)
 }
 
 /// Writes a number at a place, if there is the place.
-pub(crate) fn set_number(numbers: &mut [usize], place: usize, number: usize) {
+pub(crate) fn set_number(numbers: &mut [Option<usize>], place: usize, number: Option<usize>) {
     if place < numbers.len() {
         numbers[place] = number;
     }
 }
 
-/// The events that issue operations, in turn.
-fn issues_of<A: Allocator>(alloc: A, events: &[Event]) -> Result<Vec<usize, A>, AllocError> {
-    let mut issues = Vec::new(alloc);
+/// The numbers of the operations that a trace issues, which rise, and the events that issue them.
+#[derive(Drop)]
+struct Issues<A: Allocator> {
+    ids: Vec<u64, A>,
+    events: Vec<usize, A>,
+}
+
+/// The operations that a trace issues.
+fn issues_of<A: Allocator + Copy>(alloc: A, events: &[Event]) -> Result<Issues<A>, AllocError> {
+    let mut issues = Issues {
+        ids: Vec::new(alloc),
+        events: Vec::new(alloc),
+    };
     for i in 0..events.len() {
-        if call_at(events, i).is_some() {
-            issues.push(i)?;
+        if let Event::Issue(call) = events[i] {
+            issues.ids.push(call.id)?;
+            issues.events.push(i)?;
         }
     }
     Ok(issues)
 }
 
-/// The number of the operation that an event issues, 0 where it issues none.
-fn id_at(events: &[Event], i: usize) -> u64 {
-    match call_at(events, i) {
-        Some(call) => call.id,
-        None => 0,
+impl<A: Allocator> Issues<A> {
+    /// The event that issues the operation of this number.
+    fn event_of(&self, id: u64) -> Option<usize> {
+        let place = self.ids.binary_search(&id).ok()?;
+        self.events.get(place).copied()
     }
-}
-
-/// The event that issues the operation of this number. Numbers rise along a trace.
-fn issue_of(events: &[Event], issues: &[usize], id: u64) -> usize {
-    let mut low = 0usize;
-    let mut count = issues.len();
-    for _ in 0..64 {
-        let half = count / 2;
-        let middle = low.saturating_add(half);
-        if id_at(events, number_at(issues, middle)) <= id {
-            low = middle;
-        }
-        count = count.saturating_sub(half);
-    }
-    number_at(issues, low)
 }
 
 /// Of each event that issues an operation the one that answers it, and the other way round.
 pub(crate) fn partners_of<A: Allocator + Copy>(
     alloc: A,
     events: &[Event],
-) -> Result<Vec<usize, A>, AllocError> {
+) -> Result<Vec<Option<usize>, A>, AllocError> {
     let issues = issues_of(alloc, events)?;
-    let mut partners = vec![in alloc; NONE; events.len()]?;
+    let mut partners = vec![in alloc; None; events.len()]?;
     for k in 0..events.len() {
-        if let Event::Answer(id, _) = events[k] {
-            let i = issue_of(events, &issues, id);
-            set_number(&mut partners, k, i);
-            set_number(&mut partners, i, k);
+        if let Event::Answer(id, _) = events[k]
+            && let Some(i) = issues.event_of(id)
+        {
+            set_number(&mut partners, k, Some(i));
+            set_number(&mut partners, i, Some(k));
         }
     }
     Ok(partners)
 }
 
-/// The reply that the trace tells of the operation that event i issues.
-pub(crate) fn reply_at(events: &[Event], partners: &[usize], i: usize) -> Option<Reply> {
-    let k = number_at(partners, i);
+/// The reply to the operation that event i issues, if it is answered.
+pub(crate) fn reply_at(events: &[Event], partners: &[Option<usize>], i: usize) -> Option<Reply> {
+    let k = number_at(partners, i)?;
     if k >= events.len() {
         return None;
     }

@@ -1,207 +1,158 @@
-//! The search goes through the events of a word.
+//! The search goes over the events of a word, depth first: before an answer it tries which operations took effect, and
+//! goes back where nothing is left to try.
 
 ghost use Rattle.std.specs.Prelude.{◌<◌, ◌≤◌, length};
 
-use crate::beam::Beam;
-use crate::pairs::{call_at, found_by, left_by, number_at, reply_at, set_number};
-use crate::values::Values;
-use crate::waiting::{Slots, State, Waiting, has, without};
-use packet::Op;
+use crate::plan::Step;
+use crate::search::Search;
+use crate::seen::{Seen, scattered};
+use crate::slots::{Open, has, without};
 use std::alloc::{AllocError, Allocator};
-use trace_laws::Event;
 
-/// How many comparisons there are at most.
-const WORK: u64 = 1 << 30;
+/// How many events are gone over at most, each time that one is.
+const STEPS: u64 = 1 << 30;
 
-/// How many turns there are at most.
-const TURNS: usize = 1 << 23;
+/// How many choices it keeps at most.
+const CHOICES: usize = 1 << 16;
 
-/// The search before the first event of a word.
-pub(crate) fn beam_of<A: Allocator + Copy>(
-    alloc: A,
-    word: u64,
-    values: Values<A>,
-    work: u64,
-) -> Result<Beam<A>, AllocError> {
-    let mut states = Vec::new(alloc);
-    states.push(State {
-        word,
-        taken: 0,
-        turn: None,
-    })?;
-    Ok(Beam {
-        values,
-        slots: Slots {
-            table: Vec::new(alloc),
-        },
-        states,
-        found: Vec::new(alloc),
-        turns: Vec::new(alloc),
-        optional: 0,
-        work,
-    })
-}
+/// How many events the search goes back at most.
+const BACK: usize = 1024;
 
-impl<A: Allocator + Copy> Beam<A> {
-    /// Whether an operation that is never answered says nothing: a load, or one whose word nothing finds.
-    fn is_idle(&self, waiting: Waiting) -> bool {
-        if waiting.reply.is_some() {
-            return false;
-        }
-        match waiting.op {
-            Op::Load => true,
-            Op::Store(_) | Op::Swap(_) | Op::Cas(..) => {
-                self.values.finds_at(waiting.left) == 0 && !self.values.leads_on_at(waiting.left)
-            }
-            _ => false,
-        }
-    }
-
-    /// An operation is counted no more.
-    fn end(&mut self, waiting: Waiting) {
-        self.values
-            .end(waiting.found, waiting.left, waiting.reply.is_some());
-    }
-
-    /// An operation is issued. Says whether there is room for it.
-    fn issue(
-        &mut self,
-        events: &[Event],
-        partners: &[usize],
-        k: usize,
-    ) -> Result<bool, AllocError> {
-        let Some(call) = call_at(events, k) else {
-            return Ok(true);
-        };
-        let reply = reply_at(events, partners, k);
-        let waiting = Waiting {
-            issue: k,
-            op: call.operation.op,
-            reply,
-            found: self.values.place_of(found_by(reply)),
-            left: self.values.place_of(left_by(call.operation.op, reply)),
-        };
-        if self.is_idle(waiting) {
-            self.end(waiting);
-            return Ok(true);
-        }
-        self.slots.put(waiting)
-    }
-
-    /// Keeps the states in which the operation in a slot has taken effect.
-    fn keep(&mut self, slot: usize) -> Result<(), AllocError> {
-        self.states.clear();
-        for i in 0..self.found.len() {
-            if let Some(state) = self.found.get(i).copied()
-                && has(state.taken, slot)
-            {
-                self.states.push(State {
-                    word: state.word,
-                    taken: without(state.taken, slot),
-                    turn: state.turn,
-                })?;
-            }
-        }
-        Ok(())
-    }
-
-    /// Whether the operation in a slot has taken effect in each state.
-    fn is_in_all(&self, slot: usize) -> bool {
-        for state in &self.states {
-            if !has(state.taken, slot) {
-                return false;
-            }
-        }
-        true
-    }
-
-    /// Whether it has in none.
-    fn is_in_none(&self, slot: usize) -> bool {
-        for state in &self.states {
-            if has(state.taken, slot) {
-                return false;
-            }
-        }
-        true
-    }
-
-    /// Takes a slot out of all states.
-    fn forget(&mut self, slot: usize) {
-        for i in 0..self.states.len() {
-            self.states[i].taken = without(self.states[i].taken, slot);
-        }
-    }
-
-    /// Frees the slots of operations that are never answered, and have taken effect in each state or will in none.
-    fn release(&mut self) {
-        for slot in 0..self.slots.table.len() {
-            if let Some(waiting) = self.slots.at(slot)
-                && waiting.reply.is_none()
-                && (self.is_in_all(slot) || self.is_idle(waiting) && self.is_in_none(slot))
-            {
-                self.forget(slot);
-                self.slots.set(slot, None);
-                self.end(waiting);
+impl<A: Allocator + Copy> Search<A> {
+    /// Takes back what took effect last, until so many operations have.
+    fn take_back(&mut self, turns: usize) {
+        for _ in turns..self.turns.len() {
+            if let Some(turn) = self.turns.pop() {
+                self.values.put_back(turn.found, turn.left);
+                match turn.lost {
+                    Some(place) => self.plan.put_first(place),
+                    None => self.values.begin(turn.found),
+                }
             }
         }
     }
 
-    /// The operation that an event issues is answered at event k. Says whether a state is left.
-    fn answer(&mut self, issue: usize, k: usize) -> Result<bool, AllocError> {
-        let Some(slot) = self.slots.slot_of(issue) else {
+    /// Goes back over an event.
+    fn undo(&mut self, step: Step) {
+        if step.issues {
+            self.values.end(step.open.found);
+            self.slots.set(step.open.slot, None);
+        } else {
+            self.slots.set(step.open.slot, Some(step.open));
+        }
+    }
+
+    /// Goes back to where so many events lay behind.
+    fn go_back(&mut self, at: usize) {
+        for _ in at..self.state.at {
+            self.state.at = self.state.at.saturating_sub(1);
+            if let Some(step) = self.plan.step_at(self.state.at) {
+                self.undo(step);
+            }
+        }
+    }
+
+    /// Tries the last choice, if there is one that isn't far back.
+    fn choose(&mut self) -> Result<bool, AllocError> {
+        let Some(choice) = self.choices.pop() else {
             return Ok(false);
         };
-        self.optional = self.slots.optional();
-        self.close(slot, k)?;
-        self.keep(slot)?;
-        if let Some(waiting) = self.slots.at(slot) {
-            self.end(waiting);
+        self.most = self.most.max(self.state.at);
+        if choice.state.at.saturating_add(BACK) < self.most {
+            return Ok(false);
         }
-        self.slots.set(slot, None);
-        self.release();
-        Ok(!self.states.is_empty() && self.work <= WORK && self.turns.len() <= TURNS)
-    }
-
-    /// Takes event k. Says whether a state is left.
-    fn step(&mut self, events: &[Event], partners: &[usize], k: usize) -> Result<bool, AllocError> {
-        if call_at(events, k).is_some() {
-            return self.issue(events, partners, k);
-        }
-        self.answer(number_at(partners, k), k)
-    }
-
-    /// Goes through the events of the word. Says whether a state is left at the end.
-    pub(crate) fn run(
-        &mut self,
-        events: &[Event],
-        partners: &[usize],
-        mine: &[usize],
-    ) -> Result<bool, AllocError> {
-        for k in mine {
-            if !self.step(events, partners, *k)? {
-                return Ok(false);
-            }
+        self.take_back(choice.turns);
+        self.go_back(choice.state.at);
+        self.state = choice.state;
+        if let Some(step) = self.plan.step_at(choice.state.at) {
+            self.take_choice(choice, step.open.answer)?;
         }
         Ok(true)
     }
 
-    /// Notes the turns that lead to the first state: of each event the first operation that takes effect before it,
-    /// and of each operation the next one there.
-    pub(crate) fn note(&self, firsts: &mut [usize], nexts: &mut [usize]) {
-        let mut last = match self.states.first() {
-            Some(state) => state.turn,
-            None => None,
-        };
-        for _ in 0..self.turns.len() {
-            let Some(place) = last else {
-                return;
-            };
-            let Some(turn) = self.turns.get(place).copied() else {
-                return;
-            };
-            set_number(nexts, turn.issue, number_at(firsts, turn.event));
-            set_number(firsts, turn.event, turn.issue);
-            last = turn.before;
+    /// Where there are many choices, drops the older half.
+    fn forget(&mut self) {
+        if self.choices.len() < CHOICES {
+            return;
         }
+        for i in 0..CHOICES / 2 {
+            if i + CHOICES / 2 < self.choices.len() {
+                self.choices[i] = self.choices[i + CHOICES / 2];
+            }
+        }
+        self.choices.truncate(CHOICES / 2);
+    }
+
+    /// A number for where the search stands before an event. The word counts only where something needs it.
+    fn number_at(&self, event: usize) -> u64 {
+        let state = self.state;
+        let is_wanted = self.values.is_wanted(state.word, false);
+        let word = if is_wanted { state.word } else { u64::MAX };
+        let place = scattered(scattered(word).wrapping_add(event as u64));
+        let number = scattered(place ^ state.mark);
+        if state.owes { !number } else { number }
+    }
+
+    /// An operation is answered that hasn't taken effect: tries what may lead there. Says whether there is something.
+    fn branch(&mut self, seen: &mut Seen<A>, answered: Open) -> Result<bool, AllocError> {
+        self.pay();
+        self.forget();
+        if !seen.note(self.number_at(answered.answer)) {
+            self.add_choices(answered)?;
+        }
+        self.choose()
+    }
+
+    /// Pays for a walk over the slots for each slot, and for one over the kinds.
+    fn pay(&mut self) {
+        let slots = self.slots.table.len() as u64;
+        let kinds = self.plan.kinds.len() as u64;
+        let walk = slots.saturating_mul(slots).saturating_add(kinds);
+        self.looks = self.looks.saturating_sub(walk);
+    }
+
+    /// Goes over the issue of an operation.
+    fn begin(&mut self, open: Open) {
+        self.values.begin(open.found);
+        self.slots.set(open.slot, Some(open));
+        self.state.at = self.state.at.saturating_add(1);
+    }
+
+    /// Goes over the answer of an operation that has taken effect.
+    fn end(&mut self, open: Open) {
+        self.slots.set(open.slot, None);
+        self.state.taken = without(self.state.taken, open.slot);
+        self.state.mark = self.state.mark.wrapping_sub(scattered(open.issue as u64));
+        self.state.at = self.state.at.saturating_add(1);
+    }
+
+    /// Goes over an event, or tries something else. Says whether there is something.
+    fn step(&mut self, seen: &mut Seen<A>, step: Step) -> Result<bool, AllocError> {
+        let open = step.open;
+        if step.issues {
+            self.begin(open);
+            return Ok(true);
+        }
+        if !has(self.state.taken, open.slot) {
+            self.settle(open.answer)?;
+        }
+        if !has(self.state.taken, open.slot) {
+            return self.branch(seen, open);
+        }
+        self.end(open);
+        Ok(true)
+    }
+
+    /// Goes over all events. Says whether it came to the end.
+    pub(crate) fn run(&mut self, seen: &mut Seen<A>) -> Result<bool, AllocError> {
+        for _ in 0..STEPS {
+            let Some(step) = self.plan.step_at(self.state.at) else {
+                return Ok(true);
+            };
+            if self.looks == 0 || !self.step(seen, step)? {
+                return Ok(false);
+            }
+        }
+        Ok(false)
     }
 }

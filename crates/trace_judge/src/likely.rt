@@ -13,7 +13,6 @@ use crate::reading::promise_of;
 use crate::sights::{Guess, guess_of};
 use packet::Reply;
 use std::alloc::{AllocError, Allocator};
-use trace_guess::beam::STATES;
 use trace_guess::guess::guessed_order;
 use trace_laws::{Call, Event};
 
@@ -138,8 +137,10 @@ pub fn likely<A: Allocator + Copy>(
     Ok(other)
 }
 
-/// An order that explains the trace, if one is guessed. Where fewer configurations are allowed than a guess follows,
-/// none is.
+/// With fewer configurations of a word no order is guessed.
+const GUESSED: usize = 1024;
+
+/// An order that explains the trace, if one is guessed.
 pub fn try_guess<A: Allocator + Copy>(
     alloc: A,
     opening: &[u64],
@@ -150,7 +151,7 @@ pub fn try_guess<A: Allocator + Copy>(
     ensures { IfOk result (λ found. MatchOption found (Unit {0})
         (λ order. IsOrder opening.now events.now order.items)) }
 {
-    if bound < STATES {
+    if bound < GUESSED {
         return Ok(None);
     }
     guessed_order(alloc, opening, events)

@@ -1,0 +1,152 @@
+//! What a search tries next.
+
+ghost use Rattle.std.specs.Prelude.{◌<◌, ◌≤◌, length};
+
+use crate::search::{Choice, Search, Taker};
+use crate::slots::{Open, is_store};
+use packet::{Op, apply};
+use std::alloc::{AllocError, Allocator};
+
+/// Of the word that is to be followed by another: the place of its value, how many operations find it, and whether it
+/// may come again.
+#[derive(Clone, Copy)]
+pub(crate) struct Ending {
+    pub place: Option<usize>,
+    pub finds: u32,
+    pub recurs: bool,
+}
+
+impl<A: Allocator + Copy> Search<A> {
+    /// What is to be known of the word before another follows.
+    fn ending(&self) -> Ending {
+        let word = self.state.word;
+        Ending {
+            place: self.values.place_of(Some(word)),
+            finds: self.values.finds_of(word),
+            recurs: self.values.recurs(word),
+        }
+    }
+
+    /// Whether the word may be followed by another, by an operation that finds the value at a place: all others that
+    /// find the word have taken effect, or it comes again.
+    fn may_end(&self, ending: Ending, new: u64, found: Option<usize>) -> bool {
+        let own = if found.is_some() && found == ending.place {
+            1
+        } else {
+            0
+        };
+        ending.recurs
+            || new == self.state.word
+            || ending.finds <= own && !self.values.strands(self.state.word, new)
+    }
+
+    /// The event by which a value is due: the first that answers an open operation which finds it.
+    fn due_of(&self, place: Option<usize>) -> usize {
+        let mut due = self.plan.end;
+        for slot in 0..self.slots.table.len() {
+            if let Some(open) = self.waiting_at(slot)
+                && open.found.is_some()
+                && open.found == place
+            {
+                due = due.min(open.answer);
+            }
+        }
+        due
+    }
+
+    /// Swaps a choice with the one below, if that is due earlier. Says whether it did.
+    fn sink(&mut self, i: usize) -> bool {
+        if i == 0 || i >= self.choices.len() || self.choices[i - 1].due >= self.choices[i].due {
+            return false;
+        }
+        self.choices.swap(i - 1, i);
+        true
+    }
+
+    /// Adds a choice above those from a place on that are due no earlier.
+    fn add_choice(
+        &mut self,
+        from: usize,
+        taker: Taker,
+        op: Op,
+        due: usize,
+    ) -> Result<(), AllocError> {
+        let mut place = self.choices.len();
+        self.choices.push(Choice {
+            state: self.state,
+            turns: self.turns.len(),
+            taker,
+            op,
+            due,
+        })?;
+        for _ in from..place {
+            if !self.sink(place) {
+                return Ok(());
+            }
+            place = place.saturating_sub(1);
+        }
+        Ok(())
+    }
+
+    /// Adds the operation in a slot, if it may take effect and is of use.
+    fn try_slot(
+        &mut self,
+        from: usize,
+        ending: Ending,
+        slot: usize,
+        answered: Open,
+    ) -> Result<(), AllocError> {
+        let Some(open) = self.waiting_at(slot) else {
+            return Ok(());
+        };
+        let (new, reply) = apply(open.op, self.state.word);
+        let is_owed = open.found.is_some() && open.found == ending.place;
+        if reply != open.reply
+            || self.state.owes && !is_owed
+            || slot != answered.slot && self.is_silent(open)
+            || !self.may_end(ending, new, open.found)
+        {
+            return Ok(());
+        }
+        self.add_choice(from, Taker::Slot(slot), open.op, open.answer)
+    }
+
+    /// Adds the first operation of a kind, if it is issued and leads to a value that an open operation finds.
+    fn try_kind(
+        &mut self,
+        from: usize,
+        ending: Ending,
+        i: usize,
+        event: usize,
+    ) -> Result<(), AllocError> {
+        let Some((kind, _, lost)) = self.plan.first_of(i) else {
+            return Ok(());
+        };
+        if lost.issue > event || event > kind.until {
+            return Ok(());
+        }
+        let (new, _) = apply(kind.op, self.state.word);
+        if new == self.state.word
+            || self.state.owes && is_store(kind.op)
+            || !self.values.is_wanted(new, true)
+            || !self.may_end(ending, new, None)
+        {
+            return Ok(());
+        }
+        let due = self.due_of(self.values.place_of(Some(new)));
+        self.add_choice(from, Taker::Kind(i), kind.op, due)
+    }
+
+    /// Adds what may take effect before an operation is answered: the choice that is due first stands last.
+    pub(crate) fn add_choices(&mut self, answered: Open) -> Result<(), AllocError> {
+        let from = self.choices.len();
+        let ending = self.ending();
+        for i in 0..self.plan.kinds.len() {
+            self.try_kind(from, ending, i, answered.answer)?;
+        }
+        for slot in 0..self.slots.table.len() {
+            self.try_slot(from, ending, slot, answered)?;
+        }
+        Ok(())
+    }
+}

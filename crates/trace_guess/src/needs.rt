@@ -1,0 +1,149 @@
+//! Which values of one word are still needed, and which may come again.
+
+ghost use Rattle.std.specs.Prelude.{◌<◌, ◌≤◌, length};
+
+use crate::values::{Values, count_at};
+use packet::{Op, apply};
+use std::alloc::Allocator;
+
+/// How many operations without an answer, one after the other, lead to a value at most.
+const STEPS: usize = 4;
+
+/// The word that an operation finds where it leaves this one, if there is but one.
+fn before(op: Op, word: u64) -> Option<u64> {
+    match op {
+        Op::Add(more) => Some(word.wrapping_sub(more)),
+        Op::Xor(bits) => Some(word ^ bits),
+        _ => None,
+    }
+}
+
+impl<A: Allocator> Values<A> {
+    /// A cas without an answer leads on from a value to another, which is needed up to an event.
+    pub(crate) fn note_lead(&mut self, from: u64, event: usize) {
+        let place = self.place_of(Some(from));
+        self.note_need(place, event);
+        if let Some(i) = place
+            && i < self.leads.len()
+        {
+            self.leads[i] = true;
+        }
+    }
+
+    /// The last event that answers an operation which finds a value.
+    fn last_of(&self, value: u64) -> usize {
+        match self.place_of(Some(value)) {
+            Some(i) => self.lasts.get(i).copied().unwrap_or(0),
+            None => 0,
+        }
+    }
+
+    /// The last event that answers an operation which finds a value to which another, done over and over, leads.
+    fn last_by(&self, op: Op, from: u64) -> usize {
+        let mut last = 0usize;
+        let mut word = from;
+        for _ in 0..STEPS {
+            let (next, _) = apply(op, word);
+            last = last.max(self.last_of(next));
+            word = next;
+        }
+        last
+    }
+
+    /// The last event that answers an operation which finds a value, or one to which operations without an answer lead
+    /// on from it.
+    pub(crate) fn last_need(&self, value: u64) -> usize {
+        let mut last = self.last_of(value);
+        for op in &self.wild {
+            last = last.max(self.last_by(*op, value));
+        }
+        last
+    }
+
+    /// Whether a value is found, by an open operation if so asked, or a cas without an answer leads on from it.
+    fn is_target(&self, value: u64, open: bool) -> bool {
+        let Some(i) = self.place_of(Some(value)) else {
+            return false;
+        };
+        let count = if open {
+            count_at(&self.waits, Some(i))
+        } else {
+            count_at(&self.finds, Some(i))
+        };
+        count > 0 || self.leads.get(i).copied().unwrap_or(false)
+    }
+
+    /// Whether an operation, done over and over, leads from a word to a value that is found.
+    fn leads_by(&self, op: Op, from: u64, open: bool) -> bool {
+        let mut word = from;
+        for _ in 0..STEPS {
+            let (next, _) = apply(op, word);
+            if next == word {
+                return false;
+            }
+            if self.is_target(next, open) {
+                return true;
+            }
+            word = next;
+        }
+        false
+    }
+
+    /// Whether a value is found, by an open operation if so asked, or operations without an answer lead on from it to
+    /// one that is.
+    pub(crate) fn is_wanted(&self, value: u64, open: bool) -> bool {
+        for op in &self.wild {
+            if self.leads_by(*op, value, open) {
+                return true;
+            }
+        }
+        self.is_target(value, open)
+    }
+
+    /// How many operations that haven't taken effect find a value.
+    pub(crate) fn finds_of(&self, value: u64) -> u32 {
+        count_at(&self.finds, self.place_of(Some(value)))
+    }
+
+    /// How many leave it.
+    fn leaves_of(&self, value: u64) -> u32 {
+        count_at(&self.leaves, self.place_of(Some(value)))
+    }
+
+    /// Whether an operation, done over and over, may lead to a value from one that another leaves.
+    fn comes_by(&self, op: Op, value: u64) -> bool {
+        let mut word = value;
+        for _ in 0..STEPS {
+            let Some(from) = before(op, word) else {
+                return apply(op, value).0 == value;
+            };
+            if self.leaves_of(from) > 0 {
+                return true;
+            }
+            word = from;
+        }
+        false
+    }
+
+    /// Whether a value may come again.
+    pub(crate) fn recurs(&self, value: u64) -> bool {
+        for op in &self.wild {
+            if self.comes_by(*op, value) {
+                return true;
+            }
+        }
+        self.leaves_of(value) > 0
+    }
+
+    /// Whether an operation without an answer leads from a word to another than this one, which is found and which no
+    /// other operation leaves.
+    pub(crate) fn strands(&self, word: u64, new: u64) -> bool {
+        for op in &self.wild {
+            let (to, _) = apply(*op, word);
+            if to != word && to != new && self.finds_of(to) > 0 && self.leaves_of(to) == 0 {
+                return true;
+            }
+        }
+        false
+    }
+}
