@@ -8,9 +8,9 @@ from command import Refusal
 from jam import Replay
 from walked import Network, number_of
 
-# The most rounds of a simulation, and the most flits of a packet.
+# The most rounds of a simulation; the last round that a packet may name, and the most flits that it has.
 MOST_ROUNDS = 1000000
-MOST_LENGTH = 2147483647
+MOST = 2147483647
 
 Move = Tuple[str, int]
 
@@ -46,12 +46,12 @@ def read_packet(net: Network, words: List[str], where: str) -> Packet:
     found = Packet(*(number_of(it) for it in (words[1], *words[3:])))
     if min(found) < 0:
         raise Refusal(f"{where}: no packet is written so")
-    if found.round == 0:
-        raise Refusal(f"{where}: rounds are counted from 1")
+    if not 1 <= found.round <= MOST:
+        raise Refusal(f"{where}: rounds are counted from 1 to {MOST}")
     if (found.start, found.end) not in set(net.joins):
         raise Refusal(f"{where}: no packets go from channel {found.start} to channel {found.end}")
-    if not 1 <= found.size <= MOST_LENGTH:
-        raise Refusal(f"{where}: a packet has 1 to {MOST_LENGTH} flits")
+    if not 1 <= found.size <= MOST:
+        raise Refusal(f"{where}: a packet has 1 to {MOST} flits")
     return found
 
 

@@ -1,0 +1,4 @@
+pub mod Reasons
+pub mod Packets
+pub mod Traffic
+pub mod Joined
