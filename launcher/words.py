@@ -20,7 +20,7 @@ COMMANDS: dict[str, tuple[list[str], dict[str, tuple[int, int] | None]]] = {
     "round": (["MACHINE", "SCRIPT"], {"rounds": (1, 1000000), "clocked": None, "explain": None}),
     "run": (["MACHINE", "SCRIPT"], {"workers": (1, 16), "turns": (1, 1000000000), "explain": None}),
     "live": (["MACHINE"], {"explain": None}),
-    "schedule": (["MACHINE", "SCRIPT"], {"rounds": (1, 1000000), "explain": None}),
+    "schedule": (["MACHINE", "SCRIPT"], {"rounds": (1, 1000000), "clocked": None, "explain": None}),
     "draw": (["MACHINE", "SCRIPT"], {"seed": (0, 2**64 - 1), "steps": (0, 2**64 - 1), "explain": None}),
     "route": (["MACHINE", "SRC", "DST"], {"reply": None, "explain": None}),
     "channels": (["MACHINE"], {"explain": None}),

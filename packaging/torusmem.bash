@@ -8,8 +8,7 @@ _torusmem() {
     case ${COMP_WORDS[1]} in
     help) words="steps round run live schedule draw route channels check network linearize model help" ;;
     steps) words="--moves --explain --help" ;;
-    round) words="--rounds --clocked --explain --help" ;;
-    schedule) words="--rounds --explain --help" ;;
+    round | schedule) words="--rounds --clocked --explain --help" ;;
     draw) words="--seed --steps --explain --help" ;;
     run) words="--workers --turns --explain --help" ;;
     route) words="--reply --explain --help" ;;

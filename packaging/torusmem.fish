@@ -9,7 +9,7 @@ complete -c torusmem -n "not __fish_seen_subcommand_from help" -l help -d "the h
 complete -c torusmem -n "__fish_seen_subcommand_from $commands; and not __fish_seen_subcommand_from help" -l explain -d "why a text is refused"
 complete -c torusmem -n "__fish_seen_subcommand_from steps" -l moves -d "the steps that move"
 complete -c torusmem -n "__fish_seen_subcommand_from round schedule" -x -l rounds -d "the most rounds"
-complete -c torusmem -n "__fish_seen_subcommand_from round" -l clocked -d "clocked rounds"
+complete -c torusmem -n "__fish_seen_subcommand_from round schedule" -l clocked -d "clocked rounds"
 complete -c torusmem -n "__fish_seen_subcommand_from draw" -x -l seed -d "what draws the moves"
 complete -c torusmem -n "__fish_seen_subcommand_from draw" -x -l steps -d "the most moves"
 complete -c torusmem -n "__fish_seen_subcommand_from run" -x -l workers -d "how many threads"

@@ -27,8 +27,7 @@ _torusmem() {
   case $words[2] in
   help) _describe command _torusmem_commands; return ;;
   steps) options=(--moves) ;;
-  round) options=(--rounds --clocked) ;;
-  schedule) options=(--rounds) ;;
+  round | schedule) options=(--rounds --clocked) ;;
   draw) options=(--seed --steps) ;;
   run) options=(--workers --turns) ;;
   route) options=(--reply) ;;

@@ -31,7 +31,7 @@ is_of_commands (Replay network run depth) = false
 is_of_commands (Linearize trace configurations) = false
 is_of_commands (Report trace configurations) = false
 is_of_commands (Model log model order) = false
-is_of_commands (Schedule machine script rounds) = false
+is_of_commands (Schedule machine script rounds clocked) = false
 is_of_commands (Draw machine script seed steps) = false
 is_of_commands (Moves machine script steps) = false
 

@@ -93,10 +93,15 @@ abbrev pub steps_app : App
 steps_app = with_rule (with_rule (with_rule (loading_app (codes "steps"))
     (needed (codes "STEPS"))) (flag_option (codes "moves"))) explain
 
+-- a subcommand of this name that takes a file of the machine and one of the scripts, and runs in
+-- rounds: at most so many, clocked or in order
+abbrev pub rounds_app : Text → App
+rounds_app name = with_rule (with_rule (with_rule (loading_app name) rounds)
+    (flag_option (codes "clocked"))) explain
+
 -- `round MACHINE SCRIPT [--rounds R] [--clocked] [--explain]`
 abbrev pub round_app : App
-round_app = with_rule (with_rule (with_rule (loading_app (codes "round")) rounds)
-    (flag_option (codes "clocked"))) explain
+round_app = rounds_app (codes "round")
 
 -- `run MACHINE SCRIPT [--workers W] [--turns T] [--explain]`
 abbrev pub run_app : App
@@ -106,9 +111,9 @@ run_app = with_rule (with_rule (with_rule (loading_app (codes "run")) workers) t
 abbrev pub live_app : App
 live_app = with_rule (with_rule (new_app (codes "live")) (needed (codes "MACHINE"))) explain
 
--- `schedule MACHINE SCRIPT [--rounds R] [--explain]`
+-- `schedule MACHINE SCRIPT [--rounds R] [--clocked] [--explain]`
 abbrev pub schedule_app : App
-schedule_app = with_rule (with_rule (loading_app (codes "schedule")) rounds) explain
+schedule_app = rounds_app (codes "schedule")
 
 -- `draw MACHINE SCRIPT --seed S [--steps N] [--explain]`
 abbrev pub draw_app : App

@@ -46,7 +46,7 @@ name_of (Replay network run depth) = codes "network"
 name_of (Linearize trace configurations) = codes "linearize"
 name_of (Report trace configurations) = codes "linearize"
 name_of (Model log model order) = codes "model"
-name_of (Schedule machine script rounds) = codes "schedule"
+name_of (Schedule machine script rounds clocked) = codes "schedule"
 name_of (Draw machine script seed steps) = codes "draw"
 name_of (Moves machine script steps) = codes "steps"
 
@@ -94,9 +94,11 @@ AreOf (Report trace configurations) rows =
 AreOf (Model log model order) rows = (first_of (codes "LOG") rows ≡ Some log.now)
     × (first_of (codes "model") rows ≡ Some model.now)
     × IsFlag (codes "order") order rows
-AreOf (Schedule machine script rounds) rows = (first_of (codes "MACHINE") rows ≡ Some machine.now)
+AreOf (Schedule machine script rounds clocked) rows =
+    (first_of (codes "MACHINE") rows ≡ Some machine.now)
     × (first_of (codes "SCRIPT") rows ≡ Some script.now)
     × (number_in (codes "rounds") rows ≡ Some rounds)
+    × IsFlag (codes "clocked") clocked rows
 AreOf (Draw machine script seed steps) rows = (first_of (codes "MACHINE") rows ≡ Some machine.now)
     × (first_of (codes "SCRIPT") rows ≡ Some script.now)
     × (number_in (codes "seed") rows ≡ Some seed) × (number_in (codes "steps") rows ≡ steps)
@@ -115,7 +117,7 @@ AreJobLimits (LockUp network depth) = (1 ≤ depth) × (depth ≤ 8)
 AreJobLimits (Replay network run depth) = (1 ≤ depth) × (depth ≤ 8)
 AreJobLimits (Linearize trace configurations) = 1 ≤ configurations
 AreJobLimits (Report trace configurations) = 1 ≤ configurations
-AreJobLimits (Schedule machine script rounds) = (1 ≤ rounds) × (rounds ≤ 1000000)
+AreJobLimits (Schedule machine script rounds clocked) = (1 ≤ rounds) × (rounds ≤ 1000000)
 AreJobLimits _ = Unit {0}
 
 -- a job of the subcommand of this name, with the values of these rows, within its limits

@@ -4,7 +4,7 @@ ghost use Rattle.command_line.specs.Making.{IsCommand};
 
 use crate::making::{Making, program, with_subcommand};
 use crate::subcommands::{
-    draw, linearize, model, network, of_one_file, round, route, run, schedule, steps,
+    draw, in_rounds, linearize, model, network, of_one_file, route, run, steps,
 };
 use std::alloc::Global;
 
@@ -14,7 +14,8 @@ fn running<'a>(alloc: Global) -> Making<'a>
 {
     let command = program(alloc);
     let command = with_subcommand(command, steps(alloc));
-    let command = with_subcommand(command, round(alloc));
+    let about = "Runs in rounds until every script is finished, and prints the report";
+    let command = with_subcommand(command, in_rounds(alloc, "round", about));
     let command = with_subcommand(command, run(alloc));
     let about = "Reads requests from standard input, and answers them line by line";
     let live = of_one_file(alloc, "live", about, "MACHINE", "The file with the machine");
@@ -26,7 +27,8 @@ fn routing<'a>(alloc: Global) -> Making<'a>
     ensures { IsCommand routing_app result }
 {
     let command = running(alloc);
-    let command = with_subcommand(command, schedule(alloc));
+    let about = "Runs in rounds until every script is finished, and prints the moves as steps";
+    let command = with_subcommand(command, in_rounds(alloc, "schedule", about));
     let command = with_subcommand(command, draw(alloc));
     let command = with_subcommand(command, route(alloc));
     let about = "Prints the number of each channel, and checks that they rise along every route";

@@ -91,11 +91,12 @@ pub enum Job<'a> {
         model: &'a str,
         order: bool,
     },
-    /// Print the moves of rounds, at most so many, until every script is finished.
+    /// Print the moves of rounds, clocked or in order, at most so many, until every script is finished.
     Schedule {
         machine: &'a str,
         script: &'a str,
         rounds: u32,
+        clocked: bool,
     },
     /// Print a schedule that is drawn by this seed, of at most so many moves where there is a
     /// number, until every script is finished.

@@ -68,6 +68,7 @@ pub(crate) fn schedule_job<'a>(given: &ArgMatches<'a>) -> Option<Job<'a>>
         machine: word(given, "MACHINE")?,
         script: word(given, "SCRIPT")?,
         rounds: number_within(given, "rounds", 1000000)?,
+        clocked: flag_of(given, "clocked")?,
     })
 }
 

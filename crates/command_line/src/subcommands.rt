@@ -1,10 +1,9 @@
 //! The subcommands, each with its arguments.
 ghost use Rattle.clap.specs.Words.{new_app, with_rule};
 ghost use Rattle.command_line.specs.CommandLine.{channels_app, check_app, draw_app, explain};
-ghost use Rattle.command_line.specs.CommandLine.{linearize_app, loading_app, model_app, needed};
+ghost use Rattle.command_line.specs.CommandLine.{linearize_app, model_app, needed};
 ghost use Rattle.command_line.specs.CommandLine.{network_app};
-ghost use Rattle.command_line.specs.CommandLine.{round_app, rounds, route_app, run_app};
-ghost use Rattle.command_line.specs.CommandLine.{schedule_app, steps_app};
+ghost use Rattle.command_line.specs.CommandLine.{rounds_app, route_app, run_app, steps_app};
 ghost use Rattle.command_line.specs.Making.{IsCommand};
 
 use crate::arguments::{count, file, flag, long_number, seed, tile, word_if_given, word_option};
@@ -23,31 +22,16 @@ pub(crate) fn steps<'a>(alloc: Global) -> Making<'a>
     with_explain(alloc, command)
 }
 
-/// A subcommand of this name that runs in rounds, at most so many.
-fn in_rounds<'a>(alloc: Global, name: &'a str, about: &'a str) -> Making<'a>
-    ensures { IsCommand (with_rule (loading_app name.entry.now) rounds) result }
+/// A subcommand of this name that runs in rounds.
+pub(crate) fn in_rounds<'a>(alloc: Global, name: &'a str, about: &'a str) -> Making<'a>
+    ensures { IsCommand (rounds_app name.entry.now) result }
 {
     let command = loading(alloc, name, about);
     let help = "At most this many rounds, 1 to 1000000";
     let numbers = ValueParser::Signed(1, 1000000);
-    with_argument(command, count(alloc, "rounds", numbers, "1000000", help))
-}
-
-pub(crate) fn round<'a>(alloc: Global) -> Making<'a>
-    ensures { IsCommand round_app result }
-{
-    let about = "Runs in rounds until every script is finished, and prints the report";
-    let command = in_rounds(alloc, "round", about);
+    let command = with_argument(command, count(alloc, "rounds", numbers, "1000000", help));
     let help = "Clocked rounds: each attempts what is enabled when it begins";
     let command = with_argument(command, flag(alloc, "clocked", help));
-    with_explain(alloc, command)
-}
-
-pub(crate) fn schedule<'a>(alloc: Global) -> Making<'a>
-    ensures { IsCommand schedule_app result }
-{
-    let about = "Runs in rounds until every script is finished, and prints the moves as steps";
-    let command = in_rounds(alloc, "schedule", about);
     with_explain(alloc, command)
 }
 

@@ -233,7 +233,14 @@ fn tells_rounds(alloc: Global, script: &str, count: usize) -> bool {
         asked: 0,
         ended: 0,
     };
-    let answer = watched(alloc, script, 1000, false, &mut Sink::whole(), &mut recorder);
+    let answer = watched(
+        alloc,
+        script,
+        1000,
+        false,
+        &mut Sink::whole(),
+        &mut recorder,
+    );
     says(&answer, "finished")
         && recorder.told.len() == count
         && recorder.asked == count
@@ -258,7 +265,14 @@ fn answers_watched(
     word: &str,
     watch: &mut Watch,
 ) -> bool {
-    let answer = watched(alloc, script, 12, false, &mut Sink::new(4096, failing), watch);
+    let answer = watched(
+        alloc,
+        script,
+        12,
+        false,
+        &mut Sink::new(4096, failing),
+        watch,
+    );
     says(&answer, word)
 }
 

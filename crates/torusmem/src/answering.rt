@@ -12,7 +12,7 @@ use model_answer::MemoryModel;
 use program_fault::{ProgramFault, Texts};
 use report_lines::Out;
 use run_command::Ending;
-use schedule_commands::{draw_text, moves_text, schedule_text};
+use schedule_commands::{clocked_schedule_text, draw_text, moves_text, schedule_text};
 use std::alloc::Global;
 use std::rt::Clock;
 use std::sync::Wait;
@@ -113,8 +113,17 @@ fn scheduled<W: Out>(
 ) -> Result<bool, ProgramFault> {
     let (machine, script) = (texts.first.as_slice(), texts.second.as_slice());
     match *job {
-        Job::Schedule { rounds, .. } => {
-            schedule_text(alloc, machine, script, u64::from(rounds), out)
+        Job::Schedule {
+            rounds,
+            clocked,
+            ..
+        } => {
+            let rounds = u64::from(rounds);
+            if clocked {
+                clocked_schedule_text(alloc, machine, script, rounds, out)
+            } else {
+                schedule_text(alloc, machine, script, rounds, out)
+            }
         }
         Job::Draw { seed, steps, .. } => draw_text(alloc, machine, script, seed, steps, out),
         Job::Moves { .. } => moves_text(alloc, machine, script, &texts.third, out),
