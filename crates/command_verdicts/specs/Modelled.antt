@@ -41,8 +41,8 @@ abbrev pub PrintsModels : (A : Type 0) → List (List ℕ) → Options → Outpu
 PrintsModels A lines options = Does (IsModelled A lines options) (IsLogFault lines)
 
 -- whether a text begins as reports do
-abbrev pub is_report : List ℕ → Bool
-is_report text = starts_with nat_eq text (codes "torusmem ")
+abbrev pub is_report_text : List ℕ → Bool
+is_report_text text = starts_with nat_eq text (codes "torusmem ")
 
 -- what is printed of a report: the answer on the log that its operations are, without fences; or,
 -- where a reply isn't due, nothing
@@ -62,12 +62,12 @@ pub data RefusesReport (report : List ℕ) (found : LineFault) : Type 0 where
       → found ≡ fault_of_refusal log_fault_of refusal → RefusesReport report found
 
 -- the report is bad at this line, or its operations are no log
-abbrev pub IsReportFault : List ℕ → ProgramFault → Type 0
-IsReportFault report (program.Bad line) = FirstBad report line
-IsReportFault report (program.Line found) = RefusesReport report found
-IsReportFault report _ = ⊥
+abbrev pub IsReportRefusal : List ℕ → ProgramFault → Type 0
+IsReportRefusal report (program.Bad line) = FirstBad report line
+IsReportRefusal report (program.Line found) = RefusesReport report found
+IsReportRefusal report _ = ⊥
 
 -- the models that a report obeys were printed
 abbrev pub PrintsModelsOfReport : (A : Type 0) → List ℕ → Bool → Output → Output
     → Result Modelled ProgramFault → Type 0
-PrintsModelsOfReport A report order = Does (IsReportModelled A report order) (IsReportFault report)
+PrintsModelsOfReport A report order = Does (IsReportModelled A report order) (IsReportRefusal report)

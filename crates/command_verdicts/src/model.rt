@@ -3,7 +3,7 @@
 ghost use Rattle.std.specs.Prelude.{◌≡◌, true, false};
 ghost use Rattle.std.specs.Str.Lines.{lines};
 ghost use Rattle.program_fault.specs.Done.{output};
-ghost use Rattle.command_verdicts.specs.Modelled.{PrintsModels, PrintsModelsOfReport, is_report};
+ghost use Rattle.command_verdicts.specs.Modelled.{PrintsModels, PrintsModelsOfReport, is_report_text};
 
 use model_answer::{NoAnswer, Obeys, Options, model_answer};
 use model_text::WrongReply;
@@ -55,7 +55,7 @@ pub fn model_text<A: Allocator + Copy, W: Out>(
 
 /// Whether a text begins as reports do, and logs don't.
 pub fn is_report(text: &[u8]) -> bool
-    ensures { result ≡ is_report text.now }
+    ensures { result ≡ is_report_text text.now }
 {
     text.starts_with(b"torusmem ")
 }
@@ -106,10 +106,10 @@ pub fn judged_models_text<A: Allocator + Copy, W: Out>(
     order: bool,
     out: &mut W,
 ) -> Result<Modelled, ProgramFault>
-    ensures report { is_report text.now ≡ true → PrintsModelsOfReport A text.now order
+    ensures report { is_report_text text.now ≡ true → PrintsModelsOfReport A text.now order
         (output (W.taken out.old) (W.failures out.old))
         (output (W.taken out.new) (W.failures out.new)) result }
-    ensures log { is_report text.now ≡ false → PrintsModels A (lines text.now)
+    ensures log { is_report_text text.now ≡ false → PrintsModels A (lines text.now)
         (record { order = order; fences = true })
         (output (W.taken out.old) (W.failures out.old))
         (output (W.taken out.new) (W.failures out.new)) result }

@@ -10,62 +10,62 @@ use Rattle.machine_parts.specs.Handed.{handed, refused}
 use Rattle.machine_parts.specs.Machine.{Steps, core_after}
 use Rattle.machine_core.specs.Rounds.{rounds_of}
 use Rattle.machine_asked.specs.Asked.{Asked, spins_with}
-use Rattle.record_bytes.specs.declared.action.Action.{Action}
-use Rattle.record_bytes.specs.declared.action.Action.TheVariants.{Move, Rounds}
-use Rattle.record_bytes.specs.declared.row.LineRow.{LineRow}
-use Rattle.record_bytes.specs.Action.{action_number, is_narrow}
-use Rattle.record_bytes.specs.Recording.{Recording}
-use Rattle.machine_record.specs.Machine.{HasLineRoom, Keeps, KeepsLine, with_action, with_row}
-use Rattle.machine_record.specs.MachineInside.{Makes}
+use Rattle.machine_record.specs.declared.action.Action.{Action}
+use Rattle.machine_record.specs.declared.action.Action.TheVariants.{Move, Rounds}
+use Rattle.machine_record.specs.declared.row.LineRow.{LineRow}
+use Rattle.machine_record.specs.Action.{action_number, is_narrow}
+use Rattle.machine_record.specs.Recording.{Recording}
+use Rattle.machine_record.specs.Machine.{HasLineRoom, KeepsRecord, KeepsLine, with_action, with_row}
+use Rattle.machine_record.specs.MachineInside.{RecordMakes}
 use Rattle.machine_record.specs.Replay.{acted, with_line}
 use Rattle.machine_record.proofs.Replays.{acts, idle_is, made_action, made_line, moved_is, rounds_is}
 
 -- an action more
-makes_action : (k : Option Recording) (v w : Asked) (a : Action) → is_narrow a ≡ true → Makes k v → ((rows : List LineRow) → acted rows v a ≡ Some w)
-    → Makes (option_map (with_action (action_number a)) k) w
+makes_action : (k : Option Recording) (v w : Asked) (a : Action) → is_narrow a ≡ true → RecordMakes k v → ((rows : List LineRow) → acted rows v a ≡ Some w)
+    → RecordMakes (option_map (with_action (action_number a)) k) w
 makes_action None v w a narrow h did = tt
 makes_action (Some r) v w a narrow h did = made_action r (action_number a) v w h (acts r.rows v w a narrow (did r.rows))
 
-keeps_action : (old new : Option Recording) (v w : Asked) (a : Action) → Makes old v → ((rows : List LineRow) → acted rows v a ≡ Some w)
-    → Keeps a old new → Makes new w
-keeps_action old new v w a h did (inl kept) = subst (λ (k : Option Recording). Makes k w) (sym kept.1) (makes_action old v w a kept.0 h did)
-keeps_action old new v w a h did (inr ended) = subst (λ (k : Option Recording). Makes k w) (sym ended) tt
+keeps_action : (old new : Option Recording) (v w : Asked) (a : Action) → RecordMakes old v → ((rows : List LineRow) → acted rows v a ≡ Some w)
+    → KeepsRecord a old new → RecordMakes new w
+keeps_action old new v w a h did (inl kept) = subst (λ (k : Option Recording). RecordMakes k w) (sym kept.1) (makes_action old v w a kept.0 h did)
+keeps_action old new v w a h did (inr ended) = subst (λ (k : Option Recording). RecordMakes k w) (sym ended) tt
 
 -- a move
-pub keeps_move : (old new : Option Recording) (v w : Asked) (attempt : Step) → Makes old v → Steps v.core w.core Moved attempt → w.spins ≡ v.spins
-    → Keeps (Move attempt) old new → Makes new w
+pub keeps_move : (old new : Option Recording) (v w : Asked) (attempt : Step) → RecordMakes old v → Steps v.core w.core Moved attempt → w.spins ≡ v.spins
+    → KeepsRecord (Move attempt) old new → RecordMakes new w
 keeps_move old new v w attempt h steps spins kept =
     keeps_action old new v w (Move attempt) h (λ rows. moved_is v w Moved attempt steps spins refl) kept
 
 -- no move
-pub keeps_idle : (old : Option Recording) (v w : Asked) (attempt : Step) → Makes old v → Steps v.core w.core Idle attempt → w.spins ≡ v.spins
-    → Makes old w
-keeps_idle old v w attempt h steps spins = subst (λ (x : Asked). Makes old x) (sym (idle_is v w Idle attempt steps spins refl)) h
+pub keeps_idle : (old : Option Recording) (v w : Asked) (attempt : Step) → RecordMakes old v → Steps v.core w.core Idle attempt → w.spins ≡ v.spins
+    → RecordMakes old w
+keeps_idle old v w attempt h steps spins = subst (λ (x : Asked). RecordMakes old x) (sym (idle_is v w Idle attempt steps spins refl)) h
 
 -- rounds
-pub keeps_rounds : (old new : Option Recording) (v w : Asked) (k : ℕ) → Makes old v → w.core ≡ core_after v.core (rounds_of v.core.shape k)
-    → w.spins ≡ v.spins → Keeps (Rounds k) old new → Makes new w
+pub keeps_rounds : (old new : Option Recording) (v w : Asked) (k : ℕ) → RecordMakes old v → w.core ≡ core_after v.core (rounds_of v.core.shape k)
+    → w.spins ≡ v.spins → KeepsRecord (Rounds k) old new → RecordMakes new w
 keeps_rounds old new v w k h state spins kept = keeps_action old new v w (Rounds k) h (λ rows. ap Some (rounds_is v w k state spins)) kept
 
-pub keeps_round : (old new : Option Recording) (v w : Asked) → Makes old v → w.core ≡ core_after v.core (round v.core.shape) → w.spins ≡ v.spins
-    → Keeps (Rounds 1) old new → Makes new w
+pub keeps_round : (old new : Option Recording) (v w : Asked) → RecordMakes old v → w.core ≡ core_after v.core (round v.core.shape) → w.spins ≡ v.spins
+    → KeepsRecord (Rounds 1) old new → RecordMakes new w
 keeps_round old new v w h state spins kept =
     keeps_rounds old new v w 1 h (state ∙ ap (core_after v.core) (sym (append-nil (round v.core.shape)))) spins kept
 
 -- a line
-line_more : (k : Option Recording) (v : Asked) (p : ℕ) (first : ScriptLine) → Makes k v → HasLineRoom k → refused v.core p first ≡ None
-    → Makes (option_map (with_row p first) k) (with_line v p first)
+line_more : (k : Option Recording) (v : Asked) (p : ℕ) (first : ScriptLine) → RecordMakes k v → HasLineRoom k → refused v.core p first ≡ None
+    → RecordMakes (option_map (with_row p first) k) (with_line v p first)
 line_more None v p first h few none = tt
 line_more (Some r) v p first h few none = made_line r p first v few h none
 
-kept_line : (old new : Option Recording) (v w : Asked) (p : ℕ) (first : ScriptLine) → Makes old v → refused v.core p first ≡ None
-    → with_line v p first ≡ w → KeepsLine p first old new → Makes new w
+kept_line : (old new : Option Recording) (v w : Asked) (p : ℕ) (first : ScriptLine) → RecordMakes old v → refused v.core p first ≡ None
+    → with_line v p first ≡ w → KeepsLine p first old new → RecordMakes new w
 kept_line old new v w p first h none is (inl kept) =
-    subst (λ (k : Option Recording). Makes k w) (sym kept.1)
-    (subst (λ (x : Asked). Makes (option_map (with_row p first) old) x) is (line_more old v p first h kept.0 none))
-kept_line old new v w p first h none is (inr ended) = subst (λ (k : Option Recording). Makes k w) (sym ended) tt
+    subst (λ (k : Option Recording). RecordMakes k w) (sym kept.1)
+    (subst (λ (x : Asked). RecordMakes (option_map (with_row p first) old) x) is (line_more old v p first h kept.0 none))
+kept_line old new v w p first h none is (inr ended) = subst (λ (k : Option Recording). RecordMakes k w) (sym ended) tt
 
-pub keeps_line : (old new : Option Recording) (v w : Asked) (p : ℕ) (first : ScriptLine) → Makes old v → refused v.core p first ≡ None
-    → w.core ≡ handed v.core p first → w.spins ≡ spins_with v.spins p first → KeepsLine p first old new → Makes new w
+pub keeps_line : (old new : Option Recording) (v w : Asked) (p : ℕ) (first : ScriptLine) → RecordMakes old v → refused v.core p first ≡ None
+    → w.core ≡ handed v.core p first → w.spins ≡ spins_with v.spins p first → KeepsLine p first old new → RecordMakes new w
 keeps_line old new v w p first h none core spins kept =
     kept_line old new v w p first h none (λ i. record { core = sym core i; spins = sym spins i }) kept

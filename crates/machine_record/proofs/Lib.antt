@@ -1,3 +1,7 @@
+pub mod Pieces
+pub mod Actions
+pub mod Lines
+pub mod ReadBack
 pub mod Replays
 pub mod Keeps
 pub mod Restores

@@ -23,18 +23,18 @@ use Rattle.machine_core.specs.Rounds.{rounds_of}
 use Rattle.machine_core.proofs.Finishing.{rounds_push}
 use Rattle.machine_core.proofs.Rounds.{core_append, same_shape}
 use Rattle.machine_asked.specs.Asked.{Asked, asked_in}
-use Rattle.record_bytes.specs.declared.action.Action.{Action}
-use Rattle.record_bytes.specs.declared.action.Action.TheVariants.{Move, Rounds, Line}
-use Rattle.record_bytes.specs.declared.row.LineRow.{LineRow}
-use Rattle.record_bytes.specs.Action.{action_number, action_of, is_narrow}
-use Rattle.record_bytes.specs.Row.{line_of, row_of}
-use Rattle.record_bytes.specs.Recording.{Recording}
+use Rattle.machine_record.specs.declared.action.Action.{Action}
+use Rattle.machine_record.specs.declared.action.Action.TheVariants.{Move, Rounds, Line}
+use Rattle.machine_record.specs.declared.row.LineRow.{LineRow}
+use Rattle.machine_record.specs.Action.{action_number, action_of, is_narrow}
+use Rattle.machine_record.specs.Row.{line_of_row, row_of_line}
+use Rattle.machine_record.specs.Recording.{Recording}
 use Rattle.machine_record.specs.Machine.{with_action, with_row}
-use Rattle.machine_record.specs.Replay.{acted, acted_by, if_moved, if_taken, loaded, made_by, moved, replayed, replayed_from, rounds_made, row_handed, with_line}
-use Rattle.machine_record.specs.Replayed.{Comes}
-use Rattle.record_bytes.proofs.Actions.{number_back}
-use Rattle.record_bytes.specs.Widths.{HasFewLoads}
-use Rattle.record_bytes.proofs.Lines.{line_back, processor_of}
+use Rattle.machine_record.specs.Replay.{acted, acted_by, if_moved, if_taken, loaded, made_by, machine_moved, replayed, replayed_from, rounds_made, row_handed, with_line}
+use Rattle.machine_record.specs.Replayed.{ComesInTurn}
+use Rattle.machine_record.proofs.Actions.{number_back}
+use Rattle.machine_record.specs.Widths.{HasFewLoads}
+use Rattle.machine_record.proofs.Lines.{line_back, processor_of}
 
 -- an action more
 push_first : (rows : List LineRow) (o : Option Asked) (xs : List ℕ) (n : ℕ) (w u : Asked)
@@ -104,11 +104,11 @@ acts rows v w a narrow h = ap (option_and_then (acted rows v)) (number_back a na
 
 -- a record with one line more
 line_from_load : (r : Recording) (p : ℕ) (first : ScriptLine) (v w : Asked) (x : Result Load LineFault) → replayed_from r x ≡ Some v
-    → acted_by (r.rows ++ row_of p first ∷ []) v (action_number (Line (length r.rows))) ≡ Some w → replayed_from (with_row p first r) x ≡ Some w
+    → acted_by (r.rows ++ row_of_line p first ∷ []) v (action_number (Line (length r.rows))) ≡ Some w → replayed_from (with_row p first r) x ≡ Some w
 line_from_load r p first v w (Err e) h last = absurd (cc)
 line_from_load r p first v w (Ok l) h last =
-    replayed_push (r.rows ++ row_of p first ∷ []) (loaded l) r.actions (action_number (Line (length r.rows))) v w
-    (replayed_grown r.rows (row_of p first ∷ []) (loaded l) r.actions v h) last
+    replayed_push (r.rows ++ row_of_line p first ∷ []) (loaded l) r.actions (action_number (Line (length r.rows))) v w
+    (replayed_grown r.rows (row_of_line p first ∷ []) (loaded l) r.actions v h) last
 
 -- a line that is taken has few loads
 third : (x y z : Bool) (f g h : Fault) (rest : Option Fault)
@@ -142,24 +142,24 @@ few_loads c p first none =
     (third (nat_lt p (length c.allowed)) (is_word (length c.opening) (address_of first)) (has_loads first) fault.Processor fault.Address fault.Range _ none)
 
 -- the row of a line that is taken
-pub row_taken : (v : Asked) (p : ℕ) (first : ScriptLine) → refused v.core p first ≡ None → row_handed v (row_of p first) ≡ Some (with_line v p first)
+pub row_taken : (v : Asked) (p : ℕ) (first : ScriptLine) → refused v.core p first ≡ None → row_handed v (row_of_line p first) ≡ Some (with_line v p first)
 row_taken v p first none =
-    ap (λ (q : ℕ). option_and_then (λ line. if_taken (refused v.core q line) (with_line v q line)) (line_of (row_of p first))) (processor_of p first)
+    ap (λ (q : ℕ). option_and_then (λ line. if_taken (refused v.core q line) (with_line v q line)) (line_of_row (row_of_line p first))) (processor_of p first)
     ∙ (ap (option_and_then (λ line. if_taken (refused v.core p line) (with_line v p line))) (line_back p first (few_loads v.core p first none))
     ∙ ap (λ (o : Option Fault). if_taken o (with_line v p first)) none)
 
 pub made_line : (r : Recording) (p : ℕ) (first : ScriptLine) (v : Asked) → length r.rows < 268435456 → made_by r ≡ Some v → refused v.core p first ≡ None
     → made_by (with_row p first r) ≡ Some (with_line v p first)
 made_line r p first v few h none =
-    let rows : List LineRow = r.rows ++ row_of p first ∷ [] in
+    let rows : List LineRow = r.rows ++ row_of_line p first ∷ [] in
     let there : acted rows v (Line (length r.rows)) ≡ Some (with_line v p first) =
-    ap (option_and_then (row_handed v)) (last_there r.rows (row_of p first)) ∙ row_taken v p first none in
+    ap (option_and_then (row_handed v)) (last_there r.rows (row_of_line p first)) ∙ row_taken v p first none in
     line_from_load r p first v (with_line v p first) (load_by (lines r.machine) (lines r.scripts)) h
     (acts rows v (with_line v p first) (Line (length r.rows)) (lt-ltb (length r.rows) 268435456 few) there)
 
 -- what a step comes to
 pub moved_is : (v w : Asked) (stepped : Stepped) (attempt : Step) → Steps v.core w.core stepped attempt → w.spins ≡ v.spins → stepped ≡ Moved
-    → moved v attempt ≡ Some w
+    → machine_moved v attempt ≡ Some w
 moved_is v w stepped attempt h spins is =
     ap (λ (t : Stepped). if_moved t (asked_in v (core_next v.core attempt))) (sym h.result ∙ is)
     ∙ (λ i. Some (record { core = sym h.change i; spins = sym spins i }))
@@ -174,7 +174,7 @@ idle_is v w stepped attempt h spins is =
     let same : w.core ≡ v.core = h.change ∙ ap (core_with v.core (event_in (built_to v.core) v.core.state attempt)) none in
     λ i. record { core = same i; spins = spins i }
 
-pub idle_undone : (v w : Asked) (stepped : Stepped) (attempt : Step) → Steps v.core w.core stepped attempt → stepped ≡ Idle → moved v attempt ≡ None
+pub idle_undone : (v w : Asked) (stepped : Stepped) (attempt : Step) → Steps v.core w.core stepped attempt → stepped ≡ Idle → machine_moved v attempt ≡ None
 idle_undone v w stepped attempt h is = ap (λ (t : Stepped). if_moved t (asked_in v (core_next v.core attempt))) (sym h.result ∙ is)
 
 -- rounds
@@ -205,6 +205,6 @@ done_more rows v w u numbers k number came there acted =
     ∙ replayed_push rows v (take k numbers) number w u came acted
 
 -- an action that can be done
-pub came_true : (wanted : Option Asked) (new : Asked) (b : Bool) → b ≡ true → Comes wanted new b → wanted ≡ Some new
+pub came_true : (wanted : Option Asked) (new : Asked) (b : Bool) → b ≡ true → ComesInTurn wanted new b → wanted ≡ Some new
 came_true wanted new true is h = h
 came_true wanted new false is h = absurd (cc)

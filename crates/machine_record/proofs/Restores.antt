@@ -7,15 +7,15 @@ use Rattle.machine_parts.specs.Core.{Load}
 use Rattle.machine_parts.proofs.Machines.{named_machine}
 use Rattle.machine_core.specs.Loading.{HasLoaded, IsLoadFault, load_by}
 use Rattle.machine_asked.specs.Asked.{Asked, has_spin}
-use Rattle.record_bytes.specs.Reading.{record_of}
-use Rattle.record_bytes.specs.Recording.{Recording, fresh_record}
-use Rattle.machine_record.specs.Calls.{IsLoaded, IsMade, IsRestored, Stops}
+use Rattle.machine_record.specs.Reading.{record_in_bytes}
+use Rattle.machine_record.specs.Recording.{Recording, fresh_record}
+use Rattle.machine_record.specs.Calls.{IsLoaded, IsMadeAgain, IsRestored, Stops}
 use Rattle.machine_record.specs.Machine.{Recorded}
-use Rattle.machine_record.specs.MachineInside.{Makes}
+use Rattle.machine_record.specs.MachineInside.{RecordMakes}
 use Rattle.machine_record.specs.Replay.{loaded, made_by, replayed, replayed_from}
-use Rattle.machine_record.specs.Replayed.{Replays, StopsAt}
+use Rattle.machine_record.specs.Replayed.{Replays, StopsAtAction}
 use Rattle.machine_record.specs.declared.restoring.Unrestored.{Unrestored}
-use Rattle.record_bytes.specs.declared.row.LineRow.{LineRow}
+use Rattle.machine_record.specs.declared.row.LineRow.{LineRow}
 use Rattle.std.specs.Prelude.{IfOk}
 
 -- a machine that is loaded
@@ -42,11 +42,11 @@ pub made_is : (r : Recording) (v w : Asked) → IsLoaded r v → replayed r.rows
 made_is r v w h came = ap (replayed_from r) h.texts ∙ (ap (λ (x : Asked). replayed r.rows x r.actions) (sym h.is) ∙ came)
 
 -- one of them can't
-pub stops_at : (r : Recording) (v : Asked) (at : ℕ) → IsLoaded r v → StopsAt r.rows r.actions v at → Stops r at
-stops_at r v at h stops = record { load = h.load; texts = h.texts; stops = subst (λ (x : Asked). StopsAt r.rows r.actions x at) h.is stops }
+pub stops_at : (r : Recording) (v : Asked) (at : ℕ) → IsLoaded r v → StopsAtAction r.rows r.actions v at → Stops r at
+stops_at r v at h stops = record { load = h.load; texts = h.texts; stops = subst (λ (x : Asked). StopsAtAction r.rows r.actions x at) h.is stops }
 
 -- two machines of one record are the same
-pub one_made : (r : Recording) (v w : Recorded) → IsMade r v → IsMade r w → v ≡ w
+pub one_made : (r : Recording) (v w : Recorded) → IsMadeAgain r v → IsMadeAgain r w → v ≡ w
 one_made r v w one other =
     let asked : v.asked ≡ w.asked = cc in
     let kept : v.kept ≡ w.kept = one.keeps ∙ sym other.keeps in
@@ -55,15 +55,15 @@ one_made r v w one other =
 pub one_restored : (bs : List ℕ) (v w : Recorded) → IsRestored bs v → IsRestored bs w → v ≡ w
 one_restored bs v w one other =
     let same : one.kept ≡ other.kept = cc in
-    one_made other.kept v w (subst (λ (r : Recording). IsMade r v) same one.made) other.made
+    one_made other.kept v w (subst (λ (r : Recording). IsMadeAgain r v) same one.made) other.made
 
 -- a machine that keeps a record is made by it
-pub is_made : (v : Recorded) (r : Recording) → v.kept ≡ Some r → Makes v.kept v.asked → IsMade r v
-is_made v r is h = record { made = subst (λ (k : Option Recording). Makes k v.asked) is h; keeps = is }
+pub is_made : (v : Recorded) (r : Recording) → v.kept ≡ Some r → RecordMakes v.kept v.asked → IsMadeAgain r v
+is_made v r is h = record { made = subst (λ (k : Option Recording). RecordMakes k v.asked) is h; keeps = is }
 
 pub is_made_by : (v : Recorded) (kept : Option Recording) (machine : Asked) (r : Recording) → ◌≡◌ {A = Recorded} (record { asked = machine; kept = kept }) v
-    → kept ≡ Some r → Makes kept machine → IsMade r v
-is_made_by v kept machine r view is h = subst (IsMade r) view (is_made (record { asked = machine; kept = kept }) r is h)
+    → kept ≡ Some r → RecordMakes kept machine → IsMadeAgain r v
+is_made_by v kept machine r view is h = subst (IsMadeAgain r) view (is_made (record { asked = machine; kept = kept }) r is h)
 
 -- the machine of a record's texts
 pub loaded_by : (r : Recording) (machine scripts : List ℕ) (v : Asked) → machine ≡ r.machine → scripts ≡ r.scripts
@@ -79,12 +79,12 @@ loaded_by r machine scripts v m s h spins = record {
 pub stops_by : (r : Recording) (rows : List LineRow) (actions : List ℕ) (v w : Asked) (o : Option ℕ) (at : ℕ) → rows ≡ r.rows → actions ≡ r.actions
     → o ≡ Some at → IsLoaded r v → Replays rows actions v w o → Stops r at
 stops_by r rows actions v w o at same also is h came =
-    let stops : StopsAt rows actions v at = subst (λ (x : Option ℕ). Replays rows actions v w x) is came in
+    let stops : StopsAtAction rows actions v at = subst (λ (x : Option ℕ). Replays rows actions v w x) is came in
     stops_at r v at h
-    (subst (λ (xs : List ℕ). StopsAt r.rows xs v at) also (subst (λ (xs : List LineRow). StopsAt xs actions v at) same stops))
+    (subst (λ (xs : List ℕ). StopsAtAction r.rows xs v at) also (subst (λ (xs : List LineRow). StopsAtAction xs actions v at) same stops))
 
 -- the machine that bytes make
-pub restored_ok : (bs : List ℕ) (kept : Recording) (r : Result Recorded Unrestored) → record_of bs ≡ Ok kept → IfOk r (IsMade kept)
+pub restored_ok : (bs : List ℕ) (kept : Recording) (r : Result Recorded Unrestored) → record_in_bytes bs ≡ Ok kept → IfOk r (IsMadeAgain kept)
     → IfOk r (IsRestored bs)
 restored_ok bs kept (Ok v) read made = record { kept = kept; read = read; made = made }
 restored_ok bs kept (Err why) read made = tt

@@ -4,13 +4,13 @@ use Rattle.std.specs.Str.Lines.{lines}
 use Rattle.machine_parts.specs.Core.{Load}
 use Rattle.machine_core.specs.Loading.{load_by}
 use Rattle.machine_asked.specs.Asked.{Asked}
-use Rattle.record_bytes.specs.Recording.{Recording}
-use Rattle.record_bytes.specs.Reading.{record_of}
+use Rattle.machine_record.specs.Recording.{Recording}
+use Rattle.machine_record.specs.Reading.{record_in_bytes}
 use Rattle.machine_record.specs.declared.restoring.Unrestored.{Unrestored}
 use Rattle.machine_record.specs.declared.restoring.Unrestored.TheVariants as why
 use Rattle.machine_record.specs.Machine.{Recorded}
 use Rattle.machine_record.specs.Replay.{loaded, made_by}
-use Rattle.machine_record.specs.Replayed.{StopsAt}
+use Rattle.machine_record.specs.Replayed.{StopsAtAction}
 
 -- the machine that a record's texts are loaded to
 pub record IsLoaded (kept : Recording) (v : Asked) : Type 0 where
@@ -19,7 +19,7 @@ pub record IsLoaded (kept : Recording) (v : Asked) : Type 0 where
   pub is : v ≡ loaded load
 
 -- a machine with this record, which makes it
-pub record IsMade (kept : Recording) (v : Recorded) : Type 0 where
+pub record IsMadeAgain (kept : Recording) (v : Recorded) : Type 0 where
   pub made : made_by kept ≡ Some v.asked
   pub keeps : v.kept ≡ Some kept
 
@@ -27,7 +27,7 @@ pub record IsMade (kept : Recording) (v : Recorded) : Type 0 where
 pub record Stops (kept : Recording) (at : ℕ) : Type 0 where
   pub load : Load
   pub texts : load_by (lines kept.machine) (lines kept.scripts) ≡ Ok load
-  pub stops : StopsAt kept.rows kept.actions (loaded load) at
+  pub stops : StopsAtAction kept.rows kept.actions (loaded load) at
 
 -- why a record makes no machine: memory was refused, an action can't be done, or a text has a fault
 abbrev pub IsUnmade : Recording → Unrestored → Type 0
@@ -39,20 +39,20 @@ IsUnmade kept (why.Text f) = load_by (lines kept.machine) (lines kept.scripts) �
 -- a machine that bytes make
 pub record IsRestored (bs : List ℕ) (v : Recorded) : Type 0 where
   pub kept : Recording
-  pub read : record_of bs ≡ Ok kept
-  pub made : IsMade kept v
+  pub read : record_in_bytes bs ≡ Ok kept
+  pub made : IsMadeAgain kept v
 
 -- why bytes are no record's: memory was refused, or this place has what is none's
 abbrev pub IsUnread : List ℕ → Unrestored → Type 0
 IsUnread bs why.Memory = Unit {0}
-IsUnread bs (why.At place) = record_of bs ≡ Err place
+IsUnread bs (why.At place) = record_in_bytes bs ≡ Err place
 IsUnread bs (why.Action at) = ⊥
 IsUnread bs (why.Text f) = ⊥
 
 -- bytes are those of a record that makes no machine
 pub record IsUnmadeOf (bs : List ℕ) (why : Unrestored) : Type 0 where
   pub kept : Recording
-  pub read : record_of bs ≡ Ok kept
+  pub read : record_in_bytes bs ≡ Ok kept
   pub unmade : IsUnmade kept why
 
 -- why bytes make no machine

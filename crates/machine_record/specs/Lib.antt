@@ -1,3 +1,10 @@
+pub mod Action
+pub mod Row
+pub mod Recording
+pub mod Recorded
+pub mod Bytes
+pub mod Reading
+pub mod Widths
 pub mod Replay
 pub mod Replayed
 pub mod Machine

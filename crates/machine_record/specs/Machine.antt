@@ -6,11 +6,11 @@ use Rattle.torus.specs.declared.step.Stepped.{Stepped}
 use Rattle.torus.specs.declared.step.Stepped.TheVariants.{Moved, Idle}
 use Rattle.script.specs.declared.line.Line.{Line as ScriptLine}
 use Rattle.machine_asked.specs.Asked.{Asked}
-use Rattle.record_bytes.specs.declared.action.Action.{Action}
-use Rattle.record_bytes.specs.declared.action.Action.TheVariants.{Move, Line}
-use Rattle.record_bytes.specs.Action.{action_number, is_narrow}
-use Rattle.record_bytes.specs.Row.{row_of}
-use Rattle.record_bytes.specs.Recording.{Recording}
+use Rattle.machine_record.specs.declared.action.Action.{Action}
+use Rattle.machine_record.specs.declared.action.Action.TheVariants.{Move, Line}
+use Rattle.machine_record.specs.Action.{action_number, is_narrow}
+use Rattle.machine_record.specs.Row.{row_of_line}
+use Rattle.machine_record.specs.Recording.{Recording}
 
 -- a machine, and the record of what was done to it, where it keeps one
 pub record Recorded : Type 0 where
@@ -31,19 +31,19 @@ abbrev pub with_row : ℕ → ScriptLine → Recording → Recording
 with_row p line r = record {
   machine = r.machine;
   scripts = r.scripts;
-  rows = r.rows ++ row_of p line ∷ [];
+  rows = r.rows ++ row_of_line p line ∷ [];
   actions = r.actions ++ action_number (Line (length r.rows)) ∷ [];
 }
 
 -- An action is kept: the record has its number more. Or the record ends: memory for it was refused, or
 -- no number names the action.
-abbrev pub Keeps : Action → Option Recording → Option Recording → Type 0
-Keeps a old new =
+abbrev pub KeepsRecord : Action → Option Recording → Option Recording → Type 0
+KeepsRecord a old new =
     ((is_narrow a ≡ true) × (new ≡ option_map (with_action (action_number a)) old)) ⊎ (new ≡ None)
 
 -- a move is kept; an attempt that doesn't move leaves the record as it was
 abbrev pub KeepsStep : Step → Stepped → Option Recording → Option Recording → Type 0
-KeepsStep attempt Moved old new = Keeps (Move attempt) old new
+KeepsStep attempt Moved old new = KeepsRecord (Move attempt) old new
 KeepsStep attempt Idle old new = new ≡ old
 
 -- there is a number for a line more

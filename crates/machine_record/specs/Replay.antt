@@ -14,12 +14,12 @@ use Rattle.machine_parts.specs.Machine.{built_to, core_after, core_after_load, c
 use Rattle.machine_core.specs.Loading.{load_by}
 use Rattle.machine_core.specs.Rounds.{rounds_of}
 use Rattle.machine_asked.specs.Asked.{Asked, asked_in, has_spin, spins_with}
-use Rattle.record_bytes.specs.declared.action.Action.{Action}
-use Rattle.record_bytes.specs.declared.action.Action.TheVariants.{Move, Rounds, Line}
-use Rattle.record_bytes.specs.declared.row.LineRow.{LineRow}
-use Rattle.record_bytes.specs.Action.{action_of}
-use Rattle.record_bytes.specs.Row.{line_of}
-use Rattle.record_bytes.specs.Recording.{Recording}
+use Rattle.machine_record.specs.declared.action.Action.{Action}
+use Rattle.machine_record.specs.declared.action.Action.TheVariants.{Move, Rounds, Line}
+use Rattle.machine_record.specs.declared.row.LineRow.{LineRow}
+use Rattle.machine_record.specs.Action.{action_of}
+use Rattle.machine_record.specs.Row.{line_of_row}
+use Rattle.machine_record.specs.Recording.{Recording}
 
 -- a machine that a load is loaded to, before any step
 abbrev pub loaded : Load → Asked
@@ -31,8 +31,8 @@ if_moved Moved v = Some v
 if_moved Idle v = None
 
 -- the machine after a move; None where the choice isn't enabled
-abbrev pub moved : Asked → Step → Option Asked
-moved v attempt =
+abbrev pub machine_moved : Asked → Step → Option Asked
+machine_moved v attempt =
     if_moved (machine_told (step (built_to v.core) v.core.state attempt))
     (asked_in v (core_next v.core attempt))
 
@@ -53,11 +53,11 @@ if_taken (Some why) v = None
 abbrev pub row_handed : Asked → LineRow → Option Asked
 row_handed v row =
     option_and_then (λ line. if_taken (refused v.core row.processor line) (with_line v row.processor line))
-    (line_of row)
+    (line_of_row row)
 
 -- the machine after an action, of a record with these lines; None where it can't be done
 abbrev pub acted : List LineRow → Asked → Action → Option Asked
-acted rows v (Move attempt) = moved v attempt
+acted rows v (Move attempt) = machine_moved v attempt
 acted rows v (Rounds count) = Some (rounds_made v count)
 acted rows v (Line number) = option_and_then (row_handed v) (slice_get rows number)
 

@@ -1,11 +1,11 @@
 //! What is kept of what is done to a machine: nothing, or a record.
 
 ghost use Rattle.std.specs.Prelude.{◌≡◌, ◌<◌, true, OnOk, length, option_map};
-ghost use Rattle.record_bytes.specs.Action.{action_number, is_narrow};
-ghost use Rattle.record_bytes.specs.Recorded.{recording_of};
-ghost use Rattle.machine_record.specs.Machine.{Keeps, KeepsLine, with_action, with_row};
+ghost use Rattle.machine_record.specs.Action.{action_number, is_narrow};
+ghost use Rattle.machine_record.specs.Recorded.{recording_of};
+ghost use Rattle.machine_record.specs.Machine.{KeepsRecord, KeepsLine, with_action, with_row};
 
-use record_bytes::{Action, LineRow, Record};
+use crate::{Action, LineRow, Record};
 use script::Line;
 use std::alloc::{AllocError, Allocator};
 
@@ -31,7 +31,7 @@ fn put<A: Allocator>(kept: &mut Record<A>, action: Action) -> Result<(), AllocEr
 /// Keeps an action. The record ends where no number names the action, or memory is refused.
 #[inline(always)]
 pub(crate) fn keep<A: Allocator>(kept: &mut Option<Record<A>>, action: Action)
-    ensures { Keeps action (option_map recording_of kept.old) (option_map recording_of kept.new) }
+    ensures { KeepsRecord action (option_map recording_of kept.old) (option_map recording_of kept.new) }
 {
     let Some(record) = kept else {
         return;
@@ -43,7 +43,7 @@ pub(crate) fn keep<A: Allocator>(kept: &mut Option<Record<A>>, action: Action)
 
 /// Keeps rounds. The record ends where no number names them, or memory is refused.
 pub(crate) fn keep_rounds<A: Allocator>(kept: &mut Option<Record<A>>, count: u64)
-    ensures { Keeps (Action.Rounds count) (option_map recording_of kept.old)
+    ensures { KeepsRecord (Action.Rounds count) (option_map recording_of kept.old)
         (option_map recording_of kept.new) }
 {
     if count < MOST {

@@ -17,12 +17,12 @@ ghost use Rattle.machine_core.specs.Loading.{HasLoaded, IsLoadFault, load_by};
 ghost use Rattle.machine_core.specs.Rounds.{NeedsRounds, rounds_of};
 ghost use Rattle.machine_asked.specs.Asked.{IsAsked, IsNumbered, NeedsToWait, has_spin};
 ghost use Rattle.machine_asked.specs.Asked.{index_asked, spins_with};
-ghost use Rattle.record_bytes.specs.Recording.{fresh_record};
-ghost use Rattle.machine_record.specs.Machine.{Keeps, KeepsLine, KeepsStep};
+ghost use Rattle.machine_record.specs.Recording.{fresh_record};
+ghost use Rattle.machine_record.specs.Machine.{KeepsRecord, KeepsLine, KeepsStep};
 
 use crate::keeping::{keep, keep_line, keep_rounds};
 use machine_asked::{AskedMachine, Machine};
-use record_bytes::{Action, Record, begun};
+use crate::{Action, Record, begun};
 use script::{Line, LineFault};
 use std::alloc::{Allocator, Global};
 use std::marker::Model;
@@ -142,7 +142,7 @@ impl<A: Allocator> RecordedMachine<A> {
         ensures runs_on { RunsOn self.old.asked.core self.new.asked.core
             (round self.old.asked.core.shape) }
         ensures spins { self.new.asked.spins ≡ self.old.asked.spins }
-        ensures kept { Keeps (Action.Rounds 1) self.old.kept self.new.kept }
+        ensures kept { KeepsRecord (Action.Rounds 1) self.old.kept self.new.kept }
     {
         self.machine.round();
         keep_rounds(&mut self.kept, 1);
@@ -163,7 +163,7 @@ impl<A: Allocator> RecordedMachine<A> {
             → AreFinished (run_of l (before ++ rounds_of self.old.asked.core.shape result))
             (length (before ++ rounds_of self.old.asked.core.shape result)) l.scripts }
         ensures spins { self.new.asked.spins ≡ self.old.asked.spins }
-        ensures kept { Keeps (Action.Rounds result) self.old.kept self.new.kept }
+        ensures kept { KeepsRecord (Action.Rounds result) self.old.kept self.new.kept }
     {
         let rounds = self.machine.finish();
         keep_rounds(&mut self.kept, rounds);
@@ -179,7 +179,7 @@ impl<A: Allocator> RecordedMachine<A> {
         ensures runs_on { RunsOn self.old.asked.core self.new.asked.core
             (rounds_of self.old.asked.core.shape result) }
         ensures spins { self.new.asked.spins ≡ self.old.asked.spins }
-        ensures kept { Keeps (Action.Rounds result) self.old.kept self.new.kept }
+        ensures kept { KeepsRecord (Action.Rounds result) self.old.kept self.new.kept }
     {
         let rounds = self.machine.wait(processor, index);
         keep_rounds(&mut self.kept, rounds);

@@ -1,17 +1,17 @@
 //! What a record's actions do to a machine.
 
 ghost use Rattle.std.specs.Prelude.{◌≡◌, IfOk};
-ghost use Rattle.machine_record.specs.Replay.{acted, acted_by, moved, rounds_made, row_handed};
-ghost use Rattle.machine_record.specs.Replayed.{Comes, Replays};
+ghost use Rattle.machine_record.specs.Replay.{acted, acted_by, machine_moved, rounds_made, row_handed};
+ghost use Rattle.machine_record.specs.Replayed.{ComesInTurn, Replays};
 
 use machine_asked::AskedMachine;
-use record_bytes::{Action, LineRow};
+use crate::{Action, LineRow};
 use std::alloc::{AllocError, Allocator};
 use torus::{Fault, Step, Stepped};
 
 /// Makes a move. Answers whether the choice was enabled; nothing has changed otherwise.
 fn moved<A: Allocator>(machine: &mut AskedMachine<A>, step: Step) -> bool
-    ensures { Comes (moved machine.old step) machine.new result }
+    ensures { ComesInTurn (machine_moved machine.old step) machine.new result }
 {
     match machine.step(step) {
         Stepped::Moved => true,
@@ -32,7 +32,7 @@ fn make_rounds<A: Allocator>(machine: &mut AskedMachine<A>, count: u32)
 ///
 /// Errors: out of memory.
 fn hand<A: Allocator>(machine: &mut AskedMachine<A>, row: LineRow) -> Result<bool, AllocError>
-    ensures { IfOk result (λ done. Comes (row_handed machine.old row) machine.new done) }
+    ensures { IfOk result (λ done. ComesInTurn (row_handed machine.old row) machine.new done) }
 {
     let Some(line) = row.line() else {
         return Ok(false);
@@ -52,7 +52,7 @@ fn act<A: Allocator>(
     rows: &[LineRow],
     action: Action,
 ) -> Result<bool, AllocError>
-    ensures { IfOk result (λ done. Comes (acted rows.now machine.old action) machine.new done) }
+    ensures { IfOk result (λ done. ComesInTurn (acted rows.now machine.old action) machine.new done) }
 {
     match action {
         Action::Move(step) => Ok(moved(machine, step)),
@@ -75,7 +75,7 @@ fn act_by<A: Allocator>(
     rows: &[LineRow],
     number: u32,
 ) -> Result<bool, AllocError>
-    ensures { IfOk result (λ done. Comes (acted_by rows.now machine.old number) machine.new done) }
+    ensures { IfOk result (λ done. ComesInTurn (acted_by rows.now machine.old number) machine.new done) }
 {
     match Action::of_number(number) {
         Some(action) => act(machine, rows, action),

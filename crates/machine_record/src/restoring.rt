@@ -1,15 +1,15 @@
 //! A machine as bytes, and the machine that bytes make again.
 
 ghost use Rattle.std.specs.Prelude.{◌≡◌, IfErr, IfOk, IfSome, MatchOption, None, Ok, option_map};
-ghost use Rattle.record_bytes.specs.Bytes.{record_bytes};
-ghost use Rattle.record_bytes.specs.Reading.{record_of};
-ghost use Rattle.record_bytes.specs.Recorded.{recording_of};
-ghost use Rattle.machine_record.specs.Calls.{IsLoaded, IsMade, IsRestored, IsUnmade, IsUnread, IsUnrestored};
+ghost use Rattle.machine_record.specs.Bytes.{record_bytes};
+ghost use Rattle.machine_record.specs.Reading.{record_in_bytes};
+ghost use Rattle.machine_record.specs.Recorded.{recording_of};
+ghost use Rattle.machine_record.specs.Calls.{IsLoaded, IsMadeAgain, IsRestored, IsUnmade, IsUnread, IsUnrestored};
 
 use crate::recorded::RecordedMachine;
 use crate::replay::replay;
 use machine_asked::AskedMachine;
-use record_bytes::{Record, Unread, bytes_of, copied, record_of};
+use crate::{Record, Unread, bytes_of, copied, record_of};
 use script::LineFault;
 use std::alloc::{AllocError, Allocator};
 use torus::Fault;
@@ -43,7 +43,7 @@ fn loaded<A: Allocator + Copy>(alloc: A, kept: &Record<A>) -> Result<AskedMachin
 
 /// The machine that a record makes.
 fn made<A: Allocator + Copy>(alloc: A, kept: Record<A>) -> Result<RecordedMachine<A>, Unrestored>
-    ensures ok { IfOk result (IsMade (recording_of kept)) }
+    ensures ok { IfOk result (IsMadeAgain (recording_of kept)) }
     ensures err { IfErr result (IsUnmade (recording_of kept)) }
 {
     let mut machine = loaded(alloc, &kept)?;
@@ -59,7 +59,7 @@ fn made<A: Allocator + Copy>(alloc: A, kept: Record<A>) -> Result<RecordedMachin
 
 /// The record that bytes are.
 fn read<A: Allocator + Copy>(alloc: A, bytes: &[u8]) -> Result<Record<A>, Unrestored>
-    ensures ok { IfOk result (λ kept. record_of bytes.now ≡ Ok (recording_of kept)) }
+    ensures ok { IfOk result (λ kept. record_in_bytes bytes.now ≡ Ok (recording_of kept)) }
     ensures err { IfErr result (IsUnread bytes.now) }
 {
     match record_of(alloc, bytes) {

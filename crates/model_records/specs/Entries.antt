@@ -77,12 +77,12 @@ after_entry r number (entry.Replied name reply) = entry_replied r number name re
 
 -- the log of some items, of which the first has this number, after what was read: where an item
 -- stands, by its number, and what it makes of a log there
-abbrev pub log_from : {E : Type 0} → (ℕ → E → ℕ) → (LogLines → ℕ → E → Result LogLines LogReason)
+abbrev pub entries_log_from : {E : Type 0} → (ℕ → E → ℕ) → (LogLines → ℕ → E → Result LogLines LogReason)
     → LogLines → ℕ → List E → Result LogLines (Refusal LogReason)
-log_from line_of after r number [] = log_ended r number
-log_from line_of after r number (e ∷ items) =
+entries_log_from line_of after r number [] = log_ended r number
+entries_log_from line_of after r number (e ∷ items) =
     then_lines (line_of number e) (after r (line_of number e) e)
-    (λ next. log_from line_of after next (number + 1) items)
+    (λ next. entries_log_from line_of after next (number + 1) items)
 
 -- a log of a memory of so many words, of which nothing else is said so far
 abbrev pub begun_log : LogLines → ℕ → Result LogLines LogReason
@@ -90,18 +90,18 @@ begun_log r words = head_logged r (words_read (record (r.head) { begun = true })
 
 -- the log of all items, over a memory of so many words; or where the first bad item stands, and why it
 -- is refused
-abbrev pub log_of : {E : Type 0} → (ℕ → E → ℕ) → (LogLines → ℕ → E → Result LogLines LogReason) → ℕ
+abbrev pub entries_log : {E : Type 0} → (ℕ → E → ℕ) → (LogLines → ℕ → E → Result LogLines LogReason) → ℕ
     → List E → Result LogLines (Refusal LogReason)
-log_of line_of after words items = then_lines 0 (begun_log nothing_logged words)
-    (λ first. log_from line_of after first 1 items)
+entries_log line_of after words items = then_lines 0 (begun_log nothing_logged words)
+    (λ first. entries_log_from line_of after first 1 items)
 
 -- an item of an array stands at its number, from 1
-abbrev pub numbered : {E : Type 0} → ℕ → E → ℕ
-numbered number e = number
+abbrev pub numbered_entries : {E : Type 0} → ℕ → E → ℕ
+numbered_entries number e = number
 
 -- the log that entries are
 abbrev pub log_of_entries : ℕ → List LogEntry → Result LogLines (Refusal LogReason)
-log_of_entries words entries = log_of numbered after_entry words entries
+log_of_entries words entries = entries_log numbered_entries after_entry words entries
 
 -- an entry of a text stands at its line
 abbrev pub line_of_entry : ℕ → LineEntry → ℕ
@@ -113,4 +113,4 @@ after_line_entry r line e = after_entry r line e.entry
 
 -- the log that entries of a text are
 abbrev pub log_of_lines : ℕ → List LineEntry → Result LogLines (Refusal LogReason)
-log_of_lines words entries = log_of line_of_entry after_line_entry words entries
+log_of_lines words entries = entries_log line_of_entry after_line_entry words entries

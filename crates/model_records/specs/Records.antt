@@ -16,7 +16,7 @@ use Rattle.model_records.specs.declared.entry.LogEntry.{LogEntry}
 use Rattle.model_records.specs.declared.entry.LogEntry.TheVariants as entry
 use Rattle.model_records.specs.declared.entry.Named.{Named}
 use Rattle.model_records.specs.declared.record.LogRecord.{LogRecord}
-use Rattle.model_records.specs.Entries.{after_entry, log_of, numbered}
+use Rattle.model_records.specs.Entries.{after_entry, entries_log, numbered_entries}
 
 -- the operation of a number, with these values: operations are numbered from 0, load first
 abbrev pub op_of_number : ℕ → ℕ → ℕ → Option Op
@@ -56,10 +56,10 @@ entry_of_record r = slice_index_or
     r.kind None
 
 -- what a record makes of a log, the one of this number
-abbrev pub after_record : LogLines → ℕ → LogRecord → Result LogLines LogReason
-after_record r number x =
+abbrev pub after_model_record : LogLines → ℕ → LogRecord → Result LogLines LogReason
+after_model_record r number x =
     ok_or (entry_of_record x) reason.UnknownKeyword >>= after_entry r number
 
 -- the log that records are
 abbrev pub log_of_records : ℕ → List LogRecord → Result LogLines (Refusal LogReason)
-log_of_records words records = log_of numbered after_record words records
+log_of_records words records = entries_log numbered_entries after_model_record words records

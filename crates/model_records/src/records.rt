@@ -3,7 +3,7 @@
 ghost use Rattle.std.specs.Prelude.{◌≡◌, ◌<◌, Some, length, slice_get};
 ghost use Rattle.lexer.specs.Outcome.{Gives, Makes};
 ghost use Rattle.model_text.specs.Views.{log_so_far};
-ghost use Rattle.model_records.specs.Records.{after_record, log_of_records};
+ghost use Rattle.model_records.specs.Records.{after_model_record, log_of_records};
 
 use crate::entries::begin;
 use crate::entry::take;
@@ -30,7 +30,7 @@ fn take_record<A: Allocator + Copy>(
     given: LogRecord,
 ) -> Result<(), LogReason>
     ensures { Makes (LogReason.Line LineReason.Memory) (log_so_far log.new) result
-        (after_record (log_so_far log.old) number given) }
+        (after_model_record (log_so_far log.old) number given) }
 {
     match given.entry() {
         Some(entry) => take(log, alloc, number, entry),

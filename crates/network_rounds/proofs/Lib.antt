@@ -1,3 +1,5 @@
+pub mod SevenWords
+pub mod Refused
 pub mod Lists
 pub mod Groups
 pub mod Meeting

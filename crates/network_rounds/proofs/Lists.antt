@@ -12,19 +12,19 @@ use Rattle.network_machine.specs.declared.moves.Move.{Move}
 use Rattle.network_machine.specs.Machine.{NetworkMachineSpec, ShowsNetwork, plain_network, SameTables, Permits, Prevents}
 use Rattle.network_machine.specs.Runs.{Runs, RunsTo}
 use Rattle.network_machine.proofs.Running.{no_move}
-use Rattle.network_rounds.specs.Attempts.{AreEnabled, IsMade, Attempts, AddsEnabled, AddsMade}
+use Rattle.network_rounds.specs.Attempts.{AreEnabledMoves, IsMoveMade, AttemptsMoves, AddsEnabled, AddsMade}
 use Rattle.network_rounds.specs.Rounds.{turned, turned_groups, IsRound}
 
-enabled_behind : (m : NetworkMachineSpec) (xs ys ps qs : List Move) → AreEnabled m xs ps → AreEnabled m ys qs → AreEnabled m (xs ++ ys) (ps ++ qs)
-enabled_behind m [] ys ps qs h k = subst (AreEnabled m ys) (ap (λ (zs : List Move). zs ++ qs) (sym h)) k
+enabled_behind : (m : NetworkMachineSpec) (xs ys ps qs : List Move) → AreEnabledMoves m xs ps → AreEnabledMoves m ys qs → AreEnabledMoves m (xs ++ ys) (ps ++ qs)
+enabled_behind m [] ys ps qs h k = subst (AreEnabledMoves m ys) (ap (λ (zs : List Move). zs ++ qs) (sym h)) k
 enabled_behind m (x ∷ xs) ys ps qs h k = elim h [
   | inl made_it ↦ inl (made_it.0, made_it.1 ++ qs, ap (λ (zs : List Move). zs ++ qs) made_it.2, enabled_behind m xs ys made_it.1 qs made_it.3 k)
   | inr missed ↦ inr (missed.0, enabled_behind m xs ys ps qs missed.1 k)
 ]
 
-attempts_behind : (a b c : NetworkMachineSpec) (xs ys ps qs : List Move) → Attempts a b xs ps → Attempts b c ys qs → Attempts a c (xs ++ ys) (ps ++ qs)
+attempts_behind : (a b c : NetworkMachineSpec) (xs ys ps qs : List Move) → AttemptsMoves a b xs ps → AttemptsMoves b c ys qs → AttemptsMoves a c (xs ++ ys) (ps ++ qs)
 attempts_behind a b c [] ys ps qs h k =
-    subst (λ (m : NetworkMachineSpec). Attempts m c ys (ps ++ qs)) h.0 (subst (Attempts b c ys) (ap (λ (zs : List Move). zs ++ qs) (sym h.1)) k)
+    subst (λ (m : NetworkMachineSpec). AttemptsMoves m c ys (ps ++ qs)) h.0 (subst (AttemptsMoves b c ys) (ap (λ (zs : List Move). zs ++ qs) (sym h.1)) k)
 attempts_behind a b c (x ∷ xs) ys ps qs h k = elim h [
   | inl made_it ↦ inl (made_it.0, made_it.1, made_it.2 ++ qs, ap (λ (zs : List Move). zs ++ qs) made_it.3, attempts_behind made_it.0 b c xs ys made_it.2 qs made_it.4 k)
   | inr missed ↦ inr (missed.0, attempts_behind a b c xs ys ps qs missed.1 k)
@@ -61,7 +61,7 @@ adds_one m x before later allows is = record { added = x ∷ []; enabled = inl (
 pub passes_one : (m : NetworkMachineSpec) (x : Move) (before later : List Move) → Prevents m x → later ≡ before → AddsEnabled m (x ∷ []) before later
 passes_one m x before later hinders is = record { added = []; enabled = inr (hinders, refl); is = is ∙ sym (append-nil before) }
 
-pub makes_one : (a b : NetworkMachineSpec) (x : Move) (before later : List Move) → IsMade a b x → later ≡ before ++ x ∷ [] → AddsMade a b (x ∷ []) before later
+pub makes_one : (a b : NetworkMachineSpec) (x : Move) (before later : List Move) → IsMoveMade a b x → later ≡ before ++ x ∷ [] → AddsMade a b (x ∷ []) before later
 makes_one a b x before later made is = record { added = x ∷ []; attempts = inl (b, made, [], refl, (refl, refl)); is = is }
 
 pub misses_one : (a b : NetworkMachineSpec) (x : Move) (before later : List Move) → Prevents a x → b ≡ a → later ≡ before → AddsMade a b (x ∷ []) before later
@@ -75,7 +75,7 @@ same_over a b c h k = record { table = k.table ∙ h.table; replies = k.replies 
 abbrev pub RunsIn : NetworkMachineSpec → Table → List Reply → (ℕ → ℕ) → ℕ → ℕ → NetState → List Move → Type 0
 RunsIn c t rs number top depth s ms = (u : NetState) × Runs (plain_network t number top depth) rs s ms u × ShowsNetwork c u
 
-run_front : (a b c : NetworkMachineSpec) (x : Move) (ms : List Move) → IsMade a b x → RunsTo b c ms → RunsTo a c (x ∷ ms)
+run_front : (a b c : NetworkMachineSpec) (x : Move) (ms : List Move) → IsMoveMade a b x → RunsTo b c ms → RunsTo a c (x ∷ ms)
 run_front a b c x ms made runs number top depth s shows =
     (let h = made.0 number top depth s shows in
     let t : NetState = after (plain_network a.table number top depth) s h.event in
@@ -85,7 +85,7 @@ run_front a b c x ms made runs number top depth s shows =
     (q.0, (h.event, h.can, q.1), q.2))
 
 -- attempts that are made are a run
-pub attempts_run : (a b : NetworkMachineSpec) (xs ps : List Move) → Attempts a b xs ps → RunsTo a b ps
+pub attempts_run : (a b : NetworkMachineSpec) (xs ps : List Move) → AttemptsMoves a b xs ps → RunsTo a b ps
 attempts_run a b [] ps h = subst (λ (m : NetworkMachineSpec). RunsTo a m ps) (sym h.0) (subst (RunsTo a a) (sym h.1) (no_move a))
 attempts_run a b (x ∷ xs) ps h = elim h [
   | inl made_it ↦ subst (RunsTo a b) (sym made_it.3) (run_front a made_it.0 b x made_it.2 made_it.1 (attempts_run made_it.0 b xs made_it.2 made_it.4))
@@ -127,11 +127,11 @@ pub round_of : (a b : NetworkMachineSpec) (choices enabled made : List Move) →
 round_of a b choices enabled made h k = record {
   enabled = h.added;
   begins = h.enabled;
-  attempts = subst (λ (xs : List Move). Attempts a b xs made) h.is (subst (Attempts a b enabled) (sym k.is) k.attempts);
+  attempts = subst (λ (xs : List Move). AttemptsMoves a b xs made) h.is (subst (AttemptsMoves a b enabled) (sym k.is) k.attempts);
 }
 
 pub run_of : (a b : NetworkMachineSpec) (enabled made : List Move) → AddsMade a b enabled [] made → RunsTo a b made
-run_of a b enabled made k = attempts_run a b enabled made (subst (Attempts a b enabled) (sym k.is) k.attempts)
+run_of a b enabled made k = attempts_run a b enabled made (subst (AttemptsMoves a b enabled) (sym k.is) k.attempts)
 
 -- the list of a vector
 pub items_of : {X A : Type 0} (v w : Vec X A) → v ≡ w → v.items ≡ w.items

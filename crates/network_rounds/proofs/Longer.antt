@@ -15,10 +15,10 @@ use Rattle.network_machine.specs.Machine.{NetworkMachineSpec, plain_network, Sam
 use Rattle.network_machine.specs.Runs.{Runs, RunsTo}
 use Rattle.network_machine.proofs.Running.{no_move}
 use Rattle.network_rounds.specs.declared.senders.Timed.{Timed}
-use Rattle.network_rounds.specs.Counts.{one_at, left_by, begun_by, flits_left, packets_begun}
+use Rattle.network_rounds.specs.Counts.{one_at, channel_left, begun_by, flits_gone, packets_begun}
 use Rattle.network_rounds.specs.Rounds.{turned_groups, IsRound}
 use Rattle.network_rounds.specs.Senders.{queue_at, due_of, dues_of}
-use Rattle.network_rounds.specs.Simulations.{flits_in, begun_in, choices_in, moves_of, IsSimulation}
+use Rattle.network_rounds.specs.Simulations.{flits_in_channels, begun_in, choices_in, moves_of_all, IsSimulation}
 use Rattle.network_rounds.proofs.Lists.{RunsIn, same_over}
 
 runs_join : (n : Net) (rs : List Reply) (s : NetState) (ms : List Move) (t : NetState) (ns : List Move) (u : NetState) → Runs n rs s ms t → Runs n rs t ns u
@@ -46,8 +46,8 @@ sum_short : (f : Move → ℕ) → ((m : Move) → f m ≤ 1) → (ms : List Mov
 sum_short f low [] = omega arith
 sum_short f low (m ∷ ms) = (let rest = sum_short f low ms in let one = low m in let e = sum_by-cons f m ms in omega (arith, rest, one, e))
 
-flits_short : (x : ℕ) (ms : List Move) → flits_left x ms ≤ length ms
-flits_short x ms = sum_short (λ m. one_at x (left_by m)) (λ m. one_short x (left_by m)) ms
+flits_short : (x : ℕ) (ms : List Move) → flits_gone x ms ≤ length ms
+flits_short x ms = sum_short (λ m. one_at x (channel_left m)) (λ m. one_short x (channel_left m)) ms
 
 begun_short : (x : ℕ) (ms : List Move) → packets_begun x ms ≤ length ms
 begun_short x ms = sum_short (λ m. one_at x (begun_by m)) (λ m. one_short x (begun_by m)) ms
@@ -68,7 +68,7 @@ pub record Simulates {A B : Type 0} (queues : List (Vec Timed A)) (groups : List
     (count room : ℕ) : Type 0 where
   pub simulation : IsSimulation queues groups old new begun flits count
   pub begun_few : (x : ℕ) → begun_in x simulation.rounds ≤ room * count
-  pub flits_few : (x : ℕ) → flits_in x simulation.rounds ≤ room * count
+  pub flits_few : (x : ℕ) → flits_in_channels x simulation.rounds ≤ room * count
 
 pub simulates_none : {A B : Type 0} (queues : List (Vec Timed A)) (groups : List (Vec Move B)) (m : NetworkMachineSpec) (begun flits : List ℕ) (room : ℕ)
     → ((x : ℕ) → x < length queues → slice_index begun x ≡ 0) → ((x : ℕ) → x < length flits → slice_index flits x ≡ 0)
@@ -99,7 +99,7 @@ pub simulates_next : {A B : Type 0} (queues : List (Vec Timed A)) (groups : List
     → count < 2 ^ 32 → room < 2 ^ 31 → length made ≤ room → length begun ≡ length queues → length flits_later ≡ length flits
     → IsRound between new (choices_in queues groups (slice_index begun) count) made → RunsTo between new made → SameTables between new
     → ((x : ℕ) → x < length begun → slice_index begun x + packets_begun x made < 2 ^ 64 → slice_index begun_later x ≡ slice_index begun x + packets_begun x made)
-    → ((x : ℕ) → x < length flits → slice_index flits x + flits_left x made < 2 ^ 64 → slice_index flits_later x ≡ slice_index flits x + flits_left x made)
+    → ((x : ℕ) → x < length flits → slice_index flits x + flits_gone x made < 2 ^ 64 → slice_index flits_later x ≡ slice_index flits x + flits_gone x made)
     → (s : Simulates queues groups old new begun_later flits_later (count + 1) room) × (s.simulation.rounds ≡ made ∷ h.simulation.rounds)
 simulates_next queues groups old between new begun flits begun_later flits_later count room made h low small short many size round runs same b f = (
   record {
@@ -107,7 +107,7 @@ simulates_next queues groups old between new begun flits begun_later flits_later
       rounds = made ∷ rounds;
       number = (let number = h.simulation.number in omega (arith, number));
       are = (between, h.simulation.are, subst (λ (ms : List Move). IsRound between new ms made) choices round);
-      runs = runs_behind old between new (moves_of rounds) made h.simulation.same h.simulation.runs runs;
+      runs = runs_behind old between new (moves_of_all rounds) made h.simulation.same h.simulation.runs runs;
       same = same_over old between new h.simulation.same same;
       senders = λ x here.
           (let e = sum_by-cons (λ ms. packets_begun x ms) made rounds in
@@ -117,10 +117,10 @@ simulates_next queues groups old between new begun flits begun_later flits_later
           let is = b x (omega (arith, here, many)) bound in
           omega (arith, e, so_far, is));
       channels = λ x here.
-          (let e = sum_by-cons (λ ms. flits_left x ms) made rounds in
+          (let e = sum_by-cons (λ ms. flits_gone x ms) made rounds in
           let inside : x < length flits = omega (arith, here, size) in
           let so_far = h.simulation.channels x inside in
-          let bound = fits room count (slice_index flits x) (flits_left x made) low small (let few = h.flits_few x in omega (arith, few, so_far))
+          let bound = fits room count (slice_index flits x) (flits_gone x made) low small (let few = h.flits_few x in omega (arith, few, so_far))
           (let s = flits_short x made in omega (arith, s, short)) in
           let is = f x inside bound in
           omega (arith, e, so_far, is));
@@ -131,7 +131,7 @@ simulates_next queues groups old between new begun flits begun_later flits_later
         let s = begun_short x made in
         omega (arith, e, few, s, short));
     flits_few = λ x.
-        (let e = sum_by-cons (λ ms. flits_left x ms) made rounds in
+        (let e = sum_by-cons (λ ms. flits_gone x ms) made rounds in
         let few = h.flits_few x in
         let s = flits_short x made in
         omega (arith, e, few, s, short));
@@ -156,8 +156,8 @@ pub simulates_more : {A B : Type 0} (queues : List (Vec Timed A)) (groups : List
     → RunsTo between new (take many made) → SameTables between new
     → ((x : ℕ) → x < length begun → slice_index begun x + packets_begun x (take many made) < 2 ^ 64
     → slice_index begun_later x ≡ slice_index begun x + packets_begun x (take many made))
-    → ((x : ℕ) → x < length flits → slice_index flits x + flits_left x (take many made) < 2 ^ 64
-    → slice_index flits_later x ≡ slice_index flits x + flits_left x (take many made))
+    → ((x : ℕ) → x < length flits → slice_index flits x + flits_gone x (take many made) < 2 ^ 64
+    → slice_index flits_later x ≡ slice_index flits x + flits_gone x (take many made))
     → (s : Simulates queues groups old new begun_later flits_later (count + 1) room) × (s.simulation.rounds ≡ take many made ∷ h.simulation.rounds)
 simulates_more queues groups old between new begun flits begun_later flits_later count room most many made h low few small short is each size round runs same b f =
     (let long : length (take many made) ≡ many = length-take-le many made short in

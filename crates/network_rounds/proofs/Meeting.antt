@@ -5,7 +5,7 @@ use Rattle.std.specs.Prelude.{◌==◌, slice_index, slice_set}
 use Rattle.std.proofs.lemmas.Bool.{cases_eq, cases_lt, eqb-true, eqb-false}
 use Rattle.std.proofs.lemmas.List.{length-set}
 use Rattle.network_judge.specs.Table.{Table, channels_of, columns_of, choice_of, kind_of, is_receiver}
-use Rattle.network_rounds.specs.Routers.{MayChoose, MeetAlong, HaveOneRouter, AreRouters, IsCellBefore, AreNoted, first_of, renumbered, AreRenumbered, NotesChoice}
+use Rattle.network_rounds.specs.Routers.{MayChoose, MeetAlong, HaveOneRouter, AreRouters, IsCellBefore, AreNoted, first_choosing, router_renumbered, AreRenumbered, NotesChoice}
 
 along : (t : Table) (x y z : ℕ) (way on : List ℕ) → MeetAlong t x way y → MeetAlong t y on z → MeetAlong t x (way ++ on) z
 along t x y z [] on h k = subst (λ (w : ℕ). MeetAlong t w on z) (sym h) k
@@ -25,10 +25,10 @@ pub turns : (t : Table) (x z : ℕ) → HaveOneRouter t x z → HaveOneRouter t 
 turns t x z h = turned t x z h.0 h.1
 
 -- a new number, or the old one
-split : (from to number : ℕ) → ((number ≡ from) × (renumbered from to number ≡ to)) ⊎ (renumbered from to number ≡ number)
+split : (from to number : ℕ) → ((number ≡ from) × (router_renumbered from to number ≡ to)) ⊎ (router_renumbered from to number ≡ number)
 split from to number = by (number == from) refl
   where
-    by : (b : Bool) → (number == from) ≡ b → ((number ≡ from) × (renumbered from to number ≡ to)) ⊎ (renumbered from to number ≡ number)
+    by : (b : Bool) → (number == from) ≡ b → ((number ≡ from) × (router_renumbered from to number ≡ to)) ⊎ (router_renumbered from to number ≡ number)
     by true e = inl (eqb-true number from e, ap (λ (c : Bool). cond c to number) e)
     by false e = inr (ap (λ (c : Bool). cond c to number) e)
 
@@ -65,7 +65,7 @@ module _ (t : Table) (routers later : List ℕ) (firsts noted : List (Option ℕ
       }))
 
   -- the first
-  first_noted : y < length firsts → first_of firsts y ≡ None → later ≡ routers → noted ≡ slice_set firsts y (Some x) → AreNoted t x (column + 1) later noted
+  first_noted : y < length firsts → first_choosing firsts y ≡ None → later ≡ routers → noted ≡ slice_set firsts y (Some x) → AreNoted t x (column + 1) later noted
   first_noted low none r f =
       subst (λ (rs : List ℕ). AreNoted t x (column + 1) rs noted) (sym r) (subst (AreNoted t x (column + 1) routers) (sym f) (record {
         size = h.size;
@@ -77,29 +77,29 @@ module _ (t : Table) (routers later : List ℕ) (firsts noted : List (Option ℕ
           | inl old ↦ kept a c (h.one a c old here input within there)
           | inr new ↦
               (let same : choice_of t a c ≡ y = ap (λ (n : ℕ). choice_of t n c) new.0 ∙ ap (choice_of t x) new.1 in
-              (x, ap (first_of (slice_set firsts y (Some x))) same ∙ get_or-set_same firsts y (Some x) None low, ap (slice_index routers) new.0))
+              (x, ap (first_choosing (slice_set firsts y (Some x))) same ∙ get_or-set_same firsts y (Some x) None low, ap (slice_index routers) new.0))
         ];
       }))
     where
-      firsts_are : (z v : ℕ) → first_of (slice_set firsts y (Some x)) z ≡ Some v → MayChoose t v z
+      firsts_are : (z v : ℕ) → first_choosing (slice_set firsts y (Some x)) z ≡ Some v → MayChoose t v z
       firsts_are z v e = elim (cases_eq z y) [
         | inl same ↦
-            (let is : Some x ≡ Some v = sym (get_or-set_same firsts y (Some x) None low) ∙ (ap (first_of (slice_set firsts y (Some x))) (sym same) ∙ e) in
+            (let is : Some x ≡ Some v = sym (get_or-set_same firsts y (Some x) None low) ∙ (ap (first_choosing (slice_set firsts y (Some x))) (sym same) ∙ e) in
             let here : x ≡ v = cc in
             let inside : y < channels_of t = let many = h.many in omega (arith, low, many) in
             subst (λ (w : ℕ). MayChoose t v w) (sym same) (subst (λ (w : ℕ). MayChoose t w y) here (may inside)))
         | inr other ↦ h.first z v (sym (get_or-set_other firsts y z (Some x) None other) ∙ e)
       ]
 
-      kept : (a c : ℕ) → ((v : ℕ) × (first_of firsts (choice_of t a c) ≡ Some v) × (slice_index routers a ≡ slice_index routers v))
-          → (v : ℕ) × (first_of (slice_set firsts y (Some x)) (choice_of t a c) ≡ Some v) × (slice_index routers a ≡ slice_index routers v)
+      kept : (a c : ℕ) → ((v : ℕ) × (first_choosing firsts (choice_of t a c) ≡ Some v) × (slice_index routers a ≡ slice_index routers v))
+          → (v : ℕ) × (first_choosing (slice_set firsts y (Some x)) (choice_of t a c) ≡ Some v) × (slice_index routers a ≡ slice_index routers v)
       kept a c k = elim (cases_eq (choice_of t a c) y) [
-        | inl same ↦ absurd (let clash : Some k.0 ≡ None = sym k.1 ∙ (ap (first_of firsts) same ∙ none) in cc)
+        | inl same ↦ absurd (let clash : Some k.0 ≡ None = sym k.1 ∙ (ap (first_choosing firsts) same ∙ none) in cc)
         | inr other ↦ (k.0, get_or-set_other firsts y (choice_of t a c) (Some x) None other ∙ k.1, k.2)
       ]
 
   -- one router with the first
-  module _ (v : ℕ) (is : first_of firsts y ≡ Some v) (here : x < channels_of t) (n : AreRenumbered routers later (slice_index routers x) (slice_index routers v)) where
+  module _ (v : ℕ) (is : first_choosing firsts y ≡ Some v) (here : x < channels_of t) (n : AreRenumbered routers later (slice_index routers x) (slice_index routers v)) where
     abbrev from : ℕ
     from = slice_index routers x
 
@@ -109,7 +109,7 @@ module _ (t : Table) (routers later : List ℕ) (firsts noted : List (Option ℕ
     there : v < channels_of t
     there = (h.first y v is).here
 
-    each : (z : ℕ) → z < channels_of t → slice_index later z ≡ renumbered from to (slice_index routers z)
+    each : (z : ℕ) → z < channels_of t → slice_index later z ≡ router_renumbered from to (slice_index routers z)
     each z low = n.each z (let size = h.size in omega (arith, low, size))
 
     link : HaveOneRouter t x v
@@ -117,7 +117,7 @@ module _ (t : Table) (routers later : List ℕ) (firsts noted : List (Option ℕ
 
     apart_later : (a b : ℕ) → a < channels_of t → b < channels_of t → slice_index later a ≡ slice_index later b → HaveOneRouter t a b
     apart_later a b la lb e =
-        (let f : renumbered from to (slice_index routers a) ≡ renumbered from to (slice_index routers b) = sym (each a la) ∙ (e ∙ each b lb) in
+        (let f : router_renumbered from to (slice_index routers a) ≡ router_renumbered from to (slice_index routers b) = sym (each a la) ∙ (e ∙ each b lb) in
         elim (split from to (slice_index routers a)) [
           | inl p ↦ elim (split from to (slice_index routers b)) [
             | inl q ↦ h.apart a b la lb (p.0 ∙ sym q.0)
@@ -135,16 +135,16 @@ module _ (t : Table) (routers later : List ℕ) (firsts noted : List (Option ℕ
       | inr p ↦ subst (λ (k : ℕ). k < channels_of t) (sym (each z low ∙ p)) (h.low z low)
     ]
 
-    to_stays : renumbered from to to ≡ to
+    to_stays : router_renumbered from to to ≡ to
     to_stays = elim (split from to to) [ inl p ↦ p.1 | inr p ↦ p ]
 
-    from_goes : renumbered from to from ≡ to
+    from_goes : router_renumbered from to from ≡ to
     from_goes = elim (split from to from) [ inl p ↦ p.1 | inr p ↦ from_same p ]
       where
-        from_same : renumbered from to from ≡ from → renumbered from to from ≡ to
+        from_same : router_renumbered from to from ≡ from → router_renumbered from to from ≡ to
         from_same p = same_by (from == from) refl
           where
-            same_by : (b : Bool) → (from == from) ≡ b → renumbered from to from ≡ to
+            same_by : (b : Bool) → (from == from) ≡ b → router_renumbered from to from ≡ to
             same_by true e = ap (λ (c : Bool). cond c to from) e
             same_by false e = absurd (eqb-false from from e refl)
 
@@ -158,10 +158,10 @@ module _ (t : Table) (routers later : List ℕ) (firsts noted : List (Option ℕ
       one = λ a c at low input within inside. elim (before_more x column a c at) [
         | inl old ↦
             (let k = h.one a c old low input within inside in
-            (k.0, k.1, each a low ∙ (ap (renumbered from to) k.2 ∙ sym (each k.0 (h.first (choice_of t a c) k.0 k.1).here))))
+            (k.0, k.1, each a low ∙ (ap (router_renumbered from to) k.2 ∙ sym (each k.0 (h.first (choice_of t a c) k.0 k.1).here))))
         | inr new ↦
             (let same : choice_of t a c ≡ y = ap (λ (m : ℕ). choice_of t m c) new.0 ∙ ap (choice_of t x) new.1 in
-            (v, ap (first_of firsts) same ∙ is, ap (slice_index later) new.0 ∙ (each x here ∙ (from_goes ∙ (sym to_stays ∙ sym (each v there))))))
+            (v, ap (first_choosing firsts) same ∙ is, ap (slice_index later) new.0 ∙ (each x here ∙ (from_goes ∙ (sym to_stays ∙ sym (each v there))))))
       ];
     })
 
@@ -177,7 +177,7 @@ module _ (t : Table) (routers later : List ℕ) (firsts noted : List (Option ℕ
 
 -- no cell yet
 pub noted_none : (t : Table) (routers : List ℕ) (firsts : List (Option ℕ)) → length routers ≡ channels_of t → length firsts ≡ channels_of t
-    → ((x : ℕ) → x < channels_of t → slice_index routers x ≡ x) → ((y : ℕ) → first_of firsts y ≡ None) → AreNoted t 0 0 routers firsts
+    → ((x : ℕ) → x < channels_of t → slice_index routers x ≡ x) → ((y : ℕ) → first_choosing firsts y ≡ None) → AreNoted t 0 0 routers firsts
 noted_none t routers firsts size many own none = record {
   size = size;
   many = many;
@@ -233,12 +233,12 @@ noted_receiver t routers firsts x receives h = record {
 
 -- all rows
 module _ (t : Table) (routers : List ℕ) (firsts : List (Option ℕ)) (rows : ℕ) (all : rows ≡ channels_of t) (h : AreNoted t rows 0 routers firsts) where
-  first_is : (x y : ℕ) → MayChoose t x y → (v : ℕ) × (first_of firsts y ≡ Some v) × (slice_index routers x ≡ slice_index routers v)
+  first_is : (x y : ℕ) → MayChoose t x y → (v : ℕ) × (first_choosing firsts y ≡ Some v) × (slice_index routers x ≡ slice_index routers v)
   first_is x y m =
       (let inside : choice_of t x m.column < channels_of t = subst (λ (k : ℕ). k < channels_of t) (sym m.is) m.there in
       let here = m.here in
       let k = h.one x m.column (inl (omega (arith, here, all))) m.here m.input m.within inside in
-      (k.0, ap (first_of firsts) (sym m.is) ∙ k.1, k.2))
+      (k.0, ap (first_choosing firsts) (sym m.is) ∙ k.1, k.2))
 
   meet_one : (x z y : ℕ) → MayChoose t x y → MayChoose t z y → slice_index routers x ≡ slice_index routers z
   meet_one x z y a b =

@@ -10,22 +10,22 @@ use Rattle.network_rounds.specs.declared.choices.Part.{Part}
 use Rattle.network_rounds.specs.declared.choices.Part.TheVariants as part
 
 -- the choice that a channel has in a part, if any; behind each channel stands the router of a number
-abbrev pub choice_at : List Kind → List ℕ → Part → ℕ → Option Move
-choice_at kinds routers part.Senders x =
+abbrev pub choice_in_part : List Kind → List ℕ → Part → ℕ → Option Move
+choice_in_part kinds routers part.Senders x =
     if is_sender (slice_get kinds x) then Some (More x) else None
-choice_at kinds routers part.Takes x =
+choice_in_part kinds routers part.Takes x =
     if is_receiver (slice_get kinds x) then None else Some (Take x)
-choice_at kinds routers (part.Puts router) x =
+choice_in_part kinds routers (part.Puts router) x =
     if is_receiver (slice_get kinds x) then None
     else (if slice_index routers x == router then Some (Put x) else None)
-choice_at kinds routers part.Receivers x =
+choice_in_part kinds routers part.Receivers x =
     if is_receiver (slice_get kinds x) then Some (Accept x) else None
-choice_at kinds routers part.Credits x = Some (Credit x)
+choice_in_part kinds routers part.Credits x = Some (Credit x)
 
 -- the choices of a part, by channels
 abbrev pub group_of : List Kind → List ℕ → Part → List Move
 group_of kinds routers of =
-    flat_map (λ x. option_to_list (choice_at kinds routers of x)) (range_with_len 0 (length kinds))
+    flat_map (λ x. option_to_list (choice_in_part kinds routers of x)) (range_with_len 0 (length kinds))
 
 -- the parts of a round, with so many routers: senders go on, routers take, one router after the other
 -- puts, receivers take, and credits come back

@@ -6,13 +6,13 @@ use Rattle.network_machine.specs.declared.moves.Move.TheVariants.{Send, More, Ta
 use Rattle.network_machine.specs.declared.moves.Move.TheVariants.{Credit}
 
 -- the channel that a flit leaves, into the latch behind it or to its receiver
-abbrev pub left_by : Move → Option ℕ
-left_by (Send p) = None
-left_by (More x) = None
-left_by (Take x) = Some x
-left_by (Put x) = None
-left_by (Accept x) = Some x
-left_by (Credit x) = None
+abbrev pub channel_left : Move → Option ℕ
+channel_left (Send p) = None
+channel_left (More x) = None
+channel_left (Take x) = Some x
+channel_left (Put x) = None
+channel_left (Accept x) = Some x
+channel_left (Credit x) = None
 
 -- the channel into which a sender begins a packet
 abbrev pub begun_by : Move → Option ℕ
@@ -29,8 +29,8 @@ one_at x None = 0
 one_at x (Some y) = if x == y then 1 else 0
 
 -- how many flits leave a channel by some moves
-abbrev pub flits_left : ℕ → List Move → ℕ
-flits_left x moves = sum_by (λ move. one_at x (left_by move)) moves
+abbrev pub flits_gone : ℕ → List Move → ℕ
+flits_gone x moves = sum_by (λ move. one_at x (channel_left move)) moves
 
 -- how many packets a sender begins by some moves
 abbrev pub packets_begun : ℕ → List Move → ℕ

@@ -4,7 +4,7 @@ use Rattle.std.specs.Prelude.{ℕ, ◌%◌, List, ◌++◌, Vec, length, take, d
 use Rattle.std.specs.List.{flat_map}
 use Rattle.network_machine.specs.declared.moves.Move.{Move}
 use Rattle.network_machine.specs.Machine.{NetworkMachineSpec}
-use Rattle.network_rounds.specs.Attempts.{AreEnabled, Attempts}
+use Rattle.network_rounds.specs.Attempts.{AreEnabledMoves, AttemptsMoves}
 
 -- some moves, from the one whose turn it is (a rotating arbiter: Dally and Towles, Principles and
 -- Practices of Interconnection Networks, 2004, chapter 18)
@@ -18,5 +18,5 @@ turned_groups turn groups = flat_map (λ group. turned turn group.items) groups
 -- a round over some choices: those that are enabled when it begins are attempted, in their order
 pub record IsRound (old new : NetworkMachineSpec) (choices made : List Move) : Type 0 where
   pub enabled : List Move
-  pub begins : AreEnabled old choices enabled
-  pub attempts : Attempts old new enabled made
+  pub begins : AreEnabledMoves old choices enabled
+  pub attempts : AttemptsMoves old new enabled made

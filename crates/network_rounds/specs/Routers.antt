@@ -34,27 +34,27 @@ pub record AreRouters (t : Table) (routers : List ℕ) : Type 0 where
       → slice_index routers x ≡ slice_index routers z → HaveOneRouter t x z
 
 -- the first channel behind which a channel may be chosen, of those that are noted
-abbrev pub first_of : List (Option ℕ) → ℕ → Option ℕ
-first_of firsts y = slice_index_or firsts y None
+abbrev pub first_choosing : List (Option ℕ) → ℕ → Option ℕ
+first_choosing firsts y = slice_index_or firsts y None
 
 -- a number that stands for two
-abbrev pub renumbered : ℕ → ℕ → ℕ → ℕ
-renumbered from to number = if number == from then to else number
+abbrev pub router_renumbered : ℕ → ℕ → ℕ → ℕ
+router_renumbered from to number = if number == from then to else number
 
 -- another number for all channels of one number
 pub record AreRenumbered (routers later : List ℕ) (from to : ℕ) : Type 0 where
   pub size : length later ≡ length routers
   pub each : (z : ℕ) → z < length routers
-      → slice_index later z ≡ renumbered from to (slice_index routers z)
+      → slice_index later z ≡ router_renumbered from to (slice_index routers z)
 
 -- what is noted where channel y may be chosen behind channel x: nothing, where there is no such
 -- channel; that x is the first; or that x has one router with the first
 abbrev pub NotesChoice : List ℕ → List (Option ℕ) → ℕ → ℕ → List ℕ → List (Option ℕ) → Type 0
 NotesChoice routers firsts x y later noted =
     ((length firsts ≤ y) × (later ≡ routers) × (noted ≡ firsts))
-    ⊎ (((y < length firsts) × (first_of firsts y ≡ None)
+    ⊎ (((y < length firsts) × (first_choosing firsts y ≡ None)
     × (later ≡ routers) × (noted ≡ slice_set firsts y (Some x)))
-    ⊎ ((first : ℕ) × (first_of firsts y ≡ Some first) × (noted ≡ firsts)
+    ⊎ ((first : ℕ) × (first_choosing firsts y ≡ Some first) × (noted ≡ firsts)
     × AreRenumbered routers later (slice_index routers x) (slice_index routers first)))
 
 -- a cell of the choices that comes before that of a row and a column, row by row
@@ -67,10 +67,10 @@ pub record AreNoted (t : Table) (row column : ℕ) (routers : List ℕ) (firsts 
     pub size : length routers ≡ channels_of t
     pub many : length firsts ≡ channels_of t
     pub low : (x : ℕ) → x < channels_of t → slice_index routers x < channels_of t
-    pub first : (y v : ℕ) → first_of firsts y ≡ Some v → MayChoose t v y
+    pub first : (y v : ℕ) → first_choosing firsts y ≡ Some v → MayChoose t v y
     pub apart : (x z : ℕ) → x < channels_of t → z < channels_of t
         → slice_index routers x ≡ slice_index routers z → HaveOneRouter t x z
     pub one : (a c : ℕ) → IsCellBefore row column a c → a < channels_of t
         → is_receiver (kind_of t a) ≡ false → c < columns_of t → choice_of t a c < channels_of t
-        → (v : ℕ) × (first_of firsts (choice_of t a c) ≡ Some v)
+        → (v : ℕ) × (first_choosing firsts (choice_of t a c) ≡ Some v)
         × (slice_index routers a ≡ slice_index routers v)

@@ -6,13 +6,13 @@ use Rattle.network_machine.specs.declared.moves.Move.{Move}
 use Rattle.network_machine.specs.Machine.{NetworkMachineSpec, SameTables}
 use Rattle.network_machine.specs.Runs.{RunsTo}
 use Rattle.network_rounds.specs.declared.senders.Timed.{Timed}
-use Rattle.network_rounds.specs.Counts.{flits_left, packets_begun}
+use Rattle.network_rounds.specs.Counts.{flits_gone, packets_begun}
 use Rattle.network_rounds.specs.Rounds.{turned_groups, IsRound}
 use Rattle.network_rounds.specs.Senders.{queue_at, dues_of}
 
 -- how many flits leave a channel in some rounds
-abbrev pub flits_in : ℕ → List (List Move) → ℕ
-flits_in x rounds = sum_by (λ made. flits_left x made) rounds
+abbrev pub flits_in_channels : ℕ → List (List Move) → ℕ
+flits_in_channels x rounds = sum_by (λ made. flits_gone x made) rounds
 
 -- how many packets a sender begins in some rounds
 abbrev pub begun_in : ℕ → List (List Move) → ℕ
@@ -34,9 +34,9 @@ AreRounds queues groups old new (made ∷ before) =
     × IsRound between new (choices_in queues groups (λ x. begun_in x before) (length before)) made
 
 -- their moves, the first one first
-abbrev pub moves_of : List (List Move) → List Move
-moves_of [] = []
-moves_of (made ∷ before) = moves_of before ++ made
+abbrev pub moves_of_all : List (List Move) → List Move
+moves_of_all [] = []
+moves_of_all (made ∷ before) = moves_of_all before ++ made
 
 -- so many rounds lead from one machine to another: they are a run, in which each sender begins and
 -- from each channel goes so much
@@ -45,10 +45,10 @@ pub record IsSimulation {A B : Type 0} (queues : List (Vec Timed A)) (groups : L
   pub rounds : List (List Move)
   pub number : length rounds ≡ count
   pub are : AreRounds queues groups old new rounds
-  pub runs : RunsTo old new (moves_of rounds)
+  pub runs : RunsTo old new (moves_of_all rounds)
   pub same : SameTables old new
   pub senders : (x : ℕ) → x < length queues → slice_index begun x ≡ begun_in x rounds
-  pub channels : (x : ℕ) → x < length flits → slice_index flits x ≡ flits_in x rounds
+  pub channels : (x : ℕ) → x < length flits → slice_index flits x ≡ flits_in_channels x rounds
 
 -- whether a packet, if any, is to come behind a round
 abbrev pub is_behind : ℕ → Option Timed → Bool
@@ -66,7 +66,7 @@ EndsStill [] = ⊥
 EndsStill (made ∷ before) = made ≡ []
 
 -- rounds that go on until one makes no move and no packet is to come, or until they are so many
-pub record IsWhole {A B : Type 0} (queues : List (Vec Timed A)) (groups : List (Vec Move B))
+pub record IsWholeRun {A B : Type 0} (queues : List (Vec Timed A)) (groups : List (Vec Move B))
     (old new : NetworkMachineSpec) (begun flits : List ℕ) (most count : ℕ) : Type 0 where
   pub simulation : IsSimulation queues groups old new begun flits count
   pub few : count ≤ most

@@ -2,7 +2,7 @@
 
 ghost use Rattle.std.specs.Prelude.{◌≡◌, ◌<◌, ◌≤◌, ◌++◌, length, map, option_to_list, IfOk, OnOk};
 ghost use Rattle.std.specs.Prelude.{if◌then◌else◌, Some, None};
-ghost use Rattle.network_rounds.specs.Choices.{choice_at, group_of, parts_of, groups_of};
+ghost use Rattle.network_rounds.specs.Choices.{choice_in_part, group_of, parts_of, groups_of};
 
 use network_judge::Kind;
 use network_judge::walk::{is_receiver, is_sender, kind_at};
@@ -35,7 +35,7 @@ fn choice_if(is_there: bool, choice: Move) -> Option<Move>
 /// channel.
 fn choice_at(kinds: &[Kind], routers: &[usize], part: Part, x: usize) -> Option<Move>
     requires { x < length routers.now }
-    ensures { result ≡ choice_at kinds.now routers.now part x }
+    ensures { result ≡ choice_in_part kinds.now routers.now part x }
 {
     let kind = kind_at(kinds, x);
     match part {

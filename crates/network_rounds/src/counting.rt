@@ -1,13 +1,13 @@
 //! What the moves of a round come to, by channels. Counts are exact up to 2^64 - 1, and stay there.
 
 ghost use Rattle.std.specs.Prelude.{◌≡◌, ◌≢◌, ◌+◌, ◌<◌, ◌^◌, ℕ, length, slice_index};
-ghost use Rattle.network_rounds.specs.Counts.{left_by, begun_by, one_at, flits_left, packets_begun};
+ghost use Rattle.network_rounds.specs.Counts.{channel_left, begun_by, one_at, flits_gone, packets_begun};
 
 use network_machine::Move;
 
 /// The channel that a flit leaves by a move.
 fn left_by(of: Move) -> Option<usize>
-    ensures { result ≡ left_by of }
+    ensures { result ≡ channel_left of }
 {
     match of {
         Move::Send(_) => None,
@@ -59,8 +59,8 @@ fn count_one(counts: &mut [u64], at: Option<usize>)
 /// Adds to the count of each channel how many flits leave it by some moves.
 pub fn count_flits(flits: &mut [u64], moves: &[Move])
     ensures { (x : ℕ) → x < length flits.old
-        → slice_index flits.old x + flits_left x moves.now < 2 ^ 64
-        → slice_index flits.new x ≡ slice_index flits.old x + flits_left x moves.now }
+        → slice_index flits.old x + flits_gone x moves.now < 2 ^ 64
+        → slice_index flits.new x ≡ slice_index flits.old x + flits_gone x moves.now }
 {
     for k in 0..moves.len() {
         count_one(flits, left_by(moves[k]));

@@ -1,17 +1,27 @@
 //! Clocked rounds of a network that is written down: each choice that is enabled when a round begins
-//! is attempted once. No round takes memory.
+//! is attempted once, and no round takes memory. The text of the packets that are sent, each from some
+//! round on: what its lines spell, or where and why it is refused.
 #![tactic(auto)]
 
 mod attempting;
 pub mod choices;
 pub mod counting;
+pub mod joined;
 mod picking;
+pub mod reading;
+pub mod reason;
 pub mod round;
 pub mod routers;
 pub mod senders;
+pub mod sentence;
 pub mod simulating;
+mod spelling;
 
 pub use choices::{Part, groups_of};
 pub use counting::{count_flits, count_packets};
+pub use joined::check_joined;
+pub use reading::{Traffic, read_traffic};
+pub use reason::TrafficReason;
 pub use round::clocked_round;
 pub use senders::{Timed, due_packets, queues_of};
+pub use sentence::TrafficSentence;

@@ -4,7 +4,7 @@ ghost use Rattle.std.specs.Prelude.{◌≡◌, ◌+◌, ◌<◌, ℕ, false, len
 ghost use Rattle.network_judge.specs.Table.{table_of, columns_of, is_receiver, IsFull};
 ghost use Rattle.network_judge.specs.Table.{kind_of};
 ghost use Rattle.network_rounds.specs.Routers.{AreRouters, AreNoted, AreRenumbered, NotesChoice};
-ghost use Rattle.network_rounds.specs.Routers.{first_of};
+ghost use Rattle.network_rounds.specs.Routers.{first_choosing};
 
 use network_judge::columns::ends_of;
 use network_judge::walk::{cell, is_receiver, kind_at};
@@ -26,7 +26,7 @@ fn renumber(routers: &mut [usize], from: usize, to: usize)
 /// one router.
 fn note_choice(routers: &mut [usize], firsts: &mut [Option<usize>], x: usize, y: usize)
     requires x { x < length routers.old }
-    requires first { (z first : ℕ) → first_of firsts.old z ≡ Some first → first < length routers.old }
+    requires first { (z first : ℕ) → first_choosing firsts.old z ≡ Some first → first < length routers.old }
     ensures { NotesChoice routers.old firsts.old x y routers.new firsts.new }
 {
     if y >= firsts.len() {
@@ -110,7 +110,7 @@ fn no_firsts<A: Allocator + Copy>(
     count: usize,
 ) -> Result<Vec<Option<usize>, A>, AllocError>
     ensures size { IfOk result (λ firsts. length firsts.items ≡ count) }
-    ensures none { IfOk result (λ firsts. (y : ℕ) → first_of firsts.items y ≡ None) }
+    ensures none { IfOk result (λ firsts. (y : ℕ) → first_choosing firsts.items y ≡ None) }
 {
     let mut firsts = Vec::with_capacity(alloc, count)?;
     for _noted in 0..count {

@@ -5,10 +5,10 @@ ghost use Rattle.std.specs.Prelude.{slice_get, slice_index};
 ghost use Rattle.std.specs.List.{sum_by};
 ghost use Rattle.network_machine.specs.Machine.{SameTables};
 ghost use Rattle.network_machine.specs.Runs.{RunsTo};
-ghost use Rattle.network_rounds.specs.Counts.{flits_left, packets_begun};
+ghost use Rattle.network_rounds.specs.Counts.{flits_gone, packets_begun};
 ghost use Rattle.network_rounds.specs.Rounds.{IsRound};
 ghost use Rattle.network_rounds.specs.Senders.{queue_at};
-ghost use Rattle.network_rounds.specs.Simulations.{choices_in, IsWhole, is_behind, NoneComes};
+ghost use Rattle.network_rounds.specs.Simulations.{choices_in, IsWholeRun, is_behind, NoneComes};
 
 use crate::counting::{count_flits, count_packets};
 use crate::round::clocked_round;
@@ -46,8 +46,8 @@ fn simulate_round<A: Allocator, B: Allocator, C: Allocator>(
         → slice_index begun.new x
         ≡ slice_index begun.old x + packets_begun x (take result made.new) }
     ensures flits { (x : ℕ) → x < length flits.old
-        → slice_index flits.old x + flits_left x (take result made.new) < 2 ^ 64
-        → slice_index flits.new x ≡ slice_index flits.old x + flits_left x (take result made.new) }
+        → slice_index flits.old x + flits_gone x (take result made.new) < 2 ^ 64
+        → slice_index flits.new x ≡ slice_index flits.old x + flits_gone x (take result made.new) }
 {
     let due = due_packets(queues, begun, before + 1, sends);
     let count = clocked_round(machine, &sends[..due], groups, before, enabled, made);
@@ -103,7 +103,7 @@ pub fn simulate<A: Allocator, B: Allocator, C: Allocator>(
     requires made { length queues.now + sum_by (λ group. length group.items) groups.now
         ≤ length made.old }
     requires room { length made.old < 2 ^ 31 }
-    ensures { IsWhole queues.now groups.now machine.old machine.new begun.new flits.new most result }
+    ensures { IsWholeRun queues.now groups.now machine.old machine.new begun.new flits.new most result }
 {
     let mut rounds = 0;
     while rounds < most {

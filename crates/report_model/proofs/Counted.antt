@@ -10,10 +10,10 @@ use Rattle.std.proofs.lemmas.List.{length-take}
 use Rattle.std.proofs.lemmas.List.Sums.{count_by-le-length, count_by_more_no, count_by_more_yes}
 use Rattle.std.proofs.lemmas.Option.{get_or_from_slice_get, slice_get-map, slice_get_within}
 use Rattle.report_model.specs.declared.row.ReportRow.{ReportRow}
-use Rattle.report_model.specs.Indexes.{made_before, name_at, source_at}
+use Rattle.report_model.specs.Indexes.{made_before, name_at, source_of_value}
 
 -- the processor of an operation
-source_of : (made : List ReportRow) (j : ℕ) (row : ReportRow) → slice_get made j ≡ Some row → source_at made j ≡ row.source
+source_of : (made : List ReportRow) (j : ℕ) (row : ReportRow) → slice_get made j ≡ Some row → source_of_value made j ≡ row.source
 source_of made j row there =
     get_or_from_slice_get (map (λ (x : ReportRow). x.source) made) j row.source 0
     (slice_get-map (λ (x : ReportRow). x.source) made j ∙ ap (λ o. option_map (λ (x : ReportRow). x.source) o) there)

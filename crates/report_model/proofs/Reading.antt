@@ -14,14 +14,14 @@ use Rattle.report_lines.proofs.Joined.{line_some}
 use Rattle.report_lines.proofs.LinesFound.{read_of}
 use Rattle.report_check.specs.Good.{AllStand}
 use Rattle.report_check.specs.Seen.{Seen, seen_after}
-use Rattle.report_model.specs.Run.{RunSpec, nothing_run, run_after, run_of}
+use Rattle.report_model.specs.Run.{RunSpec, nothing_run, run_after, report_run_of}
 
 -- the lines that were read fit, and the rest is left
 pub record ReadTo (text rest : List ℕ) (r : RunSpec) : Type 0 where
   pub lines : List ReportLine
   pub printed : text ≡ text_of lines ++ rest
   pub fits : AllByRecursion FitsLine lines
-  pub run : r ≡ run_of lines
+  pub run : r ≡ report_run_of lines
 
 pub read_start : (text : List ℕ) (r : RunSpec) → r ≡ nothing_run → ReadTo text text r
 read_start text r none = record { lines = []; printed = refl; fits = tt; run = none }
@@ -83,9 +83,9 @@ one_reading (l ∷ lines) (m ∷ read) rest fits all none is =
     ap (λ (x : ReportLine). x ∷ lines) same ∙ ap (λ (x : List ReportLine). m ∷ x) (one_reading lines read rest fits.1 all.1 none left)
 
 pub all_read : (text rest : List ℕ) (r : RunSpec) → ReadTo text rest r → report_line_at rest ≡ None → (lines : List ReportLine)
-    → AllByRecursion FitsLine lines → text ≡ text_of lines → r ≡ run_of lines
+    → AllByRecursion FitsLine lines → text ≡ text_of lines → r ≡ report_run_of lines
 all_read text rest r p none lines fits is =
-    p.run ∙ ap run_of (sym (one_reading lines p.lines rest fits p.fits none (sym is ∙ p.printed)))
+    p.run ∙ ap report_run_of (sym (one_reading lines p.lines rest fits p.fits none (sym is ∙ p.printed)))
 
 -- lines that may stand fit
 pub standing_fit : (s : Seen) (lines : List ReportLine) → AllStand s lines → AllByRecursion FitsLine lines

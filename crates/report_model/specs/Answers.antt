@@ -10,7 +10,7 @@ use Rattle.report_model.specs.declared.answer.NoReportAnswer.{NoReportAnswer}
 use Rattle.report_model.specs.declared.answer.NoReportAnswer.TheVariants.{Bad, NoOrder, Unjudged}
 use Rattle.report_model.specs.declared.answer.NoReportAnswer.TheVariants.{Memory}
 use Rattle.report_model.specs.Entries.{entries_of}
-use Rattle.report_model.specs.Run.{RunSpec, run_of}
+use Rattle.report_model.specs.Run.{RunSpec, report_run_of}
 
 -- whether there are entries, but no order lines
 abbrev pub lacks_order : RunSpec → Bool
@@ -37,14 +37,14 @@ pub record IsAnswerToReport {A : Type 0} (text : List ℕ) (options : Options) (
     pub lines : List ReportLine
     pub printed : text ≡ text_of lines
     pub good : AreGood lines
-    pub is : IsAnswerToRun (run_of lines) options a
+    pub is : IsAnswerToRun (report_run_of lines) options a
 
 -- it is one, and there is no answer on what its lines say
 pub record HasNoRunAnswer (text : List ℕ) (why : NoReportAnswer) : Type 0 where
   pub lines : List ReportLine
   pub printed : text ≡ text_of lines
   pub good : AreGood lines
-  pub is : IsNoAnswerToRun (run_of lines) why
+  pub is : IsNoAnswerToRun (report_run_of lines) why
 
 -- why there is no answer: the report is bad, or there is none on what its lines say, or memory was
 -- refused

@@ -19,14 +19,14 @@ made_entry row =
 
 -- it takes its place on its word: a load reads what the writes before it left, and every other
 -- operation writes next
-abbrev pub placed : ReportRow → Named → LogEntry
-placed row name =
+abbrev pub placed_entries : ReportRow → Named → LogEntry
+placed_entries row name =
     if is_load (kind_of_op row.operation.op) then entry.Served name else entry.Wrote name
 
 -- and replies
 abbrev pub service_entries : ReportRow → Named → List LineEntry
 service_entries row name =
-    (record { line = row.line; entry = placed row name })
+    (record { line = row.line; entry = placed_entries row name })
     ∷ (record { line = row.line; entry = entry.Replied name row.reply }) ∷ []
 
 -- the services of operations, of which these are all in the order of their issues

@@ -22,8 +22,8 @@ abbrev pub entry_ordered : List ServedLine → OrderLine → Option ServedLine
 entry_ordered entries o = slice_get entries (place_below (map entry_key entries) 4194304 (order_key o))
 
 -- the operation of an entry and its order line
-abbrev pub row_of : ServedLine → OrderLine → ReportRow
-row_of s o = record {
+abbrev pub report_row_of : ServedLine → OrderLine → ReportRow
+report_row_of s o = record {
   line = s.line;
   source = s.entry.source;
   operation = line_operation s.entry;
@@ -33,7 +33,7 @@ row_of s o = record {
 
 -- the operation of an order line
 abbrev pub row_ordered : List ServedLine → OrderLine → Option ReportRow
-row_ordered entries o = option_map (λ s. row_of s o) (entry_ordered entries o)
+row_ordered entries o = option_map (λ s. report_row_of s o) (entry_ordered entries o)
 
 -- the operations by their services, in the order of the order lines
 abbrev pub rows_of : RunSpec → List ReportRow
@@ -48,5 +48,5 @@ abbrev pub made_of : List ReportRow → List ReportRow
 made_of rows = filter_map (row_issued rows) (range_with_len 0 196609)
 
 -- the numbers of their issues
-abbrev pub issues_of : List ReportRow → List ℕ
-issues_of rows = map (λ row. row.issued) rows
+abbrev pub issues_of_rows : List ReportRow → List ℕ
+issues_of_rows rows = map (λ row. row.issued) rows

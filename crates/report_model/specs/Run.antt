@@ -41,8 +41,8 @@ run_after r (Order o) = record r { count = r.count + 1; orders = r.orders ++ o �
 run_after r (End complete) = record r { count = r.count + 1 }
 
 -- what the lines of a report say
-abbrev pub run_of : List ReportLine → RunSpec
-run_of lines = fold run_after nothing_run lines
+abbrev pub report_run_of : List ReportLine → RunSpec
+report_run_of lines = fold run_after nothing_run lines
 
 -- the same of what the program keeps
 abbrev pub run_seen : {A : Type 0} → RunLines A → RunSpec

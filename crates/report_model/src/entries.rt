@@ -2,7 +2,7 @@
 
 ghost use Rattle.std.specs.Prelude.{◌≡◌, ◌++◌, ◌≤◌, IfOk, OnOk, length, map};
 ghost use Rattle.std.specs.List.{flat_map};
-ghost use Rattle.report_model.specs.Entries.{entries_of, made_entry, placed, service_entries, services};
+ghost use Rattle.report_model.specs.Entries.{entries_of, made_entry, placed_entries, service_entries, services};
 ghost use Rattle.report_model.specs.Run.{run_seen};
 
 use crate::indexes::{name_issued, names_of};
@@ -27,7 +27,7 @@ fn made_entry(row: ReportRow) -> LineEntry
 
 /// An operation takes its place on its word.
 fn placed(row: ReportRow, name: Named) -> LogEntry
-    ensures { result ≡ placed row name }
+    ensures { result ≡ placed_entries row name }
 {
     match row.operation.op {
         Op::Load => LogEntry::Served(name),

@@ -6,7 +6,7 @@ ghost use Rattle.std.specs.Ordering.{nat_cmp};
 ghost use Rattle.model_text.specs.Traces.{ArePlaces};
 ghost use Rattle.report_model.specs.declared.row.ReportRow.{ReportRow};
 ghost use Rattle.report_model.specs.Indexes.{name_issued, names_of};
-ghost use Rattle.report_model.specs.Rows.{issues_of};
+ghost use Rattle.report_model.specs.Rows.{issues_of_rows};
 
 use crate::row::{ReportRow, row_at};
 use model_records::Named;
@@ -46,7 +46,7 @@ pub(crate) fn names_of<A: Allocator + Copy>(
 pub(crate) fn name_issued(names: &[Named], issues: &[usize], places: &[usize], n: usize) -> Named
     requires places { ArePlaces issues.now (length places.now) places.now }
     requires events { length places.now ≡ 196609 }
-    ensures { (made : List ReportRow) → names.now ≡ names_of made → issues.now ≡ issues_of made
+    ensures { (made : List ReportRow) → names.now ≡ names_of made → issues.now ≡ issues_of_rows made
         → result ≡ name_issued made n }
 {
     match names.get(place_of(issues, places, n)) {

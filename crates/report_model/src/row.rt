@@ -1,7 +1,7 @@
 //! An operation of a report.
 
 ghost use Rattle.std.specs.Prelude.{◌≡◌, ◌<◌, Some, length, slice_get};
-ghost use Rattle.report_model.specs.Rows.{entry_key, order_key, row_of};
+ghost use Rattle.report_model.specs.Rows.{entry_key, order_key, report_row_of};
 
 use crate::run::ServedLine;
 use packet::{Operation, Reply};
@@ -44,7 +44,7 @@ pub(crate) fn order_key(order: OrderLine) -> usize
 
 /// The operation of an entry and its order line.
 pub(crate) fn row_of(served: ServedLine, order: OrderLine) -> ReportRow
-    ensures { result ≡ row_of served order }
+    ensures { result ≡ report_row_of served order }
 {
     ReportRow {
         line: served.line,

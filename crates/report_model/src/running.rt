@@ -5,7 +5,7 @@ ghost use Rattle.std.specs.List.{AllByRecursion};
 ghost use Rattle.report_lines.specs.Fits.{FitsLine};
 ghost use Rattle.report_lines.specs.Line.{text_of};
 ghost use Rattle.report_lines.specs.declared.line.ReportLine.{ReportLine};
-ghost use Rattle.report_model.specs.Run.{run_of, run_seen};
+ghost use Rattle.report_model.specs.Run.{report_run_of, run_seen};
 
 use crate::run::RunLines;
 use report_lines::read_line;
@@ -19,7 +19,7 @@ pub(crate) fn read_run<A: Allocator + Copy>(
     text: &[u8],
 ) -> Result<RunLines<A>, AllocError>
     ensures { IfOk result (λ run. (lines : List ReportLine) → AllByRecursion FitsLine lines
-        → text.now ≡ text_of lines → run_seen run ≡ run_of lines) }
+        → text.now ≡ text_of lines → run_seen run ≡ report_run_of lines) }
 {
     let mut run = RunLines::none(alloc);
     let mut rest = text;

@@ -19,7 +19,7 @@ use Rattle.machine_core.specs.Rounds.{attempts_between}
 use Rattle.core_machine.specs.Machine.{Core}
 use Rattle.machine_core.specs.Clocked.{clocked_round, turned_at, turned_round}
 use Rattle.schedule_commands.specs.Drawn.{enabled_now}
-use Rattle.schedule_commands.specs.Turned.{AreTurned, HasRoom}
+use Rattle.schedule_commands.specs.Turned.{AreTurned, HasChoiceRoom}
 
 -- no attempt
 pub between_none : (f : ℕ → Choice) (agent from : ℕ) (old : List Step) → old ≡ old ++ attempts_between f agent from from
@@ -149,7 +149,7 @@ tile_length ports first t low =
     omega (arith, low, takes, late, early, credits, turned, plain, of_router, all_takes, all_puts, all_credits)
 
 -- a round has as many attempts at any turn
-pub room_for_all : (s : Shape) (room : List Step) → room ≡ round s → HasRoom s room
+pub room_for_all : (s : Shape) (room : List Step) → room ≡ round s → HasChoiceRoom s room
 room_for_all s room is turn =
     let ports : ℕ = port_count (dims_of s) in
     let first : ℕ = turn % ports in
@@ -186,9 +186,9 @@ pub keep_all : (p : Step → Bool) (attempts : List Step) (i : ℕ) (kept : List
 keep_all p attempts i kept end so_far = so_far ∙ ap (filter p) (take_all i attempts end)
 
 -- room stays where its length does
-pub kept_room : (s t : Shape) (old new : List Step) → s ≡ t → length new ≡ length old → HasRoom s old → HasRoom t new
+pub kept_room : (s t : Shape) (old new : List Step) → s ≡ t → length new ≡ length old → HasChoiceRoom s old → HasChoiceRoom t new
 kept_room s t old new same long room =
-    subst (λ (x : Shape). HasRoom x new) same
+    subst (λ (x : Shape). HasChoiceRoom x new) same
     (λ turn. let within : length (turned_round s turn) ≤ length old = room turn in omega (arith, long, within))
 
 -- what is kept of the attempts at a turn is the clocked round

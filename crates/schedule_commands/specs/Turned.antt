@@ -12,5 +12,5 @@ AreTurned s lists =
     map (λ list. list.items) lists ≡ map (turned_round s) (range_with_len 0 (port_count (dims_of s)))
 
 -- a list has room for the attempts of a round, whatever the turn
-abbrev pub HasRoom : Shape → List Step → Type 0
-HasRoom s room = (turn : ℕ) → length (turned_round s turn) ≤ length room
+abbrev pub HasChoiceRoom : Shape → List Step → Type 0
+HasChoiceRoom s room = (turn : ℕ) → length (turned_round s turn) ≤ length room

@@ -11,7 +11,7 @@ ghost use Rattle.schedule_commands.specs.Line.{text_of};
 ghost use Rattle.schedule_commands.specs.Output.{Took, headed};
 ghost use Rattle.schedule_commands.specs.Rounds.{PutsRounds};
 ghost use Rattle.schedule_commands.specs.Schedules.{PrintsSchedule};
-ghost use Rattle.schedule_commands.specs.Turned.{AreTurned, HasRoom};
+ghost use Rattle.schedule_commands.specs.Turned.{AreTurned, HasChoiceRoom};
 
 use crate::in_rounds::loaded;
 use crate::output::{put_end, put_moves};
@@ -56,7 +56,7 @@ fn put_clocked_rounds<A: Allocator, W: Out>(
     out: &mut W,
 ) -> Result<(), OutputFailed>
     requires turned { AreTurned machine.old.shape turned.now }
-    requires room { HasRoom machine.old.shape room.old }
+    requires room { HasChoiceRoom machine.old.shape room.old }
     ensures { (l : Load) → IsAfter l machine.old []
         → PutsRounds true l rounds machine.new (output (W.taken out.old) (W.failures out.old))
         (output (W.taken out.new) (W.failures out.new)) result }
@@ -80,7 +80,7 @@ fn put_clocked_round<A: Allocator, W: Out>(
 ) -> Result<(), OutputFailed>
     requires few { before + 1 < 2 ^ 64 }
     requires turned { AreTurned machine.old.shape turned.now }
-    requires room { HasRoom machine.old.shape room.old }
+    requires room { HasChoiceRoom machine.old.shape room.old }
     ensures machine { OnOk result
         (machine.new ≡ core_after machine.old (clocked_round machine.old before)) }
     ensures took { Took (text_of (headed (Some (before + 1))

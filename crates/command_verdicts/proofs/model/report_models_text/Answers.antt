@@ -5,7 +5,7 @@ use Rattle.model_answer.specs.declared.answer.NoAnswer.TheVariants.{Refused, Wro
 use Rattle.report_model.specs.declared.answer.NoReportAnswer.TheVariants.{Unjudged}
 use Rattle.report_model.specs.Answers.{HasNoRunAnswer}
 use Rattle.program_fault.specs.Done.{output}
-use Rattle.command_verdicts.specs.Modelled.{IsReportFault, IsReportModelled, RefusesEntry}
+use Rattle.command_verdicts.specs.Modelled.{IsReportRefusal, IsReportModelled, RefusesEntry}
 use Rattle.command_verdicts.specs.declared.model.Modelled.TheVariants.{WithoutFences}
 use Rattle.command_verdicts.proofs.Refusals.{none_taken, refused_by}
 use Rattle.command_verdicts.proofs.model.report_models_text.Goals as goal
@@ -33,7 +33,7 @@ pub returns-in-Err-Unjudged-Refused : goal.returns-in-Err-Unjudged-Refused
 returns-in-Err-Unjudged-Refused g c =
     let none : HasNoRunAnswer c.args.report.now (Unjudged (Refused c.in-Err-Unjudged-Refused.refusal)) =
     rw c.in-Err-Unjudged-Refused.field-0-0-is at (rw c.in-Err-Unjudged-Refused.field-0-is at c.in-Err-Unjudged-Refused.ensures.none) in
-    refused_by (IsReportModelled g.row.A.Denot c.args.report.now c.args.order) (IsReportFault c.args.report.now)
+    refused_by (IsReportModelled g.row.A.Denot c.args.report.now c.args.order) (IsReportRefusal c.args.report.now)
     (output (g.W.Out.taken c.args.out.now) (g.W.Out.failures c.args.out.now)) c.from.result c.from-in-Err-Unjudged-Refused.result
     c.from-in-Err-Unjudged-Refused.ensures (RefusesEntry c.in-Err-Unjudged-Refused.refusal none c.from.ensures)
 

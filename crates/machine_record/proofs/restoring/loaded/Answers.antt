@@ -1,4 +1,4 @@
-use Rattle.record_bytes.specs.Recorded.{recording_of}
+use Rattle.machine_record.specs.Recorded.{recording_of}
 use Rattle.machine_record.proofs.Restores.{loaded_by}
 use Rattle.machine_record.proofs.restoring.loaded.Goals as goal
 

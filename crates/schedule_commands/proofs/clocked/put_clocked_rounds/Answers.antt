@@ -6,7 +6,7 @@ use Rattle.torus.specs.declared.step.Step.{Step}
 use Rattle.core_machine.specs.Machine.{Core}
 use Rattle.machine_core.specs.Clocked.{clocked_round}
 use Rattle.machine_core.proofs.Rounds.{same_shape}
-use Rattle.schedule_commands.specs.Turned.{AreTurned, HasRoom}
+use Rattle.schedule_commands.specs.Turned.{AreTurned, HasChoiceRoom}
 use Rattle.schedule_commands.proofs.InRounds.{as_allowed, enough, none_put, one_more, some_put}
 use Rattle.schedule_commands.proofs.Turned.{kept_room}
 use Rattle.schedule_commands.proofs.clocked.put_clocked_rounds.Goals as goal

@@ -2,7 +2,7 @@ use Rattle.std.proofs.Common.{[], true}
 use Rattle.order_abstract.specs.Load.{Load}
 use Rattle.core_machine.specs.Machine.{IsAfter}
 use Rattle.program_fault.specs.Done.{output}
-use Rattle.schedule_commands.specs.Turned.{AreTurned, HasRoom}
+use Rattle.schedule_commands.specs.Turned.{AreTurned, HasChoiceRoom}
 use Rattle.schedule_commands.proofs.InRounds.{HasPut}
 use Rattle.schedule_commands.proofs.clocked.put_clocked_rounds.Given as goal
 
@@ -13,5 +13,5 @@ invariant-loop-before g l = record {
       → HasPut true load l.before l.machine (output (g.W.Out.taken l.fn.out) (g.W.Out.failures l.fn.out))
       (output (g.W.Out.taken l.out) (g.W.Out.failures l.out));
   turned : AreTurned l.machine.shape l.turned;
-  room : HasRoom l.machine.shape l.room;
+  room : HasChoiceRoom l.machine.shape l.room;
 }

@@ -1,5 +1,5 @@
 use Rattle.std.specs.Prelude.{option_map}
-use Rattle.record_bytes.specs.Recorded.{recording_of}
+use Rattle.machine_record.specs.Recorded.{recording_of}
 use Rattle.machine_record.proofs.Keeps.{keeps_line}
 use Rattle.machine_record.proofs.recorded.RecordedMachine.append.Goals as goal
 

@@ -1,4 +1,4 @@
-use Rattle.record_bytes.specs.Recorded.{recording_of}
+use Rattle.machine_record.specs.Recorded.{recording_of}
 use Rattle.machine_record.proofs.Restores.{restored_ok}
 use Rattle.machine_record.proofs.recorded.RecordedMachine.restore.Goals as goal
 

@@ -1,6 +1,6 @@
 use Rattle.std.proofs.Common.{ap}
 use Rattle.std.specs.Prelude.{option_map}
-use Rattle.record_bytes.specs.Recorded.{recording_of}
+use Rattle.machine_record.specs.Recorded.{recording_of}
 use Rattle.machine_record.proofs.Restores.{is_made_by}
 use Rattle.machine_record.proofs.recorded.RecordedMachine.saved.Goals as goal
 

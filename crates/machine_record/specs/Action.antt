@@ -1,0 +1,64 @@
+-- The numbers of what is done to a machine (this project's own format).
+use Rattle.std.specs.Prelude.{ℕ, ◌+◌, ◌*◌, ◌/◌, ◌%◌, ◌^◌, ◌==◌, ◌&&◌, Bool, nat_lt, List, [], ◌∷◌, Option, Some, None}
+use Rattle.std.specs.Prelude.{if◌then◌else◌, option_map, slice_get}
+use Rattle.torus.specs.declared.step.Step.{Step}
+use Rattle.torus.specs.declared.step.Choice.{Choice}
+use Rattle.torus.specs.declared.step.Choice.TheVariants.{Send, Take, TakeFrom, Put, Credit, CreditOf, Serve, Done, Look}
+use Rattle.machine_record.specs.declared.action.Action.{Action}
+use Rattle.machine_record.specs.declared.action.Action.TheVariants.{Move, Rounds, Line}
+
+-- the number of a choice
+abbrev pub choice_number : Choice → ℕ
+choice_number Send = 0
+choice_number Take = 1
+choice_number (TakeFrom port) = 2
+choice_number (Put port) = 3
+choice_number Credit = 4
+choice_number (CreditOf port) = 5
+choice_number Serve = 6
+choice_number Done = 7
+choice_number Look = 8
+
+-- the input or output of a choice, or 0
+abbrev pub port_of : Choice → ℕ
+port_of (TakeFrom port) = port
+port_of (Put port) = port
+port_of (CreditOf port) = port
+port_of _ = 0
+
+-- the choices by their numbers; those of a router are of an input or output
+abbrev pub choices_coded : ℕ → List Choice
+choices_coded port =
+    Send ∷ Take ∷ TakeFrom port ∷ Put port ∷ Credit ∷ CreditOf port ∷ Serve ∷ Done ∷ Look ∷ []
+
+-- the choice that has a number
+abbrev pub choice_coded : ℕ → ℕ → Option Choice
+choice_coded number port = slice_get (choices_coded port) number
+
+-- the number of an action: its lowest four bits are its kind, that is the choice of an attempt, 9 for
+-- rounds and 10 for a line
+abbrev pub action_number : Action → ℕ
+action_number (Move s) = (s.agent * 4096 + port_of s.choice) * 16 + choice_number s.choice
+action_number (Rounds count) = count * 16 + 9
+action_number (Line number) = number * 16 + 10
+
+-- it has 32 bits
+abbrev pub is_narrow : Action → Bool
+is_narrow (Move s) = nat_lt (port_of s.choice) 4096 && nat_lt s.agent 65536
+is_narrow (Rounds count) = nat_lt count 268435456
+is_narrow (Line number) = nat_lt number 268435456
+
+-- an attempt by an agent
+abbrev pub move_recorded : ℕ → Choice → Action
+move_recorded agent choice = Move (record { agent = agent; choice = choice })
+
+-- the action of a kind
+abbrev pub action_coded : ℕ → ℕ → Option Action
+action_coded kind rest =
+    if kind == 9 then Some (Rounds rest)
+    else (if kind == 10 then Some (Line rest)
+    else option_map (move_recorded (rest / 4096)) (choice_coded kind (rest % 4096)))
+
+-- the action that has a number
+abbrev pub action_of : ℕ → Option Action
+action_of number = action_coded (number % 16) (number / 16)

@@ -1,0 +1,16 @@
+-- A record of what is done to a machine, as contracts see it.
+use Rattle.std.specs.Prelude.{ℕ, List, []}
+use Rattle.machine_record.specs.declared.row.LineRow.{LineRow}
+
+-- the bytes of the two texts that the machine was loaded from, the lines that its processors were
+-- handed since, and the numbers of what was done to it, in order (this project's own format)
+pub record Recording : Type 0 where
+  pub machine : List ℕ
+  pub scripts : List ℕ
+  pub rows : List LineRow
+  pub actions : List ℕ
+
+-- a record of two texts, before anything is done
+abbrev pub fresh_record : List ℕ → List ℕ → Recording
+fresh_record machine scripts =
+    record { machine = machine; scripts = scripts; rows = []; actions = [] }

@@ -1,0 +1,119 @@
+//! What is done to a machine, and the number that a record has of it.
+
+ghost use Rattle.std.specs.Prelude.{◌≡◌, true};
+ghost use Rattle.machine_record.specs.Action.{action_coded, action_number, action_of, choice_coded, choice_number};
+ghost use Rattle.machine_record.specs.Action.{is_narrow, port_of};
+
+use torus::{Choice, Step};
+
+/// What is done to a machine.
+#[derive(Clone, Copy)]
+pub enum Action {
+    /// An attempt, which moves.
+    Move(Step),
+    /// So many rounds.
+    Rounds(u32),
+    /// A processor is handed the line of this number, from 0.
+    Line(u32),
+}
+
+/// The number of a choice, 0 to 8.
+fn choice_number(choice: Choice) -> u32
+    ensures { result ≡ choice_number choice }
+{
+    match choice {
+        Choice::Send => 0,
+        Choice::Take => 1,
+        Choice::TakeFrom(_) => 2,
+        Choice::Put(_) => 3,
+        Choice::Credit => 4,
+        Choice::CreditOf(_) => 5,
+        Choice::Serve => 6,
+        Choice::Done => 7,
+        Choice::Look => 8,
+    }
+}
+
+/// The input or output of a choice, or 0.
+fn port_of(choice: Choice) -> u32
+    ensures { result ≡ port_of choice }
+{
+    match choice {
+        Choice::TakeFrom(input) => input,
+        Choice::Put(input) => input,
+        Choice::CreditOf(output) => output,
+        _ => 0,
+    }
+}
+
+/// The choice that has this number, with an input or output where it needs one.
+fn choice_coded(number: u32, port: u32) -> Option<Choice>
+    ensures { result ≡ choice_coded number port }
+{
+    match number {
+        0 => Some(Choice::Send),
+        1 => Some(Choice::Take),
+        2 => Some(Choice::TakeFrom(port)),
+        3 => Some(Choice::Put(port)),
+        4 => Some(Choice::Credit),
+        5 => Some(Choice::CreditOf(port)),
+        6 => Some(Choice::Serve),
+        7 => Some(Choice::Done),
+        8 => Some(Choice::Look),
+        _ => None,
+    }
+}
+
+/// The action of a kind: 0 to 8 a choice, 9 rounds, 10 a line.
+fn action_coded(kind: u32, rest: u32) -> Option<Action>
+    ensures { result ≡ action_coded kind rest }
+{
+    if kind == 9 {
+        return Some(Action::Rounds(rest));
+    }
+    if kind == 10 {
+        return Some(Action::Line(rest));
+    }
+    match choice_coded(kind, rest % 4096) {
+        Some(choice) => Some(Action::Move(Step {
+            agent: rest / 4096,
+            choice,
+        })),
+        None => None,
+    }
+}
+
+impl Action {
+    /// Whether a record has a number for it: an agent is below 65536, an input or output below 4096, and
+    /// rounds and lines below 2^28.
+    pub fn is_narrow(self) -> bool
+        ensures { result ≡ is_narrow self }
+    {
+        match self {
+            Action::Move(step) => port_of(step.choice) < 4096 && step.agent < 65536,
+            Action::Rounds(count) => count < 268435456,
+            Action::Line(number) => number < 268435456,
+        }
+    }
+
+    /// Its number.
+    pub fn number(self) -> u32
+        requires { is_narrow self ≡ true }
+        ensures { result ≡ action_number self }
+    {
+        match self {
+            Action::Move(step) => {
+                (step.agent * 4096 + port_of(step.choice)) * 16 + choice_number(step.choice)
+            }
+            Action::Rounds(count) => count * 16 + 9,
+            Action::Line(number) => number * 16 + 10,
+        }
+    }
+
+    /// The action that has a number; `None` exactly where none has it.
+    pub fn of_number(number: u32) -> Option<Action>
+        ensures { result ≡ action_of number }
+    {
+        action_coded(number % 16, number / 16)
+    }
+}

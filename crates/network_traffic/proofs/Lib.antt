@@ -1,2 +1,0 @@
-pub mod SevenWords
-pub mod Refused

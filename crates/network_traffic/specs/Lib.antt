@@ -1,4 +1,0 @@
-pub mod Reasons
-pub mod Packets
-pub mod Traffic
-pub mod Joined

@@ -1,4 +1,0 @@
-pub mod Pieces
-pub mod Actions
-pub mod Lines
-pub mod ReadBack

@@ -1,5 +1,0 @@
-use Rattle.record_bytes.proofs.ReadBack.{bytes_read_back}
-use Rattle.record_bytes.proofs.laws.bytes_are_read_back.Goals as goal
-
-pub returns : goal.returns
-returns c = bytes_read_back
