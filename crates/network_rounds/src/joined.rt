@@ -4,11 +4,11 @@ ghost use Rattle.std.specs.Prelude.{◌≡◌, length, OnOk, IfErr};
 ghost use Rattle.network_rounds.specs.Joined.{is_joined, AreJoined, IsFirstApart};
 ghost use Rattle.network_rounds.specs.Traffic.{HasTrafficLines, traffic_spec};
 
+use crate::Timed;
 use crate::reading::Traffic;
 use crate::reason::TrafficReason;
 use lexer::Refusal;
 use network_judge::Join;
-use network_rounds::Timed;
 use std::alloc::Allocator;
 
 /// Whether packets go between the channels of a packet.

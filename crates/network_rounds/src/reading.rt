@@ -6,10 +6,10 @@ ghost use Rattle.lexer.specs.Outcome.{Gives, Makes};
 ghost use Rattle.network_rounds.specs.Traffic.{HasTrafficLines, after_packet_words, traffic_or_why};
 ghost use Rattle.network_rounds.specs.Traffic.{traffic_spec, with_packet, no_packets};
 
+use crate::Timed;
 use crate::reason::TrafficReason;
 use crate::spelling::spelled_timed;
 use lexer::{Refusal, first_words, next_line};
-use network_rounds::Timed;
 use std::alloc::{AllocError, Allocator, Global};
 
 /// The packets of a traffic text, and the number of the line of each.

@@ -4,10 +4,10 @@ ghost use Rattle.std.specs.Prelude.{◌≡◌, ◌∷◌, [], map};
 ghost use Rattle.network_rounds.specs.Packets.{number_of_packet, limited, timed_of_words};
 ghost use Rattle.network_rounds.specs.Packets.{spelled_timed};
 
+use crate::Timed;
 use crate::reason::TrafficReason;
 use lexer::index;
 use network_machine::Packet;
-use network_rounds::Timed;
 
 /// What a round or a length spells that is too large.
 const MOST: u32 = 1 << 31;
