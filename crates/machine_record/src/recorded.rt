@@ -21,8 +21,8 @@ ghost use Rattle.machine_record.specs.Recording.{fresh_record};
 ghost use Rattle.machine_record.specs.Machine.{KeepsRecord, KeepsLine, KeepsStep};
 
 use crate::keeping::{keep, keep_line, keep_rounds};
-use machine_asked::{AskedMachine, Machine};
 use crate::{Action, Record, begun};
+use machine_asked::{AskedMachine, Machine};
 use script::{Line, LineFault};
 use std::alloc::{Allocator, Global};
 use std::marker::Model;

@@ -4,8 +4,8 @@ ghost use Rattle.std.specs.Prelude.{◌≡◌, IfOk};
 ghost use Rattle.machine_record.specs.Replay.{acted, acted_by, machine_moved, rounds_made, row_handed};
 ghost use Rattle.machine_record.specs.Replayed.{ComesInTurn, Replays};
 
-use machine_asked::AskedMachine;
 use crate::{Action, LineRow};
+use machine_asked::AskedMachine;
 use std::alloc::{AllocError, Allocator};
 use torus::{Fault, Step, Stepped};
 
