@@ -56,25 +56,25 @@ Why read why = (why ≡ Memory) ⊎ ((place : ℕ) × (why ≡ At place) × (rea
 err_on : {X : Type 0} (r : Result X Unread) (p q : Result Recording ℕ) → q ≡ p → IfErr r (Why p) → IfErr r (Why q)
 err_on r p q same h = subst (λ (z : Result Recording ℕ). IfErr r (Why z)) (sym same) h
 
-pub returns-then-number_in_bytes-ne-MARK-clause-err : goal.returns-then-number_in_bytes-ne-MARK-clause-err
-returns-then-number_in_bytes-ne-MARK-clause-err g c =
-    inr (0, refl, other_mark c.args.bytes.now c.if-bytes-lt48.false c.number_at.result c.number_at.ensures c.if-number_in_bytes-ne-MARK.true)
+pub returns-then-number_at-ne-MARK-clause-err : goal.returns-then-number_at-ne-MARK-clause-err
+returns-then-number_at-ne-MARK-clause-err g c =
+    inr (0, refl, other_mark c.args.bytes.now c.if-bytes-lt48.false c.number_at.result c.number_at.ensures c.if-number_at-ne-MARK.true)
 
-pub returns-then-number_in_bytes-ne-VERSION-clause-err : goal.returns-then-number_in_bytes-ne-VERSION-clause-err
-returns-then-number_in_bytes-ne-VERSION-clause-err g c =
+pub returns-then-number_at-ne-VERSION-clause-err : goal.returns-then-number_at-ne-VERSION-clause-err
+returns-then-number_at-ne-VERSION-clause-err g c =
     inr (
       8,
       refl,
       other_version c.args.bytes.now c.if-bytes-lt48.false c.number_at.result c.number_at-2.result c.number_at.ensures
-          c.if-number_in_bytes-ne-MARK.false c.number_at-2.ensures c.if-number_in_bytes-ne-VERSION.true,
+          c.if-number_at-ne-MARK.false c.number_at-2.ensures c.if-number_at-ne-VERSION.true,
     )
 
 pub returns-clause-err : goal.returns-clause-err
 returns-clause-err g c =
     let bs = c.args.bytes.now in
     let same : record_in_bytes bs ≡ record_headed bs c.number_at-3.result c.number_at-4.result c.number_at-5.result c.number_at-6.result =
-    right_head bs c.if-bytes-lt48.false c.number_at.result c.number_at-2.result c.number_at.ensures c.if-number_in_bytes-ne-MARK.false c.number_at-2.ensures
-    c.if-number_in_bytes-ne-VERSION.false
+    right_head bs c.if-bytes-lt48.false c.number_at.result c.number_at-2.result c.number_at.ensures c.if-number_at-ne-MARK.false c.number_at-2.ensures
+    c.if-number_at-ne-VERSION.false
     ∙ (λ i. record_headed bs (sym c.number_at-3.ensures i) (sym c.number_at-4.ensures i) (sym c.number_at-5.ensures i) (sym c.number_at-6.ensures i)) in
     err_on c.record_headed.result (record_headed bs c.number_at-3.result c.number_at-4.result c.number_at-5.result c.number_at-6.result) (record_in_bytes bs) same
     c.record_headed.ensures.err
