@@ -199,7 +199,9 @@ def command(name: str, rest: list[str]) -> Answer | Job:
             elif limits:
                 number(value, shown, limits)
             elif has_value:
-                raise Unclear
+                if given or not value:
+                    raise Unclear
+                raise Wrong(f"unexpected value '{value}' for '{shown}' found; no more were expected{usage_with(name, [option])}")
             if option in given:
                 raise Wrong(f"the argument '{shown}' cannot be used multiple times{usage_of(name)}")
             given.append(option)
