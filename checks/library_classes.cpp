@@ -76,6 +76,17 @@ void judges() {
   torusmem::verdict rises = torusmem::network("channels 3\ninject 0\neject 2\njoin 0 2\nnext 0 2 1\nnext 1 2 2\n");
   MUST(rises.code == TORUSMEM_OK && rises.text.find("rising") != std::string::npos);
   MUST(torusmem::network("channels 2\ninject 0\neject 1\njoin 0 1\n").code == TORUSMEM_NO_ROUTE);
+  std::vector<torusmem_log_entry> log(3, torusmem_log_entry());
+  log[0].kind = TORUSMEM_LOG_MADE;
+  log[1].kind = TORUSMEM_LOG_READ_OPENING;
+  log[2].kind = TORUSMEM_LOG_REPLIED;
+  log[2].has_old = 1;
+  torusmem::obeyed found = torusmem::model(8, log, true);
+  MUST(found.code == TORUSMEM_OK && found.models == 31 && found.text.find("an order of sc:\nline 1: 0 load 0\n") > 0);
+  log[2].old = 9;
+  found = torusmem::model(8, log);
+  MUST(found.code == TORUSMEM_WRONG_REPLY && found.entry == 3 && found.word == 0 && found.writer == 0);
+  MUST(thrown(TORUSMEM_FAULT_RANGE, [&] { torusmem::model(0, log); }).find("model: a number is out of") == 0);
 }
 
 }  // namespace

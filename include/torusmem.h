@@ -6,7 +6,7 @@
 
    MEMORY. torusmem_load, torusmem_open and torusmem_reopen allocate what the machine needs, torusmem_append and
    torusmem_ask what a further line needs, and torusmem_free frees all of it. torusmem_report, torusmem_order, torusmem_check, torusmem_explain,
-   torusmem_spins_out, torusmem_network and torusmem_linearize free what they allocate before they return.
+   torusmem_spins_out, torusmem_network, torusmem_linearize and torusmem_model free what they allocate before they return.
    torusmem_watch_begin allocates what a watch needs at first, torusmem_watch_issue and torusmem_watch_answer allocate
    and free as operations open and end, and torusmem_watch_end frees all of it. No other call allocates.
 
@@ -115,7 +115,8 @@ enum {
   TORUSMEM_TOO_MANY = 23, /* undecided: at this answer a word has more configurations than were allowed */
   TORUSMEM_TOO_OPEN = 24, /* undecided: at this issue 64 other operations are open on its word */
   TORUSMEM_BEHIND_SPIN = 25, /* the script has a spin, so the index of an operation behind it is not known */
-  TORUSMEM_NOT_YET = 26      /* the operation is not answered yet */
+  TORUSMEM_NOT_YET = 26,     /* the operation is not answered yet */
+  TORUSMEM_WRONG_REPLY = 27  /* of a log: a reply isn't what its operation does to the word that it finds */
 };
 
 /* What a code says, in a few words of ASCII, as "an address is not below the number of words". For any number. */
@@ -444,6 +445,69 @@ torusmem_outcome torusmem_linearize(const uint64_t *opening, size_t opening_leng
                                     size_t events_length, uint64_t configurations, uint64_t *out, size_t out_length)
     TORUSMEM_RESULT;
 
+/* Kinds of entries of a log. */
+enum {
+  TORUSMEM_LOG_INIT = 0,         /* the opening word of an address; all of these stand in front */
+  TORUSMEM_LOG_MADE = 1,         /* the next operation in a processor's program, or a fence */
+  TORUSMEM_LOG_WROTE = 2,        /* an operation wrote next on its word; every one but a load writes */
+  TORUSMEM_LOG_READ = 3,         /* a load read what an operation wrote */
+  TORUSMEM_LOG_READ_OPENING = 4, /* a load read the opening word */
+  TORUSMEM_LOG_SERVED = 5,       /* a load read what the last WROTE above left on its word */
+  TORUSMEM_LOG_REPLIED = 6       /* what an operation replied */
+};
+
+/* An entry of a log. What isn't named for its kind is not looked at. */
+typedef struct torusmem_log_entry {
+  uint32_t kind;
+  uint32_t processor;                  /* of all but INIT: that of the operation, below 4096 */
+  uint32_t index;                      /* of WROTE to REPLIED: which operation of it, from 0; fences count too */
+  uint32_t operation;                  /* of MADE: TORUSMEM_LOAD .. TORUSMEM_MIN, or TORUSMEM_FENCE */
+  uint32_t address;                    /* of INIT, and of MADE but for a fence */
+  uint32_t from_processor, from_index; /* of READ: the operation that wrote */
+  uint32_t has_old;                    /* of REPLIED: 1 for an old word, 0 for `ok`, that of a store */
+  uint64_t first, second;              /* of INIT: the word, in first; of MADE: the values, as in an answer */
+  uint64_t old;                        /* of REPLIED: the old word, where it has one */
+} torusmem_log_entry;
+
+/* Memory models, weakest first: coherence; coherence with fences; partial and total store order (SPARC v9); sequential
+   consistency (Lamport 1979). Several of them are the sum of their numbers. */
+enum {
+  TORUSMEM_COHERENT = 1,
+  TORUSMEM_FENCED = 2,
+  TORUSMEM_PSO = 4,
+  TORUSMEM_TSO = 8,
+  TORUSMEM_SC = 16
+};
+
+/* Which memory models a log obeys. */
+typedef struct torusmem_models {
+  uint32_t code;   /* OK, SHORT, WRONG_REPLY or a fault */
+  uint32_t models; /* of OK and SHORT: those that it obeys; else 0 */
+  uint64_t value;  /* of OK and SHORT: the length of the text; else the entry at fault, from 1 */
+  uint64_t word;   /* of WRONG_REPLY: the word that the operation finds; else 0 */
+  uint64_t writer; /* of WRONG_REPLY: the entry that made the operation which left that word; 0 for the opening word, and else */
+} torusmem_models;
+
+/* Judges a log by five memory models: what processors made, the order of each word's writes, and what each load read
+   (docs/FORMATS.md, "Log text"), over a memory of so many words, 1 to 2^32. Needs no machine. It looks at time nowhere:
+   a processor's program is the order of its MADE entries, a word's order that of its WROTE entries. Each MADE operation
+   is named by one WROTE, READ, READ_OPENING or SERVED behind it; a reply may be there or not. Entries are numbered from
+   1, and the text calls them lines.
+   A text is put into a buffer: a line for each model, as `tso yes`; then the cycle of the weakest model that the log
+   breaks, an operation a line with the reason to the next; then, unless order is 0, an order of the strongest that it
+   obeys. Each yes and each no is proved.
+   OK: the text is the first `value` bytes of out, and the bytes behind them are as they were.
+   SHORT: `value` is what the text needs, and out is as it was; so is it on all other codes.
+   WRONG_REPLY: at entry `value`; the replies are looked at before any model.
+   A fault: entry `value` can't stand. F4: it is of no kind; there is no such operation or reply; it names a fence, a
+   load where a write belongs or a write where a load belongs; or the reply doesn't go with its operation. F5: an INIT
+   behind a MADE, or of the same address as one before; an operation that was named before, or replied; or a MADE one
+   that nothing behind names. F6: the processor has made no such operation so far; with value 0: words is not 1 to 2^32.
+   F7: the address is not below words, or a load and its write are on different words. F8: the processor is not below
+   4096. F9: there are 4194304 operations already, or operations on 1048576 addresses. F12 is out of memory, with 0. */
+torusmem_models torusmem_model(uint64_t words, const torusmem_log_entry *entries, size_t entries_length, uint32_t order,
+                               uint8_t *out, size_t out_length) TORUSMEM_RESULT;
+
 /* A watch of a trace that goes on: what torusmem_linearize judges at the end, it judges at each event, so that a host
    checks itself while it runs. Its memory follows the operations that are open, and not the length of the trace. Room
    for a watch is the caller's, as that of a machine: begun by TORUSMEM_WATCH_INIT, then changed by calls alone. */
@@ -480,7 +544,7 @@ torusmem_outcome torusmem_watch_answer(torusmem_watch *w, uint64_t number, uint3
 /* Ends the watch that *w holds, if any, and gives its memory back. It may be begun again then. */
 void torusmem_watch_end(torusmem_watch *w);
 
-/* The library's own calls take no null pointer. So a C program that calls one of the thirteen below has a call in front
+/* The library's own calls take no null pointer. So a C program that calls one of the fourteen below has a call in front
    of it, by which a pointer with the length 0 becomes one to an item that is not looked at. */
 static inline const uint8_t *torusmem_text_at(const uint8_t *at, size_t length) {
   static const uint8_t none = 0;
@@ -580,6 +644,17 @@ static inline torusmem_outcome torusmem_linearize_events(const uint64_t *opening
                             out_length > 0 ? out : &none, out_length);
 }
 #define torusmem_linearize torusmem_linearize_events
+
+TORUSMEM_RESULT
+static inline torusmem_models torusmem_model_entries(uint64_t words, const torusmem_log_entry *entries,
+                                                     size_t entries_length, uint32_t order, uint8_t *out,
+                                                     size_t out_length) {
+  static const torusmem_log_entry no_entry = { 0, 0, 0, 0, 0, 0, 0, 0, 0, 0, 0 };
+  uint8_t none = 0;
+  return torusmem_model(words, entries_length > 0 ? entries : &no_entry, entries_length, order,
+                        out_length > 0 ? out : &none, out_length);
+}
+#define torusmem_model torusmem_model_entries
 
 TORUSMEM_RESULT
 static inline torusmem_outcome torusmem_watch_begin_at(torusmem_watch *w, const uint64_t *opening,

@@ -305,5 +305,27 @@ inline judged linearize(span<const uint64_t> opening, span<const torusmem_event>
   return {TORUSMEM_OK, 0, order};
 }
 
+// The verdict on a log: the models that it obeys, and the text that the program prints; or, of a wrong reply, its entry,
+// the word that its operation finds, and the entry that made the operation which left it.
+struct obeyed {
+  uint32_t code;    // OK or WRONG_REPLY
+  uint32_t models;  // the sum of TORUSMEM_COHERENT to TORUSMEM_SC
+  std::string text;
+  uint64_t entry, word, writer;
+};
+inline obeyed model(uint64_t words, span<const torusmem_log_entry> entries, bool order = false) {
+  std::string made(4096, ' ');
+  torusmem_models said;
+  for (;;) {
+    said = torusmem_model(words, entries.data(), entries.size(), order ? 1 : 0, reinterpret_cast<uint8_t *>(&made[0]),
+                          made.size());
+    if (said.code != TORUSMEM_SHORT) break;
+    made.resize(static_cast<size_t>(said.value));
+  }
+  if (said.code == TORUSMEM_WRONG_REPLY) return {said.code, 0, "", said.value, said.word, said.writer};
+  made.resize(static_cast<size_t>(granted("model", {said.code, said.value})));
+  return {said.code, said.models, made, 0, 0, 0};
+}
+
 }  // namespace torusmem
 #endif

@@ -17,3 +17,4 @@ pub mod Traces
 pub mod Watching
 pub mod Appending
 pub mod Opening
+pub mod Models

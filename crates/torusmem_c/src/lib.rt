@@ -4,6 +4,7 @@
 pub mod appending;
 mod choice;
 pub mod explaining;
+pub mod models;
 pub mod networks;
 pub mod opening;
 pub mod order;

@@ -38,13 +38,15 @@ pub enum Code {
     BehindSpin,
     /// The operation isn't answered yet.
     NotYet,
+    /// A reply of a log isn't what its operation does to the word that it finds.
+    WrongReply,
 }
 
 impl Code {
     /// The number by which C knows it.
     pub fn number(self) -> u32
         ensures value { result ≡ c_code self }
-        ensures small { result ≤ 26 }
+        ensures small { result ≤ 27 }
     {
         match self {
             Code::Done => 0,
@@ -61,6 +63,7 @@ impl Code {
             Code::TooOpen => 24,
             Code::BehindSpin => 25,
             Code::NotYet => 26,
+            Code::WrongReply => 27,
         }
     }
 }

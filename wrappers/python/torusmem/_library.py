@@ -12,8 +12,9 @@ SONAME = "libtorusmem.so.0.2"
 # The number of calls, codes and limits that the header has.
 OK, FAULT_MEMORY, BAD_REPORT, EMPTY, FULL, NONE, SHORT, NO_ROUTE, CYCLE = 0, 12, 15, 16, 17, 18, 19, 20, 21
 NOT_LINEARIZABLE, TOO_MANY, TOO_OPEN = 22, 23, 24
-BEHIND_SPIN, NOT_YET = 25, 26
+BEHIND_SPIN, NOT_YET, WRONG_REPLY = 25, 26, 27
 ISSUE, ANSWER = 0, 1
+LOG_INIT, LOG_MADE, LOG_WROTE, LOG_READ, LOG_READ_OPENING, LOG_SERVED, LOG_REPLIED = 0, 1, 2, 3, 4, 5, 6
 FENCE, SPIN, FIRST_IS_LAST, SECOND_IS_LAST = 10, 11, 1, 2
 NO_TEXT, MACHINE_TEXT, SCRIPTS_TEXT = 0, 1, 2
 LONGEST_ROUTE = 10
@@ -79,6 +80,19 @@ class RawEvent(Structure):
     ]
 
 
+class RawLogEntry(Structure):
+    _fields_ = [
+        (it, c_uint32)
+        for it in ("kind", "processor", "index", "operation", "address", "from_processor", "from_index", "has_old")
+    ] + [(it, c_uint64) for it in ("first", "second", "old")]
+
+
+class RawModels(Structure):
+    """Which memory models a log obeys."""
+
+    _fields_ = [(it, c_uint32) for it in ("code", "models")] + [(it, c_uint64) for it in ("value", "word", "writer")]
+
+
 class Explanation(Structure):
     """Why a load is refused."""
 
@@ -126,6 +140,7 @@ CALLS = {
         Outcome,
         [POINTER(c_uint64), c_size_t, POINTER(RawEvent), c_size_t, c_uint64, POINTER(c_uint64), c_size_t],
     ),
+    "model": (RawModels, [c_uint64, POINTER(RawLogEntry), c_size_t, c_uint32, c_void_p, c_size_t]),
     "watch_begin": (Outcome, [_M, POINTER(c_uint64), c_size_t]),
     "watch_issue": (Outcome, [_M, c_uint64, c_uint32, c_uint32, c_uint64, c_uint64]),
     "watch_answer": (Outcome, [_M, c_uint64, c_uint32, c_uint64, c_uint64]),

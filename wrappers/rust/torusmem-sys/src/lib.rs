@@ -58,6 +58,7 @@ pub const TORUSMEM_TOO_MANY: u32 = 23;
 pub const TORUSMEM_TOO_OPEN: u32 = 24;
 pub const TORUSMEM_BEHIND_SPIN: u32 = 25;
 pub const TORUSMEM_NOT_YET: u32 = 26;
+pub const TORUSMEM_WRONG_REPLY: u32 = 27;
 
 pub const TORUSMEM_SEND: u32 = 0;
 pub const TORUSMEM_TAKE: u32 = 1;
@@ -95,6 +96,20 @@ pub const TORUSMEM_REPLY: u32 = 1;
 
 pub const TORUSMEM_ISSUE: u32 = 0;
 pub const TORUSMEM_ANSWER: u32 = 1;
+
+pub const TORUSMEM_LOG_INIT: u32 = 0;
+pub const TORUSMEM_LOG_MADE: u32 = 1;
+pub const TORUSMEM_LOG_WROTE: u32 = 2;
+pub const TORUSMEM_LOG_READ: u32 = 3;
+pub const TORUSMEM_LOG_READ_OPENING: u32 = 4;
+pub const TORUSMEM_LOG_SERVED: u32 = 5;
+pub const TORUSMEM_LOG_REPLIED: u32 = 6;
+
+pub const TORUSMEM_COHERENT: u32 = 1;
+pub const TORUSMEM_FENCED: u32 = 2;
+pub const TORUSMEM_PSO: u32 = 4;
+pub const TORUSMEM_TSO: u32 = 8;
+pub const TORUSMEM_SC: u32 = 16;
 
 pub const TORUSMEM_NO_TEXT: u32 = 0;
 pub const TORUSMEM_MACHINE_TEXT: u32 = 1;
@@ -215,6 +230,34 @@ pub struct torusmem_explanation {
     pub length: u64,
 }
 
+/// An entry of a log.
+#[repr(C)]
+#[derive(Clone, Copy, Debug, Default)]
+pub struct torusmem_log_entry {
+    pub kind: u32,
+    pub processor: u32,
+    pub index: u32,
+    pub operation: u32,
+    pub address: u32,
+    pub from_processor: u32,
+    pub from_index: u32,
+    pub has_old: u32,
+    pub first: u64,
+    pub second: u64,
+    pub old: u64,
+}
+
+/// Which memory models a log obeys.
+#[repr(C)]
+#[derive(Clone, Copy, Debug, PartialEq, Eq)]
+pub struct torusmem_models {
+    pub code: u32,
+    pub models: u32,
+    pub value: u64,
+    pub word: u64,
+    pub writer: u64,
+}
+
 extern "C" {
     pub fn torusmem_version() -> *const c_char;
     pub fn torusmem_code_text(code: u32) -> *const c_char;
@@ -322,6 +365,14 @@ extern "C" {
         out: *mut u64,
         out_length: usize,
     ) -> torusmem_outcome;
+    pub fn torusmem_model(
+        words: u64,
+        entries: *const torusmem_log_entry,
+        entries_length: usize,
+        order: u32,
+        out: *mut u8,
+        out_length: usize,
+    ) -> torusmem_models;
     pub fn torusmem_watch_begin(w: *mut torusmem_watch, opening: *const u64, opening_length: usize)
         -> torusmem_outcome;
     pub fn torusmem_watch_issue(

@@ -19,6 +19,7 @@
 #![deny(unsafe_code)]
 
 mod line;
+mod log;
 mod network;
 #[allow(unsafe_code)]
 mod raw;
@@ -26,6 +27,7 @@ mod trace;
 mod watch;
 
 pub use line::{Line, Refused, Value};
+pub use log::{model, LogEntry, LogFault, Obeyed};
 pub use network::{network, By, Fill, Link, Verdict, Why};
 use raw::Raw;
 use std::error::Error;

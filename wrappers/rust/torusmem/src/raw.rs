@@ -207,6 +207,14 @@ pub fn linearize(opening: &[u64], events: &[torusmem_event], configurations: u64
     unsafe { torusmem_linearize(opening_at, opening.len(), events_at, events.len(), configurations, at, room) }
 }
 
+pub fn model(words: u64, entries: &[torusmem_log_entry], order: u32, out: &mut [u8]) -> torusmem_models {
+    let none = torusmem_log_entry::default();
+    let (mut no_byte, room) = (0, out.len());
+    let (entries_at, at) = (list_at(entries, &none), buffer_at(out, &mut no_byte));
+    // SAFETY: the slices have as many items as they say; what is written is nobody else's. There is no machine.
+    unsafe { torusmem_model(words, entries_at, entries.len(), order, at, room) }
+}
+
 pub struct RawWatch(torusmem_watch);
 
 // SAFETY: as of a machine.
