@@ -129,6 +129,8 @@ static void every_call_says_empty(torusmem_machine *m) {
   MUST(says(torusmem_shape(m, &shape), TORUSMEM_EMPTY, 0) && memcmp(&shape, &same, sizeof shape) == 0);
   torusmem_machine fresh = TORUSMEM_MACHINE_INIT;
   MUST(says(torusmem_reopen(m, &fresh), TORUSMEM_EMPTY, 0) && !fresh.full);
+  MUST(says(torusmem_clone(m, &fresh), TORUSMEM_EMPTY, 0) && !fresh.full);
+  MUST(says(torusmem_save(m, &byte, 1), TORUSMEM_EMPTY, 0) && byte == 7);
   torusmem_ordered ordered = { 7, 7, 7, 7, 7, 7, 7 };
   MUST(says(torusmem_order(m, 0, &ordered, 1), TORUSMEM_EMPTY, 0) && ordered.bank == 7);
   MUST(says(torusmem_word(m, 99), TORUSMEM_EMPTY, 0));

@@ -37,6 +37,12 @@ void machines() {
   MUST(m.shape().radices[0] == 2 && m.shape().tags == 4);
   torusmem::machine again = m.reopened();
   MUST(again.word(5) == 17 && again.answers(0).empty() && m.answers(0).size() == 2);
+  torusmem::machine kept = torusmem::machine::recorded(shape, "0 store 5 17\n0 fence\n0 load 5\n");
+  kept.round();
+  torusmem::machine restored = torusmem::machine::restored(kept.save()), cloned = kept.clone();
+  MUST(restored.report() == kept.report() && restored.save() == cloned.save() && restored.finish() == cloned.finish());
+  MUST(thrown(TORUSMEM_NO_RECORD, [&] { m.save(); }).find("save: the machine keeps no record") == 0);
+  MUST(thrown(TORUSMEM_BAD_RECORD, [] { torusmem::machine::restored(std::vector<uint8_t>()); }).find("restore: bytes") == 0);
   std::vector<uint64_t> opening = {7, 8};
   MUST(torusmem::machine(m.shape(), opening).word(1) == 8 && torusmem::machine(m.shape()).word(1) == 0);
   struct torusmem_shape odd = m.shape();

@@ -160,6 +160,31 @@ class machine {
     return fresh;
   }
 
+  // Loads such a machine, which keeps a record of what is done to it, so that it can be saved.
+  static machine recorded(text shape, text scripts = text()) {
+    machine made;
+    torusmem_outcome said = torusmem_load_recorded(&made.held_, shape.data(), shape.size(), scripts.data(), scripts.size());
+    if (said.code != TORUSMEM_OK) throw error(explain(shape, scripts), said);
+    return made;
+  }
+  // The bytes of its record, of which restored() makes this machine again.
+  std::vector<uint8_t> save() {
+    return filled<std::vector<uint8_t>>("save", 256, [&](uint8_t *at, size_t room) {
+      return torusmem_save(&held_, at, room);
+    });
+  }
+  static machine restored(span<const uint8_t> saved) {
+    machine made;
+    granted("restore", torusmem_restore(&made.held_, saved.data(), saved.size()));
+    return made;
+  }
+  // The same machine once more, with the same record.
+  machine clone() {
+    machine fresh;
+    granted("clone", torusmem_clone(&held_, &fresh.held_));
+    return fresh;
+  }
+
   bool finished() { return granted("finished", torusmem_finished(&held_)) == 1; }
   uint64_t moves_left() { return granted("moves_left", torusmem_moves_left(&held_)); }
   uint32_t tiles() { return number("tiles", torusmem_tiles(&held_)); }

@@ -5,6 +5,7 @@ pub mod Steps
 pub mod Records
 pub mod Room
 pub mod Routes
+pub mod Saving
 pub mod Shapes
 pub mod Orders
 pub mod Shown

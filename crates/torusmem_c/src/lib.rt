@@ -13,6 +13,7 @@ pub mod reading;
 pub mod records;
 mod room;
 pub mod routes;
+pub mod saving;
 pub mod shape;
 pub mod spinning;
 pub mod stepping;

@@ -205,6 +205,27 @@ class Looks(unittest.TestCase):
             with self.assertRaisesRegex(ValueError, f"\\({why}\\)"):
                 Machine.of(torusmem.Shape(*shape), words)
 
+    def test_machines_that_are_restored(self):
+        machine = Machine.read(path("flag/machine.txt"), path("flag/script.txt"), recorded=True)
+        machine.round()
+        machine.ask(1, torusmem.Operation.ADD, 1, 3)
+        for again in (Machine.restored(machine.save()), machine.clone()):
+            self.assertEqual((again.report(), again.row(), again.save()), (machine.report(), machine.row(), machine.save()))
+            other = machine.clone()
+            self.assertEqual(again.step(0, Choice.SEND), other.step(0, Choice.SEND))
+            self.assertEqual((again.finish(), again.report()), (other.finish(), other.report()))
+        for bytes_of_none, why in [
+            (b"", "byte 0 "), (machine.save()[:-1], f"byte {len(machine.save()) - 1} "), (b"T" + machine.save()[1:], "byte 0 "),
+            (machine.save()[:-4] + b"\x0f\0\0\0", "action 1 "), (machine.save().replace(b"radix", b"Radix"), "line 1: .*F4"),
+        ]:
+            with self.assertRaisesRegex(ValueError, why):
+                Machine.restored(bytes_of_none)
+        self.assertRaisesRegex(ValueError, "recorded=True", first().save)
+        self.assertRaisesRegex(ValueError, "recorded=True", first().clone)
+        machine.close()
+        self.assertRaises(torusmem.Closed, machine.save)
+        self.assertRaises(torusmem.Closed, machine.clone)
+
     def test_what_is_not_there(self):
         machine = first()
         left = machine.moves_left
@@ -608,6 +629,7 @@ class Words(unittest.TestCase):
         names = "OK FAULT_MEMORY BAD_REPORT EMPTY FULL NONE SHORT NO_ROUTE CYCLE".split()
         names += ["NO_TEXT", "MACHINE_TEXT", "SCRIPTS_TEXT", "ISSUE", "ANSWER"]
         names += ["NOT_LINEARIZABLE", "TOO_MANY", "TOO_OPEN", "BEHIND_SPIN", "NOT_YET"]
+        names += ["NO_RECORD", "BAD_RECORD", "BAD_ACTION"]
         names += ["FENCE", "SPIN", "FIRST_IS_LAST", "SECOND_IS_LAST"]
         codes = {name: getattr(library, name) for name in names}
         self.assertEqual(numbers, {**codes, "REQUEST": 0, "REPLY": 1})

@@ -13,6 +13,7 @@ SONAME = "libtorusmem.so.0.2"
 OK, FAULT_MEMORY, BAD_REPORT, EMPTY, FULL, NONE, SHORT, NO_ROUTE, CYCLE = 0, 12, 15, 16, 17, 18, 19, 20, 21
 NOT_LINEARIZABLE, TOO_MANY, TOO_OPEN = 22, 23, 24
 BEHIND_SPIN, NOT_YET = 25, 26
+NO_RECORD, BAD_RECORD, BAD_ACTION = 27, 28, 29
 ISSUE, ANSWER = 0, 1
 FENCE, SPIN, FIRST_IS_LAST, SECOND_IS_LAST = 10, 11, 1, 2
 NO_TEXT, MACHINE_TEXT, SCRIPTS_TEXT = 0, 1, 2
@@ -93,6 +94,10 @@ CALLS = {
     "load": (Outcome, [_M, c_char_p, c_size_t, c_char_p, c_size_t]),
     "open": (Outcome, [_M, POINTER(RawShape), POINTER(c_uint64), c_size_t]),
     "reopen": (Outcome, [_M, _M]),
+    "load_recorded": (Outcome, [_M, c_char_p, c_size_t, c_char_p, c_size_t]),
+    "save": (Outcome, [_M, c_void_p, c_size_t]),
+    "restore": (Outcome, [_M, c_char_p, c_size_t]),
+    "clone": (Outcome, [_M, _M]),
     "explain": (Explanation, [c_char_p, c_size_t, c_char_p, c_size_t, c_void_p, c_size_t]),
     "free": (None, [_M]),
     "step": (Outcome, [_M, c_uint32, c_uint32, c_uint32]),

@@ -58,6 +58,9 @@ pub const TORUSMEM_TOO_MANY: u32 = 23;
 pub const TORUSMEM_TOO_OPEN: u32 = 24;
 pub const TORUSMEM_BEHIND_SPIN: u32 = 25;
 pub const TORUSMEM_NOT_YET: u32 = 26;
+pub const TORUSMEM_NO_RECORD: u32 = 27;
+pub const TORUSMEM_BAD_RECORD: u32 = 28;
+pub const TORUSMEM_BAD_ACTION: u32 = 29;
 
 pub const TORUSMEM_SEND: u32 = 0;
 pub const TORUSMEM_TAKE: u32 = 1;
@@ -232,6 +235,16 @@ extern "C" {
         words_length: usize,
     ) -> torusmem_outcome;
     pub fn torusmem_reopen(m: *mut torusmem_machine, fresh: *mut torusmem_machine) -> torusmem_outcome;
+    pub fn torusmem_load_recorded(
+        m: *mut torusmem_machine,
+        machine: *const u8,
+        machine_length: usize,
+        scripts: *const u8,
+        scripts_length: usize,
+    ) -> torusmem_outcome;
+    pub fn torusmem_save(m: *mut torusmem_machine, out: *mut u8, out_length: usize) -> torusmem_outcome;
+    pub fn torusmem_restore(m: *mut torusmem_machine, bytes: *const u8, bytes_length: usize) -> torusmem_outcome;
+    pub fn torusmem_clone(m: *mut torusmem_machine, fresh: *mut torusmem_machine) -> torusmem_outcome;
     pub fn torusmem_explain(
         machine: *const u8,
         machine_length: usize,

@@ -74,6 +74,26 @@ impl Raw {
         unsafe { torusmem_open(&mut self.0, shape, list_at(words, &0), words.len()) }
     }
 
+    pub fn load_recorded(&mut self, machine: &[u8], scripts: &[u8]) -> torusmem_outcome {
+        // SAFETY: the machine is this one's alone; each slice has as many bytes as it says, and is only read.
+        unsafe { torusmem_load_recorded(&mut self.0, text_at(machine), machine.len(), text_at(scripts), scripts.len()) }
+    }
+
+    pub fn save(&mut self, out: &mut [u8]) -> torusmem_outcome {
+        // SAFETY: the machine is this one's alone; the slice has as many bytes as it says, and nobody else has it.
+        unsafe { torusmem_save(&mut self.0, buffer_at(out, &mut 0), out.len()) }
+    }
+
+    pub fn restore(&mut self, bytes: &[u8]) -> torusmem_outcome {
+        // SAFETY: the machine is this one's alone; the slice has as many bytes as it says, and is only read.
+        unsafe { torusmem_restore(&mut self.0, text_at(bytes), bytes.len()) }
+    }
+
+    pub fn clone_to(&mut self, fresh: &mut Raw) -> torusmem_outcome {
+        // SAFETY: both machines are nobody else's, and two.
+        unsafe { torusmem_clone(&mut self.0, &mut fresh.0) }
+    }
+
     pub fn reopen(&mut self, fresh: &mut Raw) -> torusmem_outcome {
         // SAFETY: both machines are nobody else's, and two.
         unsafe { torusmem_reopen(&mut self.0, &mut fresh.0) }

@@ -241,6 +241,21 @@ fn a_machine_of_numbers() {
 }
 
 #[test]
+fn machines_that_are_restored() {
+    let mut machine = Machine::load_recorded(&read("examples/machine.txt"), &read("examples/script.txt")).expect("a machine");
+    machine.round();
+    let bytes = machine.save().expect("memory").expect("a record");
+    let mut again = Machine::restored(&bytes).expect("the same machine");
+    let mut other = machine.cloned().expect("memory").expect("a record");
+    assert_eq!((again.report(), again.save()), (machine.report(), machine.save()));
+    assert_eq!((again.finish(), again.report()), (other.finish(), other.report()));
+    assert_eq!(Machine::restored(&bytes[..9]).err(), Some(torusmem::Unrestored::Byte(9)));
+    let no_action = [&bytes[..bytes.len() - 4], &[15, 0, 0, 0]].concat();
+    assert_eq!(Machine::restored(&no_action).err(), Some(torusmem::Unrestored::Action(0)));
+    assert_eq!((first().save(), first().cloned().map(|it| it.is_none())), (Ok(None), Ok(true)));
+}
+
+#[test]
 fn the_order() {
     let mut machine = first();
     assert_eq!(machine.order(0), Ok(vec![]));
