@@ -1,5 +1,5 @@
 -- A machine that keeps a record, as contracts see it.
-use Rattle.std.specs.Prelude.{◌≡◌, ◌⊎◌, ◌<◌, ℕ, true, [], ◌∷◌, ◌++◌, length, Option, None}
+use Rattle.std.specs.Prelude.{◌≡◌, ◌⊎◌, ◌<◌, ℕ, true, [], ◌∷◌, ◌++◌, length, Option, Some, None}
 use Rattle.std.specs.Prelude.{IfSome, option_map}
 use Rattle.torus.specs.declared.step.Step.{Step}
 use Rattle.torus.specs.declared.step.Stepped.{Stepped}
@@ -10,12 +10,18 @@ use Rattle.record_bytes.specs.declared.action.Action.{Action}
 use Rattle.record_bytes.specs.declared.action.Action.TheVariants.{Move, Line}
 use Rattle.record_bytes.specs.Action.{action_number, is_narrow}
 use Rattle.record_bytes.specs.Row.{row_of}
-use Rattle.record_bytes.specs.Recording.{Recording}
+use Rattle.record_bytes.specs.Recording.{Recording, fresh_record}
 
 -- a machine, and the record of what was done to it, where it keeps one
 pub record Recorded : Type 0 where
   pub asked : Asked
   pub kept : Option Recording
+
+-- a record of two texts, before anything is done
+pub record IsFresh (kept : Option Recording) : Type 0 where
+  pub machine : List ℕ
+  pub scripts : List ℕ
+  pub is : kept ≡ Some (fresh_record machine scripts)
 
 -- a record with the number of one action more
 abbrev pub with_action : ℕ → Recording → Recording

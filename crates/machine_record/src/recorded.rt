@@ -17,16 +17,17 @@ ghost use Rattle.machine_core.specs.Loading.{HasLoaded, IsLoadFault, load_by};
 ghost use Rattle.machine_core.specs.Rounds.{NeedsRounds, rounds_of};
 ghost use Rattle.machine_asked.specs.Asked.{IsAsked, IsNumbered, NeedsToWait, has_spin};
 ghost use Rattle.machine_asked.specs.Asked.{index_asked, spins_with};
+ghost use Rattle.machine_asked.specs.Opened.{IsOpened};
 ghost use Rattle.record_bytes.specs.Recording.{fresh_record};
-ghost use Rattle.machine_record.specs.Machine.{Keeps, KeepsLine, KeepsStep};
+ghost use Rattle.machine_record.specs.Machine.{IsFresh, Keeps, KeepsLine, KeepsStep};
 
 use crate::keeping::{keep, keep_line, keep_rounds};
-use machine_asked::{AskedMachine, Machine};
-use record_bytes::{Action, Record, begun};
+use machine_asked::{AskedMachine, Machine, OpenedMachine};
+use record_bytes::{Action, Record, begun, begun_without_scripts};
 use script::{Line, LineFault};
-use std::alloc::{Allocator, Global};
+use std::alloc::{AllocError, Allocator, Global};
 use std::marker::Model;
-use torus::{Fault, Step, Stepped};
+use torus::{Fault, Step, Stepped, Torus};
 
 /// A machine that is asked for operations while it runs, and the record of what was done to it, where it
 /// keeps one. The record makes this machine again.
@@ -76,6 +77,29 @@ impl<A: Allocator + Copy> RecordedMachine<A> {
                 line: 0,
             }),
         }
+    }
+
+    /// Opens a machine by numbers, as `AskedMachine::open` does, with a record of what is done to it from now
+    /// on.
+    ///
+    /// Errors: out of memory; or a number is out of its range.
+    pub fn open(
+        alloc: A,
+        torus: Torus,
+        depth: u32,
+        tags: u32,
+        opening: &[u64],
+    ) -> Result<RecordedMachine<A>, AllocError>
+        ensures opened { IfOk result (λ m. IsOpened torus depth tags opening.now m.asked) }
+        ensures kept { IfOk result (λ m. IsFresh m.kept) }
+    {
+        let opened = AskedMachine::open_with_text(alloc, torus, depth, tags, opening)?;
+        let OpenedMachine { machine, text } = opened;
+        let kept = begun_without_scripts(alloc, text);
+        Ok(RecordedMachine {
+            machine,
+            kept: Some(kept),
+        })
     }
 }
 

@@ -11,5 +11,5 @@ pub mod row;
 pub use action::Action;
 pub use bytes::bytes_of;
 pub use reading::{Unread, record_of};
-pub use record::{Record, begun, copied};
+pub use record::{Record, begun, begun_without_scripts, copied};
 pub use row::LineRow;

@@ -4,7 +4,7 @@ use Rattle.std.specs.Prelude.{◌≡◌, ◌⊎◌, ℕ, List, Option, Some, Non
 use Rattle.record_bytes.specs.Bytes.{record_bytes}
 use Rattle.record_bytes.specs.Recording.{Recording, fresh_record}
 use Rattle.machine_record.specs.Calls.{IsRestored, IsUnrestored}
-use Rattle.machine_record.specs.Machine.{Recorded}
+use Rattle.machine_record.specs.Machine.{IsFresh, Recorded}
 use Rattle.machine_record.specs.declared.restoring.Unrestored.{Unrestored}
 use Rattle.machine_record.specs.declared.restoring.Unrestored.TheVariants as why
 use Rattle.torusmem_c.specs.declared.outcome.Outcome.{Outcome}
@@ -17,6 +17,12 @@ abbrev pub KeepsFresh : List ℕ → List ℕ → Option Recorded → Option Rec
 KeepsFresh machine scripts (Some v) new = Unit {0}
 KeepsFresh machine scripts None None = Unit {0}
 KeepsFresh machine scripts None (Some v) = v.kept ≡ Some (fresh_record machine scripts)
+
+-- a machine that was opened into an empty handle keeps a fresh record
+abbrev pub KeepsOpened : Option Recorded → Option Recorded → Type 0
+KeepsOpened (Some v) new = Unit {0}
+KeepsOpened None None = Unit {0}
+KeepsOpened None (Some v) = IsFresh v.kept
 
 -- the bytes of a record are put into a buffer, and make the machine again
 pub record PutsRecord (v : Recorded) (kept : Recording) (before after : List ℕ) (r : Outcome)

@@ -3,10 +3,10 @@ use Rattle.std.proofs.Common.{[], refl, sym, ◌∙◌, ap, replicate}
 use Rattle.std.specs.Str.Lines.{lines}
 use Rattle.torus.specs.Shape.{Shape, tiles_of}
 use Rattle.machine_asked.proofs.Openings.{no_lines}
-use Rattle.machine_asked.proofs.asked.AskedMachine.open.Goals as goal
+use Rattle.machine_asked.proofs.asked.AskedMachine.open_with_text.Goals as goal
 
-pub returns-then-is_built : goal.returns-then-is_built
-returns-then-is_built g c =
+pub returns-then-is_built-clause-opened : goal.returns-then-is_built-clause-opened
+returns-then-is_built-clause-opened g c =
     let built = c.is_built.ensures c.if-is_built.true in
     let loaded = c.in-Ok.ensures.loaded in
     record {
