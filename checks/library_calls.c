@@ -118,6 +118,7 @@ static void every_call_says_empty(torusmem_machine *m) {
   MUST(says(torusmem_run(m, &attempt, 1), TORUSMEM_EMPTY, 0) && says(torusmem_run(m, NULL, 0), TORUSMEM_EMPTY, 0));
   MUST(says(torusmem_round(m), TORUSMEM_EMPTY, 0));
   MUST(says(torusmem_finish(m), TORUSMEM_EMPTY, 0));
+  MUST(says(torusmem_clocked_round(m, 0), TORUSMEM_EMPTY, 0) && says(torusmem_finish_clocked(m), TORUSMEM_EMPTY, 0));
   MUST(says(torusmem_append(m, 0, TORUSMEM_LOAD, 0, 0, 0, 0), TORUSMEM_EMPTY, 0));
   MUST(says(torusmem_ask(m, 0, TORUSMEM_LOAD, 0, 0, 0, 0), TORUSMEM_EMPTY, 0));
   MUST(torusmem_answer_of(m, 0, 0).code == TORUSMEM_EMPTY);
@@ -740,6 +741,22 @@ static void memory_of_a_watch_stays(void) {
   MUST(live == 0);
 }
 
+/* Clocked rounds: of the script's store and its load behind a fence, each over one hop, each takes 4 + 2 * 4 + 5. */
+static void clocked_rounds(void) {
+  torusmem_machine m = TORUSMEM_MACHINE_INIT;
+  uint64_t turn = 0;
+  MUST(says(load(&m), TORUSMEM_OK, 0) && says(torusmem_finish_clocked(&m), TORUSMEM_OK, 34) && reports_well(&m));
+  MUST(says(torusmem_finish_clocked(&m), TORUSMEM_OK, 0));
+  torusmem_free(&m);
+  MUST(says(load(&m), TORUSMEM_OK, 0));
+  for (; torusmem_finished(&m).value == 0 && turn < 1000; turn++) {
+    MUST(says(torusmem_clocked_round(&m, turn), TORUSMEM_OK, 0));
+  }
+  MUST(turn == 34);
+  torusmem_free(&m);
+  MUST(live == 0);
+}
+
 static void codes(void) {
   torusmem_machine m = TORUSMEM_MACHINE_INIT, moved = TORUSMEM_MACHINE_INIT, other = TORUSMEM_MACHINE_INIT;
   every_call_says_empty(&m);
@@ -779,6 +796,7 @@ static void codes(void) {
   MUST(reports_well(&moved) && live > 0);
   torusmem_free(&moved);
   MUST(live == 0);
+  clocked_rounds();
 }
 
 /* An explanation and a verdict, for which memory may be refused. */
@@ -1038,6 +1056,11 @@ static void steps(void) {
   MUST(torusmem_finish(&m).code == TORUSMEM_OK && uses_of_memory() == before);
   look(&m);
   MUST(uses_of_memory() == before);
+  torusmem_free(&m);
+  MUST(says(load(&m), TORUSMEM_OK, 0));
+  before = uses_of_memory();
+  MUST(says(torusmem_clocked_round(&m, 0), TORUSMEM_OK, 0) && uses_of_memory() == before);
+  MUST(torusmem_finish_clocked(&m).code == TORUSMEM_OK && uses_of_memory() == before);
   torusmem_free(&m);
   MUST(!m.full && live == 0);
 }

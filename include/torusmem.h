@@ -238,6 +238,15 @@ torusmem_outcome torusmem_round(torusmem_machine *m);
 /* Makes rounds until every script is finished. OK, value: how many rounds, the least number that does; EMPTY. */
 torusmem_outcome torusmem_finish(torusmem_machine *m);
 
+/* Makes one clocked round: each choice that is enabled now is attempted once, in the order of a round, so that a flit goes
+   one stage at most. The puts of each router begin at input turn mod p, where p is the number of its inputs, and then come
+   those before it: give the number of rounds so far. OK, value 0; EMPTY. */
+torusmem_outcome torusmem_clocked_round(torusmem_machine *m, uint64_t turn);
+
+/* Makes clocked rounds, with the turns from 0 on, until every script is finished. OK, value: how many rounds, the least
+   number that does; EMPTY. */
+torusmem_outcome torusmem_finish_clocked(torusmem_machine *m);
+
 /* Lines of a script beside the operations: the next operation is issued when every earlier one is answered; loads of the
    address, one at a time, until one is answered with the first value, at most as many as the second says. */
 enum { TORUSMEM_FENCE = 10, TORUSMEM_SPIN = 11 };
@@ -706,6 +715,9 @@ static inline void torusmem_watch_end_marked(torusmem_watch *w) {
 #define torusmem_enabled(m, ...) torusmem_enabled(TORUSMEM_MACHINE(m, "torusmem_enabled"), __VA_ARGS__)
 #define torusmem_round(m) torusmem_round(TORUSMEM_MACHINE(m, "torusmem_round"))
 #define torusmem_finish(m) torusmem_finish(TORUSMEM_MACHINE(m, "torusmem_finish"))
+#define torusmem_clocked_round(m, ...) \
+  torusmem_clocked_round(TORUSMEM_MACHINE(m, "torusmem_clocked_round"), __VA_ARGS__)
+#define torusmem_finish_clocked(m) torusmem_finish_clocked(TORUSMEM_MACHINE(m, "torusmem_finish_clocked"))
 #define torusmem_append(m, ...) torusmem_append(TORUSMEM_MACHINE(m, "torusmem_append"), __VA_ARGS__)
 #define torusmem_ask(m, ...) torusmem_ask(TORUSMEM_MACHINE(m, "torusmem_ask"), __VA_ARGS__)
 #define torusmem_finished(m) torusmem_finished(TORUSMEM_MACHINE(m, "torusmem_finished"))

@@ -142,6 +142,8 @@ class machine {
   }
   void round() { granted("round", torusmem_round(&held_)); }
   uint64_t finish() { return granted("finish", torusmem_finish(&held_)); }
+  void clocked_round(uint64_t turn) { granted("clocked_round", torusmem_clocked_round(&held_, turn)); }
+  uint64_t finish_clocked() { return granted("finish_clocked", torusmem_finish_clocked(&held_)); }
 
   void append(uint32_t processor, uint32_t line, uint32_t address = 0, uint64_t first = 0, uint64_t second = 0,
               uint32_t lasts = 0) {

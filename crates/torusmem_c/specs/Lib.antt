@@ -2,6 +2,7 @@ pub mod Outcome
 pub mod Choices
 pub mod Held
 pub mod Steps
+pub mod Clocked
 pub mod Records
 pub mod Room
 pub mod Routes

@@ -3,6 +3,7 @@
 
 pub mod appending;
 mod choice;
+pub mod clocking;
 pub mod explaining;
 pub mod networks;
 pub mod opening;

@@ -77,6 +77,16 @@ class Runs(unittest.TestCase):
             self.assertEqual(machine.report(), read("report.txt"))
             self.assertEqual(machine.finish(), 0)
 
+    def test_the_first_run_in_clocked_rounds(self):
+        turn = 0
+        with first() as machine, first() as by_one:
+            self.assertEqual(machine.finish_clocked(), 34)
+            while not by_one.finished:
+                by_one.clocked_round(turn)
+                turn += 1
+            self.assertEqual(turn, 34)
+            self.assertEqual(machine.report(), by_one.report())
+
     def test_rounds_one_by_one(self):
         machine, rounds = first(), 0
         while not machine.finished:

@@ -100,6 +100,8 @@ CALLS = {
     "enabled": (Outcome, [_M, c_uint32, c_uint32, c_uint32]),
     "round": (Outcome, [_M]),
     "finish": (Outcome, [_M]),
+    "clocked_round": (Outcome, [_M, c_uint64]),
+    "finish_clocked": (Outcome, [_M]),
     "append": (Outcome, [_M, c_uint32, c_uint32, c_uint32, c_uint64, c_uint64, c_uint32]),
     "ask": (Outcome, [_M, c_uint32, c_uint32, c_uint32, c_uint64, c_uint64, c_uint32]),
     "finished": (Outcome, [_M]),

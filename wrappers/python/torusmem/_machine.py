@@ -123,6 +123,18 @@ class Machine(Looks):
         return self._value(self._calls.finish(self._at))
 
     @alone
+    def clocked_round(self, turn: int) -> None:
+        """Attempts each choice once that is enabled now, so that a flit goes one stage at most. The puts of each router begin
+        at input `turn` modulo the number of its inputs: give the number of rounds so far, below 2**64."""
+        self._value(self._calls.clocked_round(self._at, turn))
+
+    @alone
+    def finish_clocked(self) -> int:
+        """Makes clocked rounds, with the turns from 0 on, until every script is finished; how many. Such a call ends, and
+        can't be interrupted before."""
+        return self._value(self._calls.finish_clocked(self._at))
+
+    @alone
     def append(
         self,
         processor: int,

@@ -396,6 +396,17 @@ impl Machine {
         self.raw.finish().value
     }
 
+    /// Attempts each choice once that is enabled now, so that a flit goes one stage at most. The puts of each router
+    /// begin at input `turn` modulo the number of its inputs: give the number of rounds so far.
+    pub fn clocked_round(&mut self, turn: u64) {
+        self.raw.clocked_round(turn);
+    }
+
+    /// Makes clocked rounds, with the turns from 0 on, until every script is finished, and answers how many.
+    pub fn finish_clocked(&mut self) -> u64 {
+        self.raw.finish_clocked().value
+    }
+
     /// Whether every script is finished.
     pub fn finished(&mut self) -> bool {
         self.raw.finished().value == 1

@@ -84,6 +84,7 @@ impl Raw {
         enabled = torusmem_enabled(agent, choice, number) -> torusmem_outcome;
         round = torusmem_round() -> torusmem_outcome;
         finish = torusmem_finish() -> torusmem_outcome;
+        finish_clocked = torusmem_finish_clocked() -> torusmem_outcome;
         finished = torusmem_finished() -> torusmem_outcome;
         moves_left = torusmem_moves_left() -> torusmem_outcome;
         tiles = torusmem_tiles() -> torusmem_outcome;
@@ -96,6 +97,11 @@ impl Raw {
         entries = torusmem_entries(bank) -> torusmem_outcome;
         entry_at = torusmem_entry_at(bank, i) -> torusmem_entry;
         next = torusmem_next(at, input, dst) -> torusmem_outcome;
+    }
+
+    pub fn clocked_round(&mut self, turn: u64) -> torusmem_outcome {
+        // SAFETY: the machine is this one's alone, for as long as the call takes. The number may be any.
+        unsafe { torusmem_clocked_round(&mut self.0, turn) }
     }
 
     pub fn append(

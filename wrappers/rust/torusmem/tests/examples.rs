@@ -113,6 +113,17 @@ fn the_first_run_in_rounds() {
 }
 
 #[test]
+fn the_first_run_in_clocked_rounds() {
+    let (mut machine, mut by_one, mut turn) = (first(), first(), 0);
+    assert_eq!(machine.finish_clocked(), 34);
+    while !by_one.finished() {
+        by_one.clocked_round(turn);
+        turn += 1;
+    }
+    assert_eq!((turn, machine.word(5), by_one.word(5)), (34, Some(17), Some(17)));
+}
+
+#[test]
 fn the_flag_by_lists_of_steps_and_one_by_one() {
     let made = steps("examples/flag/steps.txt");
     let flag = || loaded("examples/flag/machine.txt", "examples/flag/script.txt");
