@@ -21,7 +21,7 @@ use Rattle.seat_wake.specs.Inner.{IsInner}
 use Rattle.seat_wake.specs.Sleeping.{RestsInside, Sleeps}
 use Rattle.seat_wake.proofs.Flags.{idle, known_idle, unable}
 
-true_isnt : (b : Bool) → b ≡ true → b ≡ false → ⊥
+pub true_isnt : (b : Bool) → b ≡ true → b ≡ false → ⊥
 true_isnt b h k = let e : ◌≡◌ {A = Bool} true false = sym h ∙ k in cc
 
 -- a flag that is lowered was before, or is that of the port

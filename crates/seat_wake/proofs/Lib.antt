@@ -4,3 +4,7 @@ pub mod Flags
 pub mod Ports
 pub mod Kept
 pub mod Falling
+mod Sides
+mod Bordering
+mod Filling
+pub mod Counting

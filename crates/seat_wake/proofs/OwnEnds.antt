@@ -43,7 +43,7 @@ module _ (s : Shape) (t : ℕ) where
       else agent_number (tile_after s x.tile x.kind) Router)) (injection_is s t class)
       ∙ tile_of_number t Router
 
-  wired : (a : Agent) → wiring_at s (agent_number t a) ≡ wiring_of s t a
+  pub wired : (a : Agent) → wiring_at s (agent_number t a) ≡ wiring_of s t a
   wired a = ap (λ (u : ℕ). wiring_of s u (agent_kind (agent_number t a))) (tile_of_number t a) ∙ ap (wiring_of s t) (kind_of_number t a)
 
   module _ (gs : List (List ℕ)) (mine : In gs t) where

@@ -1,4 +1,8 @@
-//! Laws of the choices of a seat that are asleep: what no other seat can enable, and what a move wakes.
+//! The choices of a seat that are asleep: laws of what other seats can enable, and the flags of a seat.
 #![tactic(auto)]
 
+mod border;
 pub mod laws;
+pub mod seat_flags;
+
+pub use seat_flags::SeatFlags;
