@@ -6,7 +6,7 @@ ghost use Rattle.fabric_rule.specs.Known.{tile_of, row_length};
 ghost use Rattle.fabric_rule.specs.Groups.{In};
 ghost use Rattle.fabric_rule.specs.Rule.{Attempted};
 ghost use Rattle.fabric.specs.Seats.{StandsAt};
-ghost use Rattle.seat_wake.specs.Counted.{AreRight};
+ghost use Rattle.seat_wake.specs.Counted.{AreRight, Falls};
 ghost use Rattle.fabric.specs.Turns.{StepMoves, StepIdles, OnlyTile, LearnsBoth, has_choice};
 ghost use Rattle.fabric.specs.declared.steps.Turned.TheVariants.{Moved, Idle, NotMine};
 
@@ -163,6 +163,7 @@ pub(crate) fn turn_tile<A: Allocator, B: Turning>(
     ensures mine { result ≢ NotMine }
     ensures rest { OnlyTile seat.old.me.0 (tile_of step) seat.new.me.0 }
     ensures flags { AreRight seat.new.me.0.load seat.new.me.0.run seat.new.me.0.groups flags.new }
+    ensures falls { result ≡ Idle → Falls step flags.old flags.new }
 {
     let Some(op) = tile_op(tile, step) else {
         flags.rests(step);

@@ -1,6 +1,6 @@
 //! Which choices of a seat's agents count as asleep, kept as its tiles are stepped.
 
-ghost use Rattle.std.specs.Prelude.{◌≡◌, ◌≢◌, ◌<◌, ◌≤◌, ◌++◌, ℕ, [], ◌∷◌, List, length};
+ghost use Rattle.std.specs.Prelude.{◌≡◌, ◌≢◌, ◌<◌, ◌≤◌, ◌↔◌, ◌++◌, ℕ, [], ◌∷◌, List, length};
 ghost use Rattle.std.specs.Prelude.{IfOk, IsTrue, MatchOption, Some, true, false};
 ghost use Rattle.std.specs.Slice.Scan.{HoldsNowhere, IsFirstPlace};
 ghost use Rattle.torus.specs.Shape.{dims_of, tiles_of};
@@ -17,7 +17,7 @@ ghost use Rattle.machine_parts.specs.Ports.{flags_of, is_raised};
 ghost use Rattle.fabric_rule.specs.Known.{known, enabled, op_of};
 ghost use Rattle.fabric_rule.specs.Groups.{In, Others};
 ghost use Rattle.seat_wake.specs.Border.{AreOf};
-ghost use Rattle.seat_wake.specs.Counted.{AreRight};
+ghost use Rattle.seat_wake.specs.Counted.{AreRight, ChoiceFalls, Falls, PortFalls};
 
 use crate::border::border;
 use flit_buffer::WordOp;
@@ -131,7 +131,8 @@ fn fill_tiles<A: Allocator>(ports: &mut RouterFlags<A>, from: usize, to: usize)
 #[inline(always)]
 fn is_lowered(set: &PortSet, tile: usize, port: u32) -> bool
     requires { tile < 64 }
-    ensures { IsTrue result → is_raised set.now tile port ≡ false }
+    ensures exact { port < 31 → (IsTrue result ↔ (is_raised set.now tile port ≡ false)) }
+    ensures low { IsTrue result → is_raised set.now tile port ≡ false }
 {
     if port >= 31 {
         return false;
@@ -220,6 +221,7 @@ impl<A: Allocator> SeatFlags<A> {
             → AreRight load run gs self.old → In gs (agent_tile step.agent)
             → has_choice (port_count (dims_of load.shape)) (agent_kind step.agent) step.choice ≡ true
             → enabled load run step ≡ false → AreRight load run gs self.new }
+        ensures falls { Falls step self.old self.new }
     {
         match agent_kind(step.agent) {
             Agent::Router => self.port_rests(agent_tile(step.agent) as usize, step.choice),
@@ -237,6 +239,7 @@ impl<A: Allocator> SeatFlags<A> {
             → has_choice (port_count (dims_of load.shape)) (agent_kind agent) choice ≡ true
             → enabled load run (record { agent = agent; choice = choice }) ≡ false
             → AreRight load run gs self.new }
+        ensures falls { ChoiceFalls agent choice self.old self.new }
     {
         match choice {
             Choice::Look => {}
@@ -251,6 +254,7 @@ impl<A: Allocator> SeatFlags<A> {
         ensures right { (load : Load) (run : List Step) (gs : List (List ℕ))
             → AreRight load run gs self.old → In gs tile
             → enabled load run (of_router tile choice) ≡ false → AreRight load run gs self.new }
+        ensures falls { PortFalls tile choice self.old self.new }
     {
         match choice {
             Choice::TakeFrom(input) => {

@@ -4,9 +4,7 @@ use Rattle.seat_wake.specs.Counted.{AreRight}
 use Rattle.seat_wake.proofs.Counting.{choice_right}
 use Rattle.seat_wake.proofs.seat_flags.SeatFlags.choice_rests.Goals as goal
 
-pub returns-in_default : goal.returns-in_default
-returns-in_default g c = record {
-  right = λ load run gs right mine other has out.
-      choice_right load gs run _ _ (subst (AreRight load run gs) (sym c.self.view_is) right) refl refl c.args.agent c.args.choice mine other c.in_default.not-Look has
-      out refl c.rest_choice.ensures.design c.rest_choice.ensures.flags;
-}
+pub returns-in_default-clause-right : goal.returns-in_default-clause-right
+returns-in_default-clause-right g c = λ load run gs right mine other has out.
+    choice_right load gs run _ _ (subst (AreRight load run gs) (sym c.self.view_is) right) refl refl c.args.agent c.args.choice mine other c.in_default.not-Look has
+    out refl c.rest_choice.ensures.design c.rest_choice.ensures.flags
