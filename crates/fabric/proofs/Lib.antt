@@ -14,3 +14,5 @@ mod Parting
 mod Slots
 mod Looking
 mod Refusing
+pub mod Counting
+mod Starting

@@ -25,7 +25,7 @@ use Rattle.fabric_rule.proofs.Runs.{known_away, tells, row_size, shown_row, row_
 use Rattle.fabric.specs.Turns.{is_ready, SeesIdle, StepMoves, StepIdles, OnlyTile}
 use Rattle.fabric.specs.Seats.{StandsAt}
 
-sees : (c : Step) (x : TilePlace) (v w : View) (n : ℕ) (t : Attempted c x v n w) (b : Bool) → moves x c n ≡ b → b ≡ false → SeesIdle v c w
+pub sees : (c : Step) (x : TilePlace) (v w : View) (n : ℕ) (t : Attempted c x v n w) (b : Bool) → moves x c n ≡ b → b ≡ false → SeesIdle v c w
 sees c x v w n t true e f = absurd (cc)
 sees c x v w n t false e f = (t.between, t.others, t.enabled_there ∙ e, t.view ∙ ap (λ (q : Bool). knowing v (grown q (v.run ++ t.between) c)) e)
 

@@ -3,7 +3,7 @@ use Rattle.std.specs.Prelude.{◌≡◌, ℕ, ◌<◌, ◌≤◌, nat_lt, ◌&&�
 use Rattle.std.specs.Prelude.{slice_get, Some, Option}
 use Rattle.atomic_table.specs.Seated.{TableId}
 use Rattle.atomic_table.specs.declared.shared.Seat.{Seat}
-use Rattle.torus.specs.Shape.{tiles_of}
+use Rattle.torus.specs.Shape.{Shape, tiles_of}
 use Rattle.fabric_rule.specs.Placed.{PlacedTile}
 use Rattle.fabric_rule.specs.Core.{Load}
 use Rattle.fabric_rule.specs.Runs.{IsAcceptedLoad}
@@ -54,3 +54,9 @@ pub record HasRest (z : TableId) (load : Load) (groups : List (List ℕ))
   pub loaded : s.me.0.load ≡ load
   pub run : s.me.0.run ≡ []
   pub grouped : s.me.0.groups ≡ groups
+
+-- a load's machine has this torus, channels of this depth, and so many words
+pub record IsBuilt (load : Load) (torus : Shape) (depth words : ℕ) : Type 0 where
+  pub torus_is : torus ≡ load.shape
+  pub depth_is : depth ≡ load.depth
+  pub words_are : words ≡ length load.opening

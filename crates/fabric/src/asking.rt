@@ -1,8 +1,11 @@
 //! What a seat says of its tiles, and a fabric of its routers, without a look at the row.
-ghost use Rattle.std.specs.Prelude.{◌≡◌, ◌≤◌, ◌<◌, ◌↔◌, ℕ, IsTrue, IfNone, IfSome};
+ghost use Rattle.std.specs.Prelude.{◌≡◌, ◌≤◌, ◌<◌, ◌↔◌, ℕ, false, IsTrue, IfNone, IfSome};
 ghost use Rattle.torus.specs.Shape.{dims_of, tiles_of};
 ghost use Rattle.channel_number.specs.Ports.{port_count};
+ghost use Rattle.torus.specs.declared.step.Choice.TheVariants.{TakeFrom, Put, CreditOf};
+ghost use Rattle.core_wake.specs.Routers.{of_router};
 ghost use Rattle.fabric_rule.specs.Runs.{IsAcceptedLoad};
+ghost use Rattle.fabric_rule.specs.Known.{enabled};
 ghost use Rattle.fabric_rule.specs.Groups.{Owns};
 ghost use Rattle.fabric_rule.specs.Ended.{AreAllFinished};
 ghost use Rattle.fabric.specs.Asking.{HasSeen, IsNextTile};
@@ -10,6 +13,7 @@ ghost use Rattle.fabric.specs.Lawful.{HasLawfulRun};
 
 use crate::seats::{Fabric, TileSeat};
 use std::alloc::Allocator;
+use torus::Choice;
 
 impl<A: Allocator> Fabric<A> {
     /// How many ports a router of the torus has.
@@ -41,6 +45,63 @@ impl<A: Allocator> TileSeat<A> {
             }
         }
         None
+    }
+
+    /// Whether a choice of a processor or a bank is worth an attempt: `false` only where it isn't enabled
+    /// after the run that the seat knows.
+    #[inline(always)]
+    pub fn is_awake(&self, agent: u32, choice: Choice) -> bool
+        requires { agent < 192 }
+        ensures { result ≡ false
+            → enabled self.now.load self.now.run (record { agent = agent; choice = choice }) ≡ false }
+    {
+        self.flags.is_choice_awake(agent as usize, choice)
+    }
+
+    /// The first input of a tile's router, from one on, whose take is worth an attempt; `ports` where
+    /// none is: the takes before it aren't enabled after the run that the seat knows.
+    #[inline(always)]
+    pub fn next_take(&self, tile: u32, from: u32, ports: u32) -> u32
+        requires tile { tile < 64 }
+        requires ports { (from ≤ ports) × (ports < 32) }
+        ensures within { (from ≤ result) × (result ≤ ports) }
+        ensures idle { (i : ℕ) → from ≤ i → i < result
+            → enabled self.now.load self.now.run (of_router tile (TakeFrom i)) ≡ false }
+    {
+        match self.flags.next_take(tile as usize, from, ports) {
+            Some(input) => input,
+            None => ports,
+        }
+    }
+
+    /// The same of the puts of a tile's router.
+    #[inline(always)]
+    pub fn next_put(&self, tile: u32, from: u32, ports: u32) -> u32
+        requires tile { tile < 64 }
+        requires ports { (from ≤ ports) × (ports < 32) }
+        ensures within { (from ≤ result) × (result ≤ ports) }
+        ensures idle { (i : ℕ) → from ≤ i → i < result
+            → enabled self.now.load self.now.run (of_router tile (Put i)) ≡ false }
+    {
+        match self.flags.next_put(tile as usize, from, ports) {
+            Some(input) => input,
+            None => ports,
+        }
+    }
+
+    /// The same of the credits of a tile's router, by its outputs.
+    #[inline(always)]
+    pub fn next_credit(&self, tile: u32, from: u32, ports: u32) -> u32
+        requires tile { tile < 64 }
+        requires ports { (from ≤ ports) × (ports < 32) }
+        ensures within { (from ≤ result) × (result ≤ ports) }
+        ensures idle { (o : ℕ) → from ≤ o → o < result
+            → enabled self.now.load self.now.run (of_router tile (CreditOf o)) ≡ false }
+    {
+        match self.flags.next_credit(tile as usize, from, ports) {
+            Some(output) => output,
+            None => ports,
+        }
     }
 
     /// Whether the seat has a tile, and all its processors have seen the end. If so, every script is

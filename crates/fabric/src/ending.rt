@@ -70,7 +70,11 @@ impl<A: Allocator> Fabric<A> {
             torus,
             opening,
         } = self;
-        let TileSeat { slots, mut seat } = seat;
+        let TileSeat {
+            slots,
+            mut seat,
+            flags: _,
+        } = seat;
         let behind = table.shared.split_seat::<Note>(&mut seat);
         let closed = table.close_with(seat);
         Final {

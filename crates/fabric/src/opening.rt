@@ -8,7 +8,7 @@ ghost use Rattle.fabric_rule.specs.Core.{Load};
 ghost use Rattle.fabric_rule.specs.Machine.{IsAfter};
 ghost use Rattle.fabric_rule.specs.Groups.{first_group, other_groups};
 ghost use Rattle.fabric.specs.Key.{ranges, Rises, count_up};
-ghost use Rattle.fabric.specs.Opening.{fresh, rises, can_deal, CanDeal, Rest, HasRest};
+ghost use Rattle.fabric.specs.Opening.{fresh, rises, can_deal, CanDeal, Rest, HasRest, IsBuilt};
 
 use crate::dealing::{Naming, named};
 use crate::seats::{Fabric, ProbeSeat, TileSeat};
@@ -18,14 +18,24 @@ use crate::view::Knowledge;
 use atomic_table::{Seat, Table};
 use channel_number::channel_count;
 use machine_core::{Machine, Parts, TileAgents};
+use seat_wake::SeatFlags;
 use std::alloc::{AllocError, Allocator};
 use std::marker::Brand;
 use torus::{Fault, Torus};
+
+/// What a machine is built to.
+#[derive(Drop)]
+struct Built {
+    torus: Torus,
+    depth: u32,
+    words: u32,
+}
 
 // The seat's first group becomes a tile seat with its tiles. What is left of the seat comes back.
 fn cut_off<A: Allocator + Copy>(
     alloc: A,
     row: &Row,
+    built: &Built,
     mut seat: Seat<(), Knowledge>,
     all: &mut Vec<Option<TileAgents<A>>, A>,
     from: usize,
@@ -36,6 +46,7 @@ fn cut_off<A: Allocator + Copy>(
     requires group { (first_group seat.me.0.groups ≡ count_up from (to - from)) × (from < to)
         × (to ≤ tiles_of seat.me.0.load.shape) }
     requires all { Rest seat.me.0.load all.old.items from }
+    requires built { IsBuilt seat.me.0.load built.now.torus built.now.depth built.now.words }
     ensures seat { IfOk result
         (λ r. r.0 ≡ fresh row.now.table_id seat.me.0.load (count_up from (to - from))) }
     ensures left { IfOk result
@@ -44,13 +55,15 @@ fn cut_off<A: Allocator + Copy>(
 {
     let other = row.split_seat::<Halves>(&mut seat);
     let slots = taken(alloc, all, from, to)?;
-    Ok((TileSeat { slots, seat }, other))
+    let flags = SeatFlags::new(alloc, built.torus, built.depth, built.words, from, to)?;
+    Ok((TileSeat { slots, seat, flags }, other))
 }
 
 // A tile seat for each range of tiles, and a seat with no tile.
 fn deal<A: Allocator + Copy>(
     alloc: A,
     row: &Row,
+    built: &Built,
     seat: Seat<(), Knowledge>,
     all: &mut Vec<Option<TileAgents<A>>, A>,
     cuts: &[usize],
@@ -60,6 +73,7 @@ fn deal<A: Allocator + Copy>(
         × (0 < row.now.table_id.words) }
     requires cuts { Rises 0 cuts.now count × (count ≡ tiles_of seat.me.0.load.shape) }
     requires all { Rest seat.me.0.load all.old.items 0 }
+    requires built { IsBuilt seat.me.0.load built.now.torus built.now.depth built.now.words }
     ensures seats { IfOk result
         (λ r. r.0.items ≡ map (fresh row.now.table_id seat.me.0.load) (ranges 0 cuts.now count)) }
     ensures left { IfOk result (λ r. HasRest row.now.table_id seat.me.0.load [] r.1) }
@@ -68,12 +82,12 @@ fn deal<A: Allocator + Copy>(
     let mut rest = seat;
     let mut from = 0;
     for cut in cuts {
-        let (one, other) = cut_off(alloc, row, rest, all, from, *cut)?;
+        let (one, other) = cut_off(alloc, row, built, rest, all, from, *cut)?;
         seats.push(one)?;
         rest = other;
         from = *cut;
     }
-    let (one, other) = cut_off(alloc, row, rest, all, from, count)?;
+    let (one, other) = cut_off(alloc, row, built, rest, all, from, count)?;
     seats.push(one)?;
     Ok((seats, other))
 }
@@ -163,10 +177,15 @@ impl<A: Allocator + Copy> Fabric<A> {
         let (table, seat) = Table::of_words(alloc, row.as_slice(), &dealing)?;
         let count = tiles.len();
         let mut all = filled(alloc, tiles)?;
-        let (seats, mut rest) = deal(alloc, &table.shared, seat, &mut all, cuts, count)?;
+        let words = opening.len();
+        let built = Built {
+            torus,
+            depth,
+            words: words as u32,
+        };
+        let (seats, mut rest) = deal(alloc, &table.shared, &built, seat, &mut all, cuts, count)?;
         let probes = lookers(alloc, &table.shared, &mut rest, probes)?;
         let base = memory_base(&torus, depth);
-        let words = opening.len();
         let ports = ports_of(&torus);
         let fabric = Fabric {
             table,

@@ -12,6 +12,7 @@ use crate::steps::{Both, Halves, Look, Merge, Note, OneRun, Turned, take_in, tur
 use crate::view::{Dealing, Knowledge};
 use atomic_table::{Seat, Table};
 use machine_core::{TileAgents, agent_kind, agent_tile};
+use seat_wake::SeatFlags;
 use std::alloc::{Allocator, Global};
 use std::marker::{Brand, Model};
 use torus::{Step, Torus};
@@ -60,16 +61,20 @@ impl<A: Allocator> Model for Fabric<A> {
 pub struct TileSeat<A: Allocator = Global> {
     pub(crate) slots: Vec<Option<TileAgents<A>>, A>,
     pub(crate) seat: Seat<(), Knowledge>,
+    // Which choices of its tiles' agents count as asleep.
+    pub(crate) flags: SeatFlags<A>,
 }
 
 impl<A: Allocator> Model for TileSeat<A> {
+    ghost use Rattle.seat_wake.specs.Counted.{AreRight};
     ghost use Rattle.fabric.specs.Seats.{Knowing, seat_knows, Seated};
 
     ghost Value = { Knowing };
 
     ghost view = { λ s. seat_knows s.seat };
 
-    ghost invariant = { λ s. Seated s.slots.items s.seat };
+    ghost invariant = { λ s. Seated s.slots.items s.seat
+        × AreRight s.seat.me.0.load s.seat.me.0.run s.seat.me.0.groups s.flags };
 }
 
 /// A seat with no tile, which only looks.
@@ -112,7 +117,13 @@ impl<A: Allocator> Fabric<A> {
         if !agent_kind(step.agent).has_choice(step.choice, self.ports) {
             return Turned::NotMine;
         }
-        turn_tile::<A, Brand>(&self.table.shared, &mut seat.seat, tile, step)
+        turn_tile::<A, Brand>(
+            &self.table.shared,
+            &mut seat.seat,
+            &mut seat.flags,
+            tile,
+            step,
+        )
     }
 
     // The memory word at an address, after the run that the seat knows then.
@@ -164,18 +175,24 @@ impl<A: Allocator> Fabric<A> {
             × HasLawfulRun result.1.load result.1.run }
         ensures answers_first { KeepsBothFirst one other result.0 × KeepsBothFirst one other result.1 }
     {
-        let TileSeat { slots, mut seat } = one;
+        let TileSeat {
+            slots,
+            mut seat,
+            flags,
+        } = one;
         let TileSeat {
             slots: other_slots,
             seat: other_seat,
+            flags: other_flags,
         } = other;
         let row = &self.table.shared;
         take_in(row, &mut seat, other_seat, self.base + self.words);
         let other_seat = row.split_seat::<Halves>(&mut seat);
-        let one = TileSeat { slots, seat };
+        let one = TileSeat { slots, seat, flags };
         let other = TileSeat {
             slots: other_slots,
             seat: other_seat,
+            flags: other_flags,
         };
         (one, other)
     }
@@ -190,6 +207,7 @@ impl<A: Allocator> Fabric<A> {
         let TileSeat {
             slots,
             seat: mut teller,
+            flags,
         } = other;
         let row = &self.table.shared;
         let told = row.split_seat::<Note>(&mut teller);
@@ -198,6 +216,7 @@ impl<A: Allocator> Fabric<A> {
         let other = TileSeat {
             slots,
             seat: teller,
+            flags,
         };
         (probe, other)
     }
@@ -210,16 +229,22 @@ impl<A: Allocator> Fabric<A> {
         ensures one_order { HasLawfulRun result.load result.run }
         ensures answers_first { KeepsBothFirst one other result }
     {
-        let TileSeat { slots, mut seat } = one;
+        let TileSeat {
+            slots,
+            mut seat,
+            mut flags,
+        } = one;
         let TileSeat {
             slots: other_slots,
             seat: other_seat,
+            flags: _,
         } = other;
         let row = &self.table.shared;
         row.join_seat::<Both>(&mut seat, other_seat);
         row.load::<Merge>(&mut seat, self.base + self.words);
         let slots = mix(slots, other_slots);
-        TileSeat { slots, seat }
+        flags.rouse();
+        TileSeat { slots, seat, flags }
     }
 }
 

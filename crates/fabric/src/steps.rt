@@ -6,13 +6,15 @@ ghost use Rattle.fabric_rule.specs.Known.{tile_of, row_length};
 ghost use Rattle.fabric_rule.specs.Groups.{In};
 ghost use Rattle.fabric_rule.specs.Rule.{Attempted};
 ghost use Rattle.fabric.specs.Seats.{StandsAt};
-ghost use Rattle.fabric.specs.Turns.{StepMoves, StepIdles, OnlyTile, LearnsBoth};
+ghost use Rattle.seat_wake.specs.Counted.{AreRight, Falls};
+ghost use Rattle.fabric.specs.Turns.{StepMoves, StepIdles, OnlyTile, LearnsBoth, has_choice};
 ghost use Rattle.fabric.specs.declared.steps.Turned.TheVariants.{Moved, Idle, NotMine};
 
 use crate::view::{Dealing, Knowledge};
 use atomic_table::{Join, Play, Seat, Shared, Split, TableRule};
 use flit_buffer::WordOp;
 use machine_core::{TileAgents, agent_kind};
+use seat_wake::SeatFlags;
 use std::alloc::Allocator;
 use std::marker::{Brand, PhantomData};
 use tile_laws::Agent;
@@ -140,6 +142,7 @@ pub enum Turned {
 pub(crate) fn turn_tile<A: Allocator, B: Turning>(
     row: &Row,
     seat: &mut Seat<(), Knowledge>,
+    flags: &mut SeatFlags<A>,
     tile: &mut TileAgents<A>,
     step: Step,
 ) -> Turned
@@ -150,6 +153,8 @@ pub(crate) fn turn_tile<A: Allocator, B: Turning>(
     requires load { IsAcceptedLoad B.view.load }
     requires seat { (B.view.live ≡ true) × (B.view.told ≡ []) × In B.view.groups (tile_of B.step) }
     requires tile { StandsAt B.view.load B.view.run (tile_of step) tile.old }
+    requires flags { AreRight B.view.load B.view.run B.view.groups flags.old }
+    requires choice { has_choice B.view.load.shape step ≡ true }
     ensures seat { (seat.new.table_id ≡ seat.old.table_id) × (seat.new.id ≡ seat.old.id)
         × (seat.new.me.1 ≡ seat.old.me.1) }
     ensures tile { StandsAt seat.new.me.0.load seat.new.me.0.run (tile_of step) tile.new }
@@ -157,14 +162,23 @@ pub(crate) fn turn_tile<A: Allocator, B: Turning>(
     ensures idle { result ≡ Idle → StepIdles seat.old.me.0 step seat.new.me.0 }
     ensures mine { result ≢ NotMine }
     ensures rest { OnlyTile seat.old.me.0 (tile_of step) seat.new.me.0 }
+    ensures flags { AreRight seat.new.me.0.load seat.new.me.0.run seat.new.me.0.groups flags.new }
+    ensures falls { result ≡ Idle → Falls step flags.old flags.new }
 {
     let Some(op) = tile_op(tile, step) else {
+        flags.rests(step);
         return Turned::Idle;
     };
     let found = perform::<A, B>(row, seat, step, tile, op);
     match tile.absorb(step, found) {
-        Stepped::Moved => Turned::Moved,
-        Stepped::Idle => Turned::Idle,
+        Stepped::Moved => {
+            flags.moved(step, op);
+            Turned::Moved
+        }
+        Stepped::Idle => {
+            flags.rests(step);
+            Turned::Idle
+        }
     }
 }
 

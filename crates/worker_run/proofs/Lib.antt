@@ -1,3 +1,4 @@
 pub mod Rounds
 pub mod Moving
 pub mod Going
+pub mod Skips

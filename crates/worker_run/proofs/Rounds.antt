@@ -9,6 +9,10 @@ use Rattle.torus.specs.declared.step.Step.{Step}
 use Rattle.torus.specs.declared.step.Choice.{Choice}
 use Rattle.torus.specs.declared.step.Choice.TheVariants.{TakeFrom, Put, CreditOf}
 use Rattle.fabric_rule.specs.Core.{attempts_of, round_at}
+use Rattle.worker_run.specs.Places.{choice_count}
+use Rattle.worker_run.specs.RouterTurns.{choice_of, start_of}
+use Rattle.worker_run.specs.declared.router_turns.Port.{Port}
+use Rattle.worker_run.specs.declared.router_turns.Port.TheVariants.{Take, Put as PutAt, Credit}
 use Rattle.torus.specs.Choices.{processor_choices, router_choices, bank_choices}
 
 -- an element of the first list stands in both together, and one of the second stands behind it
@@ -134,3 +138,14 @@ pub bank_place : (ports t j i : ℕ) (c : Choice) → i ≡ 5 + 3 * ports + j �
 bank_place ports t j i c e is =
     let back : j ≡ i - 5 - 3 * ports = omega (arith, e) in
     bank_step ports t i c (omega (arith, e)) (subst (λ (n : ℕ). slice_get bank_choices n ≡ Some c) back is)
+
+-- the choice of a router at a port, by its kind
+pub port_step : (kind : Port) (ports t k : ℕ) → k < ports → slice_get (round_at ports t) (start_of ports kind + k) ≡ Some (record { agent = 3 * t + 1; choice = choice_of kind k })
+port_step Take ports t k low = take_step ports t k (5 + k) refl low
+port_step PutAt ports t k low = put_step ports t k (5 + ports + k) refl low
+port_step Credit ports t k low = credit_step ports t k (5 + 2 * ports + k) refl low
+
+pub within_tile : (kind : Port) (ports k : ℕ) → k ≤ ports → start_of ports kind + k < choice_count ports
+within_tile Take ports k le = omega (arith, le)
+within_tile PutAt ports k le = omega (arith, le)
+within_tile Credit ports k le = omega (arith, le)

@@ -3,3 +3,4 @@ pub mod Places
 pub mod Calls
 pub mod Watching
 pub mod Going
+pub mod RouterTurns

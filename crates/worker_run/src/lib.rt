@@ -2,7 +2,9 @@
 #![tactic(auto)]
 
 pub mod gate;
+pub mod laws;
 pub mod place;
+mod router_turns;
 mod turns;
 pub mod watch;
 pub mod worker;

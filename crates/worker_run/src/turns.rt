@@ -1,10 +1,12 @@
 //! The turns of a worker at a tile, but for the last: the choices of its agents, agent by agent. Each
 //! attempt names its choice, so that little is left of it once the calls are inlined.
-ghost use Rattle.std.specs.Prelude.{◌<◌, ◌+◌, ◌*◌, ℕ};
+ghost use Rattle.std.specs.Prelude.{◌≡◌, ◌<◌, ◌+◌, ◌*◌, ℕ, false};
+ghost use Rattle.fabric_rule.specs.Known.{enabled};
 ghost use Rattle.fabric.specs.Seats.{IsSeatOf};
 ghost use Rattle.worker_run.specs.Going.{Leads, Tries, at_place};
 
 use crate::gate::Gate;
+use crate::router_turns::{Port, router_turns};
 use fabric::seats::{Fabric, TileSeat};
 use fabric::steps::Turned;
 use std::alloc::Allocator;
@@ -57,6 +59,56 @@ fn is_look(choice: Choice) -> bool {
     matches!(choice, Choice::Look)
 }
 
+/// Counts a turn of a choice that isn't enabled, where a turn is left and the gate lets it.
+#[inline(always)]
+pub(crate) fn leave_out<A: Allocator, G: Gate>(
+    seat: &TileSeat<A>,
+    gate: &G,
+    worker: usize,
+    run: &mut Run,
+    agent: u32,
+    choice: Choice,
+)
+    requires idle { enabled seat.now.load seat.now.run (record { agent = agent; choice = choice })
+        ≡ false }
+    ensures { Tries (G.stops gate.now worker) run.old seat.now
+        (record { agent = agent; choice = choice }) run.new seat.now }
+{
+    let _ = seat;
+    if run.most <= run.made {
+        return;
+    }
+    if !gate.before(worker, Step { agent, choice }) {
+        run.most = run.made;
+        return;
+    }
+    run.made += 1;
+}
+
+/// Attempts a choice of a processor or a bank, or leaves it out where it is asleep.
+#[inline(always)]
+pub(crate) fn attempt_awake<A: Allocator, G: Gate>(
+    fabric: &Fabric<A>,
+    seat: &mut TileSeat<A>,
+    gate: &G,
+    worker: usize,
+    run: &mut Run,
+    agent: u32,
+    choice: Choice,
+)
+    requires own { IsSeatOf fabric.now seat.old }
+    requires agent { agent < 192 }
+    ensures own { IsSeatOf fabric.now seat.new }
+    ensures tried { Tries (G.stops gate.now worker) run.old seat.old
+        (record { agent = agent; choice = choice }) run.new seat.new }
+{
+    if !seat.is_awake(agent, choice) {
+        leave_out(seat, gate, worker, run, agent, choice);
+        return;
+    }
+    attempt(fabric, seat, gate, worker, run, agent, choice);
+}
+
 /// All choices of a tile's agents but the last, where a router has so many ports.
 #[inline(always)]
 pub(crate) fn tile_turns<A: Allocator, G: Gate>(
@@ -70,14 +122,15 @@ pub(crate) fn tile_turns<A: Allocator, G: Gate>(
 )
     requires own { IsSeatOf fabric.now seat.old }
     requires tile { tile < 64 }
+    requires ports { ports < 32 }
     ensures own { IsSeatOf fabric.now seat.new }
     ensures leads { Leads (G.stops gate.now worker) ports run.old seat.old (at_place tile 0) run.new
         seat.new (at_place tile (8 + 3 * ports)) }
 {
     processor_turns(fabric, seat, gate, worker, run, tile);
-    router_takes(fabric, seat, gate, worker, run, tile, ports);
-    router_puts(fabric, seat, gate, worker, run, tile, ports);
-    router_credits(fabric, seat, gate, worker, run, tile, ports);
+    router_turns(fabric, seat, gate, worker, run, tile, ports, Port::Take);
+    router_turns(fabric, seat, gate, worker, run, tile, ports, Port::Put);
+    router_turns(fabric, seat, gate, worker, run, tile, ports, Port::Credit);
     bank_turns(fabric, seat, gate, worker, run, tile);
 }
 
@@ -98,96 +151,11 @@ fn processor_turns<A: Allocator, G: Gate>(
         (at_place tile 0) run.new seat.new (at_place tile 5) }
 {
     let agent = 3 * tile;
-    attempt(fabric, seat, gate, worker, run, agent, Choice::Send);
-    attempt(fabric, seat, gate, worker, run, agent, Choice::Take);
-    attempt(fabric, seat, gate, worker, run, agent, Choice::Credit);
-    attempt(fabric, seat, gate, worker, run, agent, Choice::Done);
+    attempt_awake(fabric, seat, gate, worker, run, agent, Choice::Send);
+    attempt_awake(fabric, seat, gate, worker, run, agent, Choice::Take);
+    attempt_awake(fabric, seat, gate, worker, run, agent, Choice::Credit);
+    attempt_awake(fabric, seat, gate, worker, run, agent, Choice::Done);
     attempt(fabric, seat, gate, worker, run, agent, Choice::Look);
-}
-
-// The takes of a tile's router, of each of its inputs.
-#[inline(always)]
-fn router_takes<A: Allocator, G: Gate>(
-    fabric: &Fabric<A>,
-    seat: &mut TileSeat<A>,
-    gate: &G,
-    worker: usize,
-    run: &mut Run,
-    tile: u32,
-    ports: u32,
-)
-    requires own { IsSeatOf fabric.now seat.old }
-    requires tile { tile < 64 }
-    ensures own { IsSeatOf fabric.now seat.new }
-    ensures leads { Leads (G.stops gate.now worker) ports run.old seat.old (at_place tile 5) run.new
-        seat.new (at_place tile (5 + ports)) }
-{
-    let agent = 3 * tile + 1;
-    for input in 0..ports {
-        attempt(
-            fabric,
-            seat,
-            gate,
-            worker,
-            run,
-            agent,
-            Choice::TakeFrom(input),
-        );
-    }
-}
-
-// The puts of a tile's router, of each of its inputs.
-#[inline(always)]
-fn router_puts<A: Allocator, G: Gate>(
-    fabric: &Fabric<A>,
-    seat: &mut TileSeat<A>,
-    gate: &G,
-    worker: usize,
-    run: &mut Run,
-    tile: u32,
-    ports: u32,
-)
-    requires own { IsSeatOf fabric.now seat.old }
-    requires tile { tile < 64 }
-    ensures own { IsSeatOf fabric.now seat.new }
-    ensures leads { Leads (G.stops gate.now worker) ports run.old seat.old
-        (at_place tile (5 + ports)) run.new seat.new (at_place tile (5 + 2 * ports)) }
-{
-    let agent = 3 * tile + 1;
-    for input in 0..ports {
-        attempt(fabric, seat, gate, worker, run, agent, Choice::Put(input));
-    }
-}
-
-// The credits of a tile's router, of each of its outputs.
-#[inline(always)]
-fn router_credits<A: Allocator, G: Gate>(
-    fabric: &Fabric<A>,
-    seat: &mut TileSeat<A>,
-    gate: &G,
-    worker: usize,
-    run: &mut Run,
-    tile: u32,
-    ports: u32,
-)
-    requires own { IsSeatOf fabric.now seat.old }
-    requires tile { tile < 64 }
-    ensures own { IsSeatOf fabric.now seat.new }
-    ensures leads { Leads (G.stops gate.now worker) ports run.old seat.old
-        (at_place tile (5 + 2 * ports)) run.new seat.new (at_place tile (5 + 3 * ports)) }
-{
-    let agent = 3 * tile + 1;
-    for output in 0..ports {
-        attempt(
-            fabric,
-            seat,
-            gate,
-            worker,
-            run,
-            agent,
-            Choice::CreditOf(output),
-        );
-    }
 }
 
 // The choices of a tile's bank, but for the last.
@@ -207,7 +175,7 @@ fn bank_turns<A: Allocator, G: Gate>(
         (at_place tile (5 + 3 * ports)) run.new seat.new (at_place tile (8 + 3 * ports)) }
 {
     let agent = 3 * tile + 2;
-    attempt(fabric, seat, gate, worker, run, agent, Choice::Take);
-    attempt(fabric, seat, gate, worker, run, agent, Choice::Serve);
-    attempt(fabric, seat, gate, worker, run, agent, Choice::Send);
+    attempt_awake(fabric, seat, gate, worker, run, agent, Choice::Take);
+    attempt_awake(fabric, seat, gate, worker, run, agent, Choice::Serve);
+    attempt_awake(fabric, seat, gate, worker, run, agent, Choice::Send);
 }

@@ -6,7 +6,7 @@ ghost use Rattle.worker_run.specs.Working.{Working, HasWorked};
 
 use crate::gate::Gate;
 use crate::place::Place;
-use crate::turns::{Run, attempt, tile_turns};
+use crate::turns::{Run, attempt_awake, tile_turns};
 use crate::watch::Watch;
 use crate::worker::{End, Worker};
 use fabric::seats::{Fabric, TileSeat};
@@ -130,7 +130,7 @@ fn make_turns<A: Allocator, G: Gate, V: Watch>(
         let next = last.after(ports, seat);
         let made = run.made;
         let agent = 3 * place.tile + 2;
-        attempt(fabric, seat, gate, worker, &mut run, agent, Choice::Credit);
+        attempt_awake(fabric, seat, gate, worker, &mut run, agent, Choice::Credit);
         if run.made <= made {
             return run.made;
         }

@@ -2,10 +2,10 @@ use Rattle.std.proofs.Common.{rules, arith, refl, sym, ◌≡◌, ℕ, List, [],
 use Rattle.std.proofs.lemmas.List.{drop_more}
 use Rattle.torus.specs.Shape.{tiles_of}
 use Rattle.fabric_rule.specs.Core.{Load}
-use Rattle.fabric_rule.specs.Groups.{other_groups}
+use Rattle.fabric_rule.specs.Groups.{first_group, other_groups}
 use Rattle.fabric.specs.Key.{ranges, Rises}
 use Rattle.fabric.specs.Seats.{Knowing}
-use Rattle.fabric.specs.Opening.{fresh, HasRest}
+use Rattle.fabric.specs.Opening.{fresh, HasRest, IsBuilt}
 use Rattle.fabric.proofs.Looking.{rest_itself}
 use Rattle.fabric.proofs.Ranges.{range_here}
 use Rattle.fabric.proofs.Parting.{drop_none, part_more, part_last, fresh_as_loaded, rest_as_loaded}
@@ -73,3 +73,20 @@ returns-clause-left g c =
     let none : drop c.loop-cut.cut-index c.args.cuts.now ≡ [] = drop_none c.args.cuts.now c.loop-cut.cut-index (omega arith) in
     subst (λ (p : Load × List (List ℕ)). HasRest c.args.row.now.table_id p.0 p.1 c.in_ok-one-2.other)
     (λ j. (i.seat.loaded j, ap other_groups (i.seat.grouped ∙ ap (λ (l : List ℕ). ranges c.loop-cut.from l c.args.count) none) j)) c.in_ok-one-2.ensures.left
+
+pub cut_off-requires-clause-built : goal.cut_off-requires-clause-built
+cut_off-requires-clause-built g c = subst (λ (l : Load). IsBuilt l c.args.built.now.torus c.args.built.now.depth c.args.built.now.words) (sym c.loop-cut.invariant.seat.loaded) c.requires.built
+
+pub cut_off-requires-2-clause-built : goal.cut_off-requires-2-clause-built
+cut_off-requires-2-clause-built g c = subst (λ (l : Load). IsBuilt l c.args.built.now.torus c.args.built.now.depth c.args.built.now.words) (sym c.loop-cut.invariant.seat.loaded) c.requires.built
+
+pub cut_off-requires-2-clause-group : goal.cut_off-requires-2-clause-group
+cut_off-requires-2-clause-group g c =
+    let i = c.loop-cut.invariant in
+    let none : drop c.loop-cut.cut-index c.args.cuts.now ≡ [] = drop_none c.args.cuts.now c.loop-cut.cut-index (omega arith) in
+    let same = ap (λ (l : Load). tiles_of l.shape) i.seat.loaded in
+    let q = c.requires.cuts.1 in (
+      ap first_group (i.seat.grouped ∙ ap (λ (l : List ℕ). ranges c.loop-cut.from l c.args.count) none),
+      subst (λ (l : List ℕ). Rises c.loop-cut.from l c.args.count) none i.rises,
+      omega (arith, q, same),
+    )

@@ -3,5 +3,5 @@ use Rattle.worker_run.proofs.turns.processor_turns.Goals as goal
 
 pub returns-clause-leads : goal.returns-clause-leads
 returns-clause-leads g c = λ ports.
-    by_processor (g.G.Gate.stops c.args.gate.now c.args.worker) ports c.args.tile _ _ _ _ _ _ _ _ _ _ _ _ c.attempt.ensures.tried c.attempt-2.ensures.tried
-    c.attempt-3.ensures.tried c.attempt-4.ensures.tried c.attempt-5.ensures.tried
+    by_processor (g.G.Gate.stops c.args.gate.now c.args.worker) ports c.args.tile _ _ _ _ _ _ _ _ _ _ _ _ c.attempt_awake.ensures.tried c.attempt_awake-2.ensures.tried
+    c.attempt_awake-3.ensures.tried c.attempt_awake-4.ensures.tried c.attempt.ensures.tried

@@ -35,11 +35,11 @@ pub returns-then-run-made : goal.returns-then-run-made
 returns-then-run-made g c =
     let k = c.loop.invariant in
     let over = tile_over (g.G.Gate.stops c.args.gate.now c.args.worker) c.args.turns c.ports-ports.result c.args.seat.now c.first-place.result c.loop.place
-    c.loop.run c.tile_turns.new.run c.attempt.new.run c.loop.seat c.tile_turns.new.seat c.attempt.new.seat
+    c.loop.run c.tile_turns.new.run c.attempt_awake.new.run c.loop.seat c.tile_turns.new.seat c.attempt_awake.new.seat
     (g.V.Watch.heard c.args.watch.now c.args.worker c.args.kept.now) (g.V.Watch.heard c.args.watch.now c.args.worker c.loop.kept)
-    k.start c.tile_turns.ensures.leads c.attempt.ensures.tried k.so_far c.if-run-made.true in (
+    k.start c.tile_turns.ensures.leads c.attempt_awake.ensures.tried k.so_far c.if-run-made.true in (
       k.so_far.0,
-      told_over _ c.args.turns c.ports-ports.result c.attempt.new.run.made c.args.seat.now c.attempt.new.seat c.first-place.result k.so_far.0
+      told_over _ c.args.turns c.ports-ports.result c.attempt_awake.new.run.made c.args.seat.now c.attempt_awake.new.seat c.first-place.result k.so_far.0
           c.first-place.ensures.first
           (ports_are c.ports-ports.result c.args.fabric.now c.args.seat.now c.ports-ports.ensures c.requires)
           over.0
@@ -55,16 +55,16 @@ loop-preserved g c =
     let counted = k.counted in
     let later = c.tile_turns.ensures.leads.later in
     record {
-      own = c.attempt.ensures.own;
+      own = c.attempt_awake.ensures.own;
       within = within_ports _ _ c.after-next.result
           (ports_are c.ports-ports.result c.args.fabric.now c.tile_turns.new.seat c.ports-ports.ensures c.tile_turns.ensures.own)
           c.after-next.ensures.within;
       start = next_starts c.ports-ports.result c.loop.place.tile c.tile_turns.new.seat.tiles c.after-next.result c.after-next.ensures.follows;
       counted = omega (arith, more, counted, later);
       so_far = tile_on (g.G.Gate.stops c.args.gate.now c.args.worker) c.args.turns c.ports-ports.result c.args.seat.now c.first-place.result c.loop.place
-          c.loop.run c.tile_turns.new.run c.attempt.new.run c.loop.seat c.tile_turns.new.seat c.attempt.new.seat
+          c.loop.run c.tile_turns.new.run c.attempt_awake.new.run c.loop.seat c.tile_turns.new.seat c.attempt_awake.new.seat
           (g.V.Watch.heard c.args.watch.now c.args.worker c.args.kept.now) (g.V.Watch.heard c.args.watch.now c.args.worker c.loop.kept)
-          k.start c.tile_turns.ensures.leads c.attempt.ensures.tried k.so_far
+          k.start c.tile_turns.ensures.leads c.attempt_awake.ensures.tried k.so_far
           c.after-next.result c.rested.result (g.V.Watch.heard c.args.watch.now c.args.worker c.tell_turn-is_over.new.kept)
           c.after-next.ensures.follows more c.tell_turn-is_over.ensures;
     }
@@ -84,3 +84,12 @@ returns g c =
           over.1,
       k.so_far.2,
     )
+
+pub tile_turns-requires-clause-ports : goal.tile_turns-requires-clause-ports
+tile_turns-requires-clause-ports g c =
+    let e = ports_are c.ports-ports.result c.args.fabric.now c.args.seat.now c.ports-ports.ensures c.requires in
+    let few = c.accepted.ensures.accepted.shape.dims_high in
+    omega (arith, e, few)
+
+pub attempt_awake-requires-clause-agent : goal.attempt_awake-requires-clause-agent
+attempt_awake-requires-clause-agent g c = let low = c.loop.invariant.within.tile in omega (arith, low)

@@ -95,3 +95,26 @@ returns-clause-probes g c =
     let loaded : c.in_ok-table.seat.me.0.load ≡ c.in_ok-table.table.shared.key.load = ap (λ m. m.0.load) t.4 ∙ ap (λ (o : Opening). o.load) (sym t.5) in
     c.in_ok-probes.ensures ∙ ap (λ (l : Load). replicate c.args.probes (fresh c.in_ok-table.table.shared.table_id l []))
     (c.in_ok-seats.ensures.left.loaded ∙ loaded)
+
+pub deal-requires-clause-built : goal.deal-requires-clause-built
+deal-requires-clause-built g c =
+    let p = c.into_parts-torus.ensures in
+    let h = c.requires.load in
+    let counted = c.into_parts-torus.result.opening.ok.0 in
+    let words : c.len-words.result ≡ length c.into_parts-torus.result.opening.items = omega (arith, c.len-words.ensures) in
+    let load : g.B.Naming.opening.load ≡ c.in_ok-table.seat.me.0.load =
+    sym (ap (λ m. m.0.load) c.in_ok-table.ensures.4 ∙ ap (λ (o : Opening). o.load) c.in_ok-dealing.ensures) in
+    record {
+      torus_is = p.loaded.0 ∙ h.shape ∙ ap (λ (l : Load). l.shape) load;
+      depth_is = p.loaded.1 ∙ h.depth ∙ ap (λ (l : Load). l.depth) load;
+      words_are = words ∙ ap length (p.loaded.3 ∙ h.opening) ∙ ap (λ (l : Load). length l.opening) load;
+    }
+
+pub overflow_cast-built : goal.overflow_cast-built
+overflow_cast-built g c =
+    let p = c.into_parts-torus.ensures in
+    let counted = c.into_parts-torus.result.opening.ok.0 in
+    let words : c.len-words.result ≡ length c.into_parts-torus.result.opening.items = omega (arith, c.len-words.ensures) in
+    let long = ap length (p.loaded.3 ∙ c.requires.load.opening) in
+    let most = c.requires.load.accepted.size.1 in
+    omega (arith, words, long, most)

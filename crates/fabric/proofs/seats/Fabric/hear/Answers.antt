@@ -1,9 +1,10 @@
 use Rattle.std.proofs.Common.{arith, [], sym, ap, ◌∙◌, refl}
 use Rattle.std.proofs.lemmas.List.{append-nil}
-use Rattle.fabric_rule.specs.Groups.{both, note}
+use Rattle.fabric_rule.specs.Groups.{GroupGoesOn, both, note}
 use Rattle.fabric_rule.specs.Rule.{Learned}
 use Rattle.fabric.specs.Seats.{Knowing, Origin}
 use Rattle.fabric.proofs.Sharing.{notes}
+use Rattle.fabric.proofs.Counting.{right_on}
 use Rattle.fabric.proofs.Learning.{IsOn, looking_on, seated_on, knows_on, learned_at, from_one, from_other, bare_is, bare_goes, learns_said}
 use Rattle.fabric.proofs.seats.Fabric.hear.Given.{Over}
 use Rattle.fabric.proofs.seats.Fabric.hear.Goals as goal
@@ -49,6 +50,11 @@ returns-clause-probe g c =
 
 -- the teller is as it was
 pub invariant_of-other : goal.invariant_of-other
-invariant_of-other g c = seated_on _ c.other.inside.seat c.split_seat-told.new.seat c.other.inside.seat.me.0.run
-    (c.split_seat-told.ensures.0, ap (λ m. m.1) c.split_seat-told.ensures.2 ∙ c.other.invariant.placed.no_slot, ap (λ m. m.0) c.split_seat-told.ensures.2)
-    ([], sym (append-nil c.other.inside.seat.me.0.run), tt) c.other.invariant
+invariant_of-other g c =
+    let on : IsOn c.other.inside.seat c.other.inside.seat.me.0.run c.split_seat-told.new.seat =
+    (c.split_seat-told.ensures.0, ap (λ m. m.1) c.split_seat-told.ensures.2 ∙ c.other.invariant.0.placed.no_slot, ap (λ m. m.0) c.split_seat-told.ensures.2) in
+    let go : GroupGoesOn c.other.inside.seat.me.0.groups c.other.inside.seat.me.0.run c.other.inside.seat.me.0.run =
+    ([], sym (append-nil c.other.inside.seat.me.0.run), tt) in (
+      seated_on _ c.other.inside.seat c.split_seat-told.new.seat c.other.inside.seat.me.0.run on go c.other.invariant.0,
+      right_on c.other.inside.seat c.split_seat-told.new.seat c.other.inside.seat.me.0.run _ on go c.other.invariant.0.placed.accepted c.other.invariant.1,
+    )

@@ -14,27 +14,29 @@ use Rattle.fabric.proofs.seats.Fabric.turn.Goals as goal
 pub turn_tile-requires-clause-tile : goal.turn_tile-requires-clause-tile
 turn_tile-requires-clause-tile g c =
     let at : slice_get c.seat.inside.slots.items (agent_tile c.args.step.agent) ≡ Some (Some c.in-Some.tile) = grind (arith, common_steps, gets) in
-    (c.seat.invariant.tied.own _ _ at).1
+    (c.seat.invariant.0.tied.own _ _ at).1
 
 pub invariant_of-seat-2 : goal.invariant_of-seat-2
 invariant_of-seat-2 g c =
-    let at : slice_get c.seat.inside.slots.items (agent_tile c.args.step.agent) ≡ Some (Some c.in-Some.tile) = grind (arith, common_steps, gets) in
-    subst (λ (n : ℕ). Seated (set c.seat.inside.slots.items n (Some c.turn_tile.new.tile)) c.turn_tile.new.seat) (sym c.agent_tile-number.ensures)
-    (seated_turn _ c.seat.inside.seat c.turn_tile.new.seat _ c.in-Some.tile _ c.seat.invariant at c.turn_tile.ensures.seat.0 c.turn_tile.ensures.seat.2
-    c.turn_tile.ensures.tile c.turn_tile.ensures.rest)
+    let at : slice_get c.seat.inside.slots.items (agent_tile c.args.step.agent) ≡ Some (Some c.in-Some.tile) = grind (arith, common_steps, gets) in (
+      subst (λ (n : ℕ). Seated (set c.seat.inside.slots.items n (Some c.turn_tile.new.tile)) c.turn_tile.new.seat) (sym c.agent_tile-number.ensures)
+          (seated_turn _ c.seat.inside.seat c.turn_tile.new.seat _ c.in-Some.tile _ c.seat.invariant.0 at c.turn_tile.ensures.seat.0
+          c.turn_tile.ensures.seat.2 c.turn_tile.ensures.tile c.turn_tile.ensures.rest),
+      c.turn_tile.ensures.flags,
+    )
 
 pub returns-then-number-len-clause-one_order : goal.returns-then-number-len-clause-one_order
-returns-then-number-len-clause-one_order g c = knows_lawful c.seat.inside.seat _ c.seat.view_is c.seat.invariant.placed.accepted
+returns-then-number-len-clause-one_order g c = knows_lawful c.seat.inside.seat _ c.seat.view_is c.seat.invariant.0.placed.accepted
 
 pub returns-in_default-clause-one_order : goal.returns-in_default-clause-one_order
-returns-in_default-clause-one_order g c = every_run c.seat.inside.seat.me.0.load c.seat.inside.seat.me.0.run c.seat.invariant.placed.accepted
+returns-in_default-clause-one_order g c = every_run c.seat.inside.seat.me.0.load c.seat.inside.seat.me.0.run c.seat.invariant.0.placed.accepted
 
 pub returns-then-not-has_choice-clause-one_order : goal.returns-then-not-has_choice-clause-one_order
-returns-then-not-has_choice-clause-one_order g c = every_run c.seat.inside.seat.me.0.load c.seat.inside.seat.me.0.run c.seat.invariant.placed.accepted
+returns-then-not-has_choice-clause-one_order g c = every_run c.seat.inside.seat.me.0.load c.seat.inside.seat.me.0.run c.seat.invariant.0.placed.accepted
 
 pub returns-clause-one_order : goal.returns-clause-one_order
 returns-clause-one_order g c = let t = c.turn_tile.ensures.rest in
-    lawful_view c.seat.inside.seat.me.0 c.turn_tile.new.seat.me.0 c.seat.invariant.placed.accepted (ap (λ (v : View). v.load) t.same)
+    lawful_view c.seat.inside.seat.me.0 c.turn_tile.new.seat.me.0 c.seat.invariant.0.placed.accepted (ap (λ (v : View). v.load) t.same)
 
 pub returns-then-number-len-clause-moved : goal.returns-then-number-len-clause-moved
 returns-then-number-len-clause-moved g c = λ e. absurd (cc)
@@ -46,7 +48,7 @@ pub returns-then-number-len-clause-not_mine : goal.returns-then-number-len-claus
 returns-then-number-len-clause-not_mine g c =
     let n = c.seat.inside.slots.ok.0 in
     let past : length c.seat.inside.slots.items ≤ agent_tile c.args.step.agent = omega (arith, n) in
-    ((λ _. inl (none_behind c.seat.inside.slots.items c.seat.inside.seat _ c.seat.view_is c.seat.invariant _ past)), (λ _. refl))
+    ((λ _. inl (none_behind c.seat.inside.slots.items c.seat.inside.seat _ c.seat.view_is c.seat.invariant.0 _ past)), (λ _. refl))
 
 pub returns-then-number-len-clause-unchanged : goal.returns-then-number-len-clause-unchanged
 returns-then-number-len-clause-unchanged g c = λ _. refl
@@ -66,7 +68,7 @@ returns-in_default-clause-idle g c = λ e. absurd (cc)
 pub returns-in_default-clause-not_mine : goal.returns-in_default-clause-not_mine
 returns-in_default-clause-not_mine g c =
     let at : slice_get c.seat.inside.slots.items (agent_tile c.args.step.agent) ≡ Some None = grind (arith, common_steps, gets) in
-    ((λ _. inl (none_there c.seat.inside.slots.items c.seat.inside.seat _ c.seat.view_is c.seat.invariant _ at)), (λ _. refl))
+    ((λ _. inl (none_there c.seat.inside.slots.items c.seat.inside.seat _ c.seat.view_is c.seat.invariant.0 _ at)), (λ _. refl))
 
 pub returns-in_default-clause-unchanged : goal.returns-in_default-clause-unchanged
 returns-in_default-clause-unchanged g c = λ _. c.seat.view_is
@@ -91,3 +93,6 @@ returns-then-not-has_choice-clause-same g c = ap (λ (k : Knowing). with_run k c
 
 pub returns-then-not-has_choice-clause-later : goal.returns-then-not-has_choice-clause-later
 returns-then-not-has_choice-clause-later g c = ([], ap (λ (k : Knowing). k.run) c.seat.view_is ∙ sym (append-nil c.args.seat.now.run))
+
+pub turn_tile-requires-clause-flags : goal.turn_tile-requires-clause-flags
+turn_tile-requires-clause-flags g c = c.seat.invariant.1

@@ -1,0 +1,4 @@
+pub mod Inner
+pub mod Sleeping
+pub mod Border
+pub mod Counted
