@@ -320,6 +320,16 @@ impl Closing<'_> {
         true
     }
 
+    /// Whether an operation asked the same before this one, and waits to take effect as this one does: neither is answered.
+    fn has_elder(&self, config: Config, open: Open) -> bool {
+        open.promise.is_none()
+            && self.table.iter().enumerate().any(|(slot, place)| {
+                place.is_some_and(|elder| {
+                    elder.promise.is_none() && elder.call.id < open.call.id && elder.call.op == open.call.op
+                }) && !has(config.taken, slot)
+            })
+    }
+
     fn expand(&mut self, from: Branch) -> bool {
         for slot in 0..self.table.len() {
             let Some(open) = self.table[slot] else { continue };
@@ -331,6 +341,9 @@ impl Closing<'_> {
             }
             let (word, reply) = apply(open.call.op, from.config.word);
             if open.promise.is_some_and(|promise| promise != reply) {
+                continue;
+            }
+            if self.has_elder(from.config, open) {
                 continue;
             }
             let config = Config { word, taken: from.config.taken | 1 << slot };

@@ -13,18 +13,19 @@ use Rattle.trace_laws.specs.declared.opened.Branch.{Branch}
 use Rattle.trace_laws.specs.declared.opened.Node.{Node}
 use Rattle.trace_laws.specs.Traces.{IsTrace, TraceIssuesAt, TraceAnswersAt}
 use Rattle.trace_laws.specs.Orders.{IsLinearizable}
-use Rattle.trace_laws.specs.Configs.{IsIn, IsLeft, HasTakenEffect, HasAsGood, IsExpanded, release}
-use Rattle.trace_laws.specs.Searches.{IsAt, IsSoundSearch, IsSearched, configs_of, AreReleased}
-use Rattle.trace_laws.proofs.Start.{searched_answer, in_map, map_in}
-use Rattle.trace_laws.proofs.Complete.{complete_none}
+use Rattle.trace_laws.specs.Configs.{IsIn, IsLeft, HasTakenEffect, HasAsGood, release}
+use Rattle.trace_laws.specs.Searches.{IsAt, IsSoundSearch, configs_of, AreReleased}
+use Rattle.trace_laws.proofs.Start.{in_map, map_in}
 use Rattle.trace_laws.proofs.Lists.{get_within}
 use Rattle.trace_judge.specs.declared.search.Search.{Search}
 use Rattle.trace_judge.specs.declared.index.Index.{Index}
 use Rattle.trace_judge.specs.Sets.{lists_of, with_set, StaysSound}
 use Rattle.trace_judge.specs.Searched.{HasSearched}
 use Rattle.trace_judge.specs.Slots.{IsParted}
+use Rattle.trace_judge.specs.Elders.{IsExpandedInTurn, IsSearchedInTurn}
 use Rattle.trace_judge.proofs.Branches.{with_same, with_other}
 use Rattle.trace_judge.proofs.Parting.{parted_freed}
+use Rattle.trace_judge.proofs.Turns.{turn_answer, keeps_none}
 use Rattle.trace_judge.proofs.Searching.{set_same, set_other, read_set}
 
 -- what is answered was issued
@@ -107,13 +108,13 @@ pub holds_answer : {A : Type 0} (opening : List ℕ) (trace whole : List Event) 
     → ((c : Config) → IsIn (configs_of old) c
     → HasAsGood (lists_of s.tables.items a.call.operation.address) a.call.operation.address (configs_of middle) c)
     → ((c : Config) → IsIn (configs_of middle) c → IsLeft c slot
-    → IsExpanded (lists_of s.tables.items a.call.operation.address) a.call.operation.address (configs_of middle) c)
+    → IsExpandedInTurn (lists_of s.tables.items a.call.operation.address) a.call.operation.address (configs_of middle) c)
     → StaysSound (lists_of s.tables.items a.call.operation.address) a.call.operation.address old s.nodes.items
     middle nodes.items
     → AreReleased slot middle later.items
     → ((b : Branch) → IsIn middle b → HasTakenEffect b.config slot → IsIn later.items
     (record { config = release b.config slot; trail = b.trail }))
-    → IsSearched opening trace (suc k) (lists_of tables.items) (lists_of words.items) nodes.items
+    → IsSearchedInTurn opening trace (suc k) (lists_of tables.items) (lists_of words.items) nodes.items
 holds_answer {A} opening trace whole k s tables words nodes slot a id reply old middle cleared later t now is far at holds was emptied clear
     written on closed sound from released =
     let w : ℕ = a.call.operation.address in
@@ -139,11 +140,11 @@ holds_answer {A} opening trace whole k s tables words nodes slot a id reply old 
     (λ (e : v ≡ w). ap (λ (u : ℕ). with_set sets w old u) e ∙ (with_same sets w old ∙ (was ∙ ap sets (sym e))))
     (λ (ne : v ≢ w). with_other sets w old v ne)
     (cases_eq v w)) holds.searched.sound in
-    searched_answer opening trace k open' (lists_of tables.items) sets mid new s.nodes.items nodes.items slot a reply t now' far at
+    turn_answer opening trace k open' (lists_of tables.items) sets mid new s.nodes.items nodes.items slot a reply t now' far at
     gone same_table
     (λ c h. subst (λ (bs : List Branch). HasAsGood (open' w) w (configs_of bs) c) (sym mid_same)
     (on c (subst (λ (bs : List Branch). IsIn (configs_of bs) c) (sym was) h)))
-    (subst (λ (bs : List Branch). (c : Config) → IsIn (configs_of bs) c → IsLeft c slot → IsExpanded (open' w) w
+    (subst (λ (bs : List Branch). (c : Config) → IsIn (configs_of bs) c → IsLeft c slot → IsExpandedInTurn (open' w) w
     (configs_of bs) c) (sym mid_same) closed)
     (subst (λ (bs : List Branch). AreReleased slot (mid w) bs) (sym here)
     (subst (λ (bs : List Branch). AreReleased slot bs later.items) (sym mid_same) from))
@@ -174,13 +175,13 @@ pub seen_answer : {A : Type 0} (opening : List ℕ) (trace whole : List Event) (
     → cleared.items ≡ set table.items slot None
     → words.items ≡ set s.words.items a.call.operation.address later
     → ((c : Config) → IsIn (configs_of old) c → HasAsGood seen a.call.operation.address (configs_of middle) c)
-    → ((c : Config) → IsIn (configs_of middle) c → IsLeft c slot → IsExpanded seen a.call.operation.address
+    → ((c : Config) → IsIn (configs_of middle) c → IsLeft c slot → IsExpandedInTurn seen a.call.operation.address
     (configs_of middle) c)
     → StaysSound seen a.call.operation.address old s.nodes.items middle nodes.items
     → AreReleased slot view later.items
     → ((b : Branch) → IsIn view b → HasTakenEffect b.config slot → IsIn later.items
     (record { config = release b.config slot; trail = b.trail }))
-    → IsSearched opening trace (suc k) (lists_of tables.items) (lists_of words.items) nodes.items
+    → IsSearchedInTurn opening trace (suc k) (lists_of tables.items) (lists_of words.items) nodes.items
 seen_answer {A} opening trace whole k s tables words nodes slot a id reply table shown cleared seen branches old middle view later t now is far at holds
     read read_shown same read_branches same_branches viewed emptied clear written on closed sound from released =
     let w : ℕ = a.call.operation.address in
@@ -193,7 +194,7 @@ seen_answer {A} opening trace whole k s tables words nodes slot a id reply table
     (clear ∙ ap (λ (ts : List (Option Open)). set ts slot None) e1) written
     (subst (λ (ts : List (Option Open)). (c : Config) → IsIn (configs_of old) c → HasAsGood ts w (configs_of middle) c) e2 on)
     (subst (λ (ts : List (Option Open)). (c : Config) → IsIn (configs_of middle) c → IsLeft c slot
-    → IsExpanded ts w (configs_of middle) c) e2 closed)
+    → IsExpandedInTurn ts w (configs_of middle) c) e2 closed)
     (subst (λ (ts : List (Option Open)). StaysSound ts w old s.nodes.items middle nodes.items) e2 sound)
     (subst (λ (bs : List Branch). AreReleased slot bs later.items) viewed from)
     (subst (λ (bs : List Branch). (b : Branch) → IsIn bs b → HasTakenEffect b.config slot → IsIn later.items
@@ -211,12 +212,12 @@ pub answer_yes : {A : Type 0} (opening : List ℕ) (trace whole : List Event) (k
     → table ≡ get_or s.tables.items w table → IsAt (lists_of s.tables.items w) slot a
     → tables.items ≡ set s.tables.items w cleared → cleared.items ≡ set table.items slot None
     → words.items ≡ set s.words.items w later → HasSearched {A = A} opening trace whole k s
-    → IsSearched opening trace (suc k) (lists_of tables.items) (lists_of words.items) nodes.items
+    → IsSearchedInTurn opening trace (suc k) (lists_of tables.items) (lists_of words.items) nodes.items
     → HasSearched {A = A} opening trace whole (k + 1) (record { tables = tables; words = words; nodes = nodes; index = index; most = s.most; stuck = stuck })
 answer_yes {A} opening trace whole k s tables words nodes index stuck w slot a table cleared later far some read at emptied clear written holds searched = record {
   tabled = ap (λ (vs : List (Vec (Option Open) A)). length vs) emptied ∙ (length-set s.tables.items w cleared ∙ holds.tabled);
   sized = ap (λ (vs : List (Vec Branch A)). length vs) written ∙ (length-set s.words.items w later ∙ holds.sized);
-  searched = subst (λ (n : ℕ). IsSearched opening trace n (lists_of tables.items) (lists_of words.items) nodes.items)
+  searched = subst (λ (n : ℕ). IsSearchedInTurn opening trace n (lists_of tables.items) (lists_of words.items) nodes.items)
       (sym (add-one k)) searched;
   parted = λ v t p h. ⊎_elim {C = IsParted whole t p.call.id}
       (λ (e : v ≡ w).
@@ -253,12 +254,12 @@ pub answer_no : {A : Type 0} (opening : List ℕ) (trace whole : List Event) (k 
     (others : List (Vec Branch A)) (nodes : List Node)
     (w : ℕ) (later : Vec Branch A) → w < length opening → later.items ≡ []
     → others ≡ set s.words.items w later → length s.words.items ≡ length opening
-    → IsSearched opening trace (suc k) tables (lists_of others) nodes → IsLinearizable opening trace → ⊥
+    → IsSearchedInTurn opening trace (suc k) tables (lists_of others) nodes → IsLinearizable opening trace → ⊥
 answer_no {A} opening trace whole k s tables others nodes w later far none written sized searched =
     let inside : w < length s.words.items = omega arith in
     let here : lists_of others w ≡ [] = ap (λ (vs : List (Vec Branch A)). lists_of vs w) written ∙
     (set_same s.words.items w later inside ∙ none) in
-    complete_none opening trace (suc k) tables (λ v. configs_of (lists_of others v)) w far
+    keeps_none opening trace (suc k) tables (λ v. configs_of (lists_of others v)) w far
     (λ c h. let r : IsIn [] c = subst (λ (bs : List Branch). IsIn (configs_of bs) c) here h in
     let e : None ≡ Some c = r.1 in cc)
     searched.complete

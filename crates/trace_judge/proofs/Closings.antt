@@ -6,20 +6,21 @@ use Rattle.trace_laws.specs.declared.opened.Open.{Open}
 use Rattle.trace_laws.specs.declared.opened.Config.{Config}
 use Rattle.trace_laws.specs.declared.opened.Branch.{Branch}
 use Rattle.trace_laws.specs.declared.opened.Node.{Node}
-use Rattle.trace_laws.specs.Configs.{IsIn, IsLeft, HasTakenEffect, HasAsGood, IsExpanded, effect, release, without_bit, GoesOn}
+use Rattle.trace_laws.specs.Configs.{IsIn, IsLeft, HasTakenEffect, HasAsGood, effect, release, without_bit, GoesOn}
 use Rattle.trace_laws.specs.Searches.{configs_of, AreReleased}
 use Rattle.trace_laws.proofs.Lists.{get_push_cases, get_append_left, get_push, get_within}
 use Rattle.trace_laws.proofs.Start.{map_in}
 use Rattle.trace_judge.specs.Sets.{StaysSound}
+use Rattle.trace_judge.specs.Elders.{IsExpandedInTurn}
 use Rattle.trace_judge.proofs.Branches.{goes_on_more, goes_on_same, stays_same, stays_more}
-use Rattle.trace_judge.proofs.Growth.{has_go_on}
+use Rattle.trace_judge.proofs.Growth.{has_go_on, turn_goes_on}
 
 -- all branches, up to the next one
 pub record Closing (table : List (Option Open)) (w slot : ℕ) (begun : List Branch) (nodes : List Node)
     (next : ℕ) (found : List Branch) (more : List Node) : Type 0 where
   pub grows : GoesOn begun found
   pub closed : (j : ℕ) (b : Branch) → j < next → slice_get found j ≡ Some b → IsLeft b.config slot
-      → IsExpanded table w (configs_of found) b.config
+      → IsExpandedInTurn table w (configs_of found) b.config
   pub within : next ≤ length found
   pub sound : StaysSound table w begun nodes found more
 
@@ -54,7 +55,7 @@ closing_skip table w slot begun nodes next found more b at taken was = record {
 -- another is expanded
 pub closing_expand : (table : List (Option Open)) (w slot : ℕ) (begun : List Branch) (nodes : List Node)
     (next : ℕ) (found later : List Branch) (more most : List Node) (b : Branch)
-    → slice_get found next ≡ Some b → IsExpanded table w (configs_of later) b.config → GoesOn found later
+    → slice_get found next ≡ Some b → IsExpandedInTurn table w (configs_of later) b.config → GoesOn found later
     → StaysSound table w found more later most → Closing table w slot begun nodes next found more
     → Closing table w slot begun nodes (next + 1) later most
 closing_expand table w slot begun nodes next found later more most b at expanded on sound was =
@@ -67,12 +68,12 @@ closing_expand table w slot begun nodes next found later more most b at expanded
           let there : slice_get later next ≡ Some b = ap (λ (bs : List Branch). slice_get bs next) on.1
           ∙ get_append_left found on.0 next b at in
           let same : b ≡ c = cc in
-          subst (λ (d : Branch). IsExpanded table w (configs_of later) d.config) same expanded)
+          subst (λ (d : Branch). IsExpandedInTurn table w (configs_of later) d.config) same expanded)
           (λ (ne : j ≢ next).
           let low : j < length found = omega arith in
           let old : slice_get found j ≡ Some c = before found on.0 j c low
           (ap (λ (bs : List Branch). slice_get bs j) (sym on.1) ∙ h) in
-          λ s o may. has_go_on table w found later (effect c.config s o) on
+          λ s o may. turn_goes_on table w found later c.config (effect c.config s o) o on
           (was.closed j c (omega arith) old left s o may))
           (cases_eq j next);
       within = let e = ap (λ (bs : List Branch). length bs) on.1 in let m = longer found on.0 in omega arith;
@@ -93,12 +94,12 @@ pub closing_all : (table : List (Option Open)) (w slot : ℕ) (begun : List Bran
     (next : ℕ) (found : List Branch) (more : List Node)
     → length found ≤ next
     → Closing table w slot begun nodes next found more → (c : Config) → IsIn (configs_of found) c
-    → IsLeft c slot → IsExpanded table w (configs_of found) c
+    → IsLeft c slot → IsExpandedInTurn table w (configs_of found) c
 closing_all table w slot begun nodes next found more all was c h left =
     let r = map_in (λ (b : Branch). b.config) found c h in
     let b : Branch = r.0 in
     let l = get_within found r.1.0 b r.1.1 in
-    subst (λ (d : Config). IsExpanded table w (configs_of found) d) (sym r.2)
+    subst (λ (d : Config). IsExpandedInTurn table w (configs_of found) d) (sym r.2)
     (was.closed r.1.0 b (omega arith) r.1.1 (subst (λ (d : Config). IsLeft d slot) r.2 left))
 
 -- what the branches were, has one as good at the end

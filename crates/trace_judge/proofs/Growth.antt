@@ -1,5 +1,5 @@
 -- The loops that let operations take effect.
-use Rattle.std.proofs.Common.{◌≡◌, ◌≢◌, ⊎_elim, ℕ, suc, ◌+◌, ◌<◌, ◌≤◌, List, [], ◌∷◌, ◌++◌, length, Option, Some, sym, ◌∙◌, ap, subst}
+use Rattle.std.proofs.Common.{◌≡◌, ◌≢◌, ◌⊎◌, inl, inr, ⊎_elim, ℕ, suc, ◌+◌, ◌<◌, ◌≤◌, List, [], ◌∷◌, ◌++◌, length, Option, Some, sym, ◌∙◌, ap, subst}
 use Rattle.std.proofs.Common.{arith, slice_get, append-nil}
 use Rattle.std.proofs.lemmas.Bool.{cases_eq}
 use Rattle.trace_laws.specs.declared.opened.Open.{Open}
@@ -7,6 +7,7 @@ use Rattle.trace_laws.specs.declared.opened.Config.{Config}
 use Rattle.trace_laws.specs.declared.opened.Branch.{Branch}
 use Rattle.trace_laws.specs.declared.opened.Node.{Node}
 use Rattle.trace_laws.specs.Configs.{IsIn, IsLeft, MayTake, HasAsGood, effect, GoesOn}
+use Rattle.trace_judge.specs.Elders.{HasElder}
 use Rattle.trace_laws.specs.Searches.{configs_of}
 use Rattle.trace_laws.proofs.Lists.{get_append_left, get_within}
 use Rattle.trace_laws.proofs.Start.{map_in}
@@ -18,11 +19,20 @@ pub has_go_on : (table : List (Option Open)) (w : ℕ) (old new : List Branch) (
     → HasAsGood table w (configs_of old) c → HasAsGood table w (configs_of new) c
 has_go_on table w old new c on has = (has.0, configs_go_on old new has.0 on has.1, has.2)
 
+-- in turn as well
+pub turn_goes_on : (table : List (Option Open)) (w : ℕ) (old new : List Branch) (c d : Config) (o : Open) → GoesOn old new
+    → HasElder table w c o ⊎ HasAsGood table w (configs_of old) d → HasElder table w c o ⊎ HasAsGood table w (configs_of new) d
+turn_goes_on table w old new c d o on has = ⊎_elim
+    {C = HasElder table w c o ⊎ HasAsGood table w (configs_of new) d}
+    (λ (e : HasElder table w c o). inl e)
+    (λ (h : HasAsGood table w (configs_of old) d). inr (has_go_on table w old new d on h))
+    has
+
 -- one branch, up to slot s
 pub record Expanding (table : List (Option Open)) (w : ℕ) (old : List Branch) (nodes : List Node) (from : Branch)
     (s : ℕ) (new : List Branch) (more : List Node) : Type 0 where
   pub expanded : (u : ℕ) (o : Open) → u < s → MayTake table w from.config u o
-      → HasAsGood table w (configs_of new) (effect from.config u o)
+      → HasElder table w from.config o ⊎ HasAsGood table w (configs_of new) (effect from.config u o)
   pub grows : GoesOn old new
   pub sound : StaysSound table w old nodes new more
 
@@ -36,15 +46,16 @@ expanding_none table w old nodes from = record {
 
 pub expanding_skip : (table : List (Option Open)) (w : ℕ) (old : List Branch) (nodes : List Node) (from : Branch)
     (s : ℕ) (new : List Branch) (more : List Node) (place : Option Open)
-    → slice_get table s ≡ Some place → ((o : Open) → TakesEffect place w from.config s o → ⊥)
+    → slice_get table s ≡ Some place
+    → ((o : Open) → TakesEffect place w from.config s o → HasElder table w from.config o)
     → Expanding table w old nodes from s new more
     → Expanding table w old nodes from (s + 1) new more
 expanding_skip table w old nodes from s new more place at none was = record {
-  expanded = λ u o l may. ⊎_elim
+  expanded = λ u o l may. ⊎_elim {C = HasElder table w from.config o ⊎ HasAsGood table w (configs_of new) (effect from.config u o)}
       (λ (e : u ≡ s).
       let here : slice_get table s ≡ Some (Some o) = ap (λ (i : ℕ). slice_get table i) (sym e) ∙ may.pending.there in
       let same : place ≡ Some o = cc in
-      absurd (none o (record {
+      inl (none o (record {
         there = same;
         here = may.pending.here;
         left = subst
@@ -77,15 +88,16 @@ expanding_add table w old nodes from s new later more most place o config in' at
     } in
     record {
       expanded = λ u p l m. ⊎_elim
+          {C = HasElder table w from.config p ⊎ HasAsGood table w (configs_of later) (effect from.config u p)}
           (λ (e : u ≡ s).
           let here : slice_get table s ≡ Some (Some p) = ap (λ (i : ℕ). slice_get table i) (sym e)
           ∙ m.pending.there in
           let also : slice_get table s ≡ Some (Some o) = may.pending.there in
           let same : o ≡ p = cc in
-          subst (λ (d : Config). HasAsGood table w (configs_of later) d)
+          inr (subst (λ (d : Config). HasAsGood table w (configs_of later) d)
           (is ∙ (ap (λ (q : Open). effect from.config s q) same ∙ ap (λ (i : ℕ). effect from.config i p)
-          (sym e))) there)
-          (λ (ne : u ≢ s). has_go_on table w new later (effect from.config u p) on (was.expanded u p (omega arith) m))
+          (sym e))) there))
+          (λ (ne : u ≢ s). turn_goes_on table w new later from.config (effect from.config u p) p on (was.expanded u p (omega arith) m))
           (cases_eq u s);
       grows = goes_on_more old new later was.grows on;
       sound = stays_more table w old new later nodes more most was.sound

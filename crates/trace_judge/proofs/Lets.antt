@@ -6,13 +6,14 @@ use Rattle.trace_laws.specs.declared.opened.Config.{Config}
 use Rattle.trace_laws.specs.declared.opened.Branch.{Branch}
 use Rattle.trace_laws.specs.declared.opened.Node.{Node}
 use Rattle.trace_laws.specs.Configs.{IsIn}
-use Rattle.trace_laws.specs.Searches.{IsSoundSearch, IsComplete, IsCovered, configs_of}
+use Rattle.trace_laws.specs.Searches.{IsSoundSearch, configs_of}
 use Rattle.trace_laws.proofs.Start.{in_map}
 use Rattle.trace_judge.specs.declared.search.Search.{Search}
 use Rattle.trace_judge.specs.Sets.{lists_of}
 use Rattle.trace_judge.specs.Searched.{HasSearched}
 use Rattle.trace_judge.specs.Kept.{renumbered, renumbered_all, marked_nodes, AreEnds, AreWithin, IsClosed, Lets}
 use Rattle.trace_judge.specs.Marks.{AreNodes}
+use Rattle.trace_judge.specs.Elders.{IsKeptUp, KeepsSome}
 use Rattle.trace_judge.proofs.LettingGo.{let_go_sound}
 
 -- the configurations stay
@@ -23,11 +24,11 @@ configs_stay marks (b ∷ branches) = ap (λ (cs : List Config). b.config ∷ cs
 complete_stays : (opening : List ℕ) (trace : List Event) (k : ℕ) (tables : ℕ → List (Option Open))
     (sets others : ℕ → List Branch) (marks : List Bool)
     → ((w : ℕ) → w < length opening → others w ≡ renumbered_all marks (sets w))
-    → IsComplete opening trace k tables (λ w. configs_of (sets w))
-    → IsComplete opening trace k tables (λ w. configs_of (others w))
-complete_stays opening trace k tables sets others marks same complete = λ order o heard w l.
-    subst (λ (cs : List Config). IsCovered opening trace k (tables w) w order cs)
-    (sym (ap configs_of (same w l) ∙ configs_stay marks (sets w))) (complete order o heard w l)
+    → KeepsSome opening trace k tables (λ w. configs_of (sets w))
+    → KeepsSome opening trace k tables (λ w. configs_of (others w))
+complete_stays opening trace k tables sets others marks same complete = λ lin w l.
+    subst (λ (cs : List Config). IsKeptUp opening trace k (tables w) w cs)
+    (sym (ap configs_of (same w l) ∙ configs_stay marks (sets w))) (complete lin w l)
 
 pub holds_lets : {A : Type 0} (opening : List ℕ) (trace whole : List Event) (k most : ℕ) (s : Search A)
     (words : Vec (Vec Branch A) A) (nodes : Vec Node A) (shown : List (Vec Branch A)) (seen : List Node)

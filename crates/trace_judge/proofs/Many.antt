@@ -1,5 +1,5 @@
 -- Branches that are too many tell as many orders.
-use Rattle.std.proofs.Common.{◌≡◌, ◌≢◌, ◌⊎◌, ◌↔◌, ⊎_elim, ℕ, zero, suc, ◌<◌, ◌≤◌, ◌^◌, Bool, List, [], ◌∷◌, length, Option, Some, None, Result, Err, IfErr, refl, sym, ◌∙◌, ap, subst}
+use Rattle.std.proofs.Common.{◌≡◌, ◌≢◌, ⊎_elim, ℕ, zero, suc, ◌<◌, ◌^◌, List, [], ◌∷◌, length, Option, Some, None, Result, Err, IfErr, refl, sym, ◌∙◌, ap, subst}
 use Rattle.std.proofs.Common.{arith, slice_get, take}
 use Rattle.std.proofs.lemmas.List.{length-take}
 use Rattle.std.specs.Int.{bit_at}
@@ -11,19 +11,18 @@ use Rattle.trace_laws.specs.declared.event.Event.{Event}
 use Rattle.trace_laws.specs.declared.event.Event.TheVariants.{Answer}
 use Rattle.trace_laws.specs.Traces.{IsTrace, TraceAnswersAt}
 use Rattle.trace_laws.proofs.Lists.{take_get}
-use Rattle.trace_laws.specs.Orders.{IsOn}
 use Rattle.trace_laws.specs.Legal.{Legal}
 use Rattle.trace_laws.specs.declared.opened.Open.{Open}
 use Rattle.trace_laws.specs.declared.opened.Config.{Config}
 use Rattle.trace_laws.specs.declared.opened.Branch.{Branch}
 use Rattle.trace_laws.specs.declared.opened.Node.{Node}
 use Rattle.trace_laws.specs.Configs.{IsOpen, IsIn, IsLeft, HasTakenEffect}
-use Rattle.trace_laws.specs.Searches.{IsIndexTable, AreTables, Fits, IsSoundSearch, order_of}
+use Rattle.trace_laws.specs.Searches.{IsIndexTable, Fits, IsSoundSearch, order_of}
 use Rattle.trace_laws.proofs.Bits.{bit_cases, not_both}
 use Rattle.trace_judge.specs.declared.search.Search.{Search}
 use Rattle.trace_judge.specs.declared.undecided.Full.{Full}
 use Rattle.trace_judge.specs.declared.undecided.Full.TheVariants.{Configurations}
-use Rattle.trace_judge.specs.Sets.{lists_of, with_set, StaysSound}
+use Rattle.trace_judge.specs.Sets.{lists_of, with_set}
 use Rattle.trace_judge.specs.Searched.{HasSearched}
 use Rattle.trace_judge.specs.Stops.{IsAnAnswer, IsBeginning, LeaveSame, HasMany}
 use Rattle.trace_judge.specs.Crowds.{AreDistinct, IsOverfull}

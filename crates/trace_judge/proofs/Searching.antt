@@ -15,9 +15,9 @@ use Rattle.trace_laws.specs.declared.opened.Node.{Node}
 use Rattle.trace_laws.specs.Traces.{IsTrace, TraceIssuesAt, TraceAnswersAt, IsAnswered}
 use Rattle.trace_laws.proofs.Issues.{one_issue}
 use Rattle.trace_laws.specs.Configs.{IsIn}
-use Rattle.trace_laws.specs.Searches.{IsAt, IsPending, IsIndexTable, Fits, IsCovered, IsSearched, first_branch, configs_of, order_of}
+use Rattle.trace_laws.specs.Searches.{IsAt, IsPending, IsIndexTable, Fits, first_branch, configs_of, order_of}
 use Rattle.trace_laws.specs.Unanswered.{IsUnansweredLoad}
-use Rattle.trace_laws.proofs.Start.{none_at, searched_none, searched_issue, searched_more, searched_unanswered, pending_now}
+use Rattle.trace_laws.proofs.Start.{none_at, pending_now}
 use Rattle.trace_laws.proofs.Trails.{put, put_same, put_other}
 use Rattle.trace_laws.proofs.Lists.{get_push}
 use Rattle.trace_judge.specs.declared.search.Search.{Search}
@@ -26,7 +26,9 @@ use Rattle.trace_judge.specs.Sets.{lists_of}
 use Rattle.trace_judge.specs.Searched.{HasSearched}
 use Rattle.trace_judge.specs.Slots.{IsPut, IsBegun, IsFirst, IsParted}
 use Rattle.trace_judge.specs.Stops.{IsBeginning}
+use Rattle.trace_judge.specs.Elders.{IsKeptUp, IsSearchedInTurn}
 use Rattle.trace_judge.proofs.Parting.{begun_first, first_low, parted_put}
+use Rattle.trace_judge.proofs.Turns.{turn_none, turn_issue, turn_more, turn_unanswered}
 
 pub holds_start : {A : Type 0} (opening : List ℕ) (trace whole : List Event) (tables : Vec (Vec (Option Open) A) A)
     (words : Vec (Vec Branch A) A) (nodes : Vec Node A) (index : Index A) (most : ℕ) (stuck : Option ℕ)
@@ -39,8 +41,8 @@ holds_start {A} opening trace whole tables words nodes index most stuck tabled e
   sized = sized;
   tabled = tabled;
   searched =
-      subst (λ (ns : List Node). IsSearched opening trace 0 (lists_of tables.items) (lists_of words.items) ns) (sym none)
-      (searched_none opening trace (lists_of tables.items) (lists_of words.items) (λ w l. empty w) first);
+      subst (λ (ns : List Node). IsSearchedInTurn opening trace 0 (lists_of tables.items) (lists_of words.items) ns) (sym none)
+      (turn_none opening trace (lists_of tables.items) (lists_of words.items) (λ w l. empty w) first);
   filled = λ w l. (
     first_branch (get_or opening w 0),
     subst
@@ -92,7 +94,7 @@ promised words trace k call (Some told) t now tells = pending_now words trace k
 -- the same tables
 searched_as : (opening : List ℕ) (trace : List Event) (k : ℕ) (tables others : ℕ → List (Option Open))
     (sets : ℕ → List Branch) (nodes : List Node) → ((v : ℕ) → others v ≡ tables v)
-    → IsSearched opening trace k tables sets nodes → IsSearched opening trace k others sets nodes
+    → IsSearchedInTurn opening trace k tables sets nodes → IsSearchedInTurn opening trace k others sets nodes
 searched_as opening trace k tables others sets nodes same is = record {
   tabled = λ v l. subst (λ (ts : List (Option Open)). IsIndexTable trace k v ts) (sym (same v)) (is.tabled v l);
   sound = record {
@@ -106,9 +108,9 @@ searched_as opening trace k tables others sets nodes same is = record {
               (sym (same v)) (x.fits v l);
         };
   };
-  complete = λ order o heard v l.
-      subst (λ (ts : List (Option Open)). IsCovered opening trace k ts v order (configs_of (sets v))) (sym (same v))
-      (is.complete order o heard v l);
+  complete = λ lin v l.
+      subst (λ (ts : List (Option Open)). IsKeptUp opening trace k ts v (configs_of (sets v))) (sym (same v))
+      (is.complete lin v l);
 }
 
 -- a new slot at the end
@@ -127,7 +129,7 @@ read_set {X} {A} words w v l e =
 searched_pads : (n : ℕ) (opening : List ℕ) (trace : List Event) (k : ℕ) (tables later : ℕ → List (Option Open))
     (sets : ℕ → List Branch) (nodes : List Node) (w : ℕ) → length (tables w) + n ≤ 128
     → later w ≡ tables w ++ replicate n None → ((v : ℕ) → v ≢ w → later v ≡ tables v)
-    → IsSearched opening trace k tables sets nodes → IsSearched opening trace k later sets nodes
+    → IsSearchedInTurn opening trace k tables sets nodes → IsSearchedInTurn opening trace k later sets nodes
 searched_pads zero opening trace k tables later sets nodes w few written same is =
     searched_as opening trace k tables later sets nodes
     (λ v. ⊎_elim {C = later v ≡ tables v}
@@ -144,7 +146,7 @@ searched_pads (suc n) opening trace k tables later sets nodes w few written same
     (written ∙ (sym (append_assoc old (None ∷ []) (replicate n None))
     ∙ ap (λ (ts : List (Option Open)). ts ++ replicate n None) (sym here)))
     (λ v ne. same v ne ∙ sym (there v ne))
-    (searched_more opening trace k tables middle sets nodes w (omega arith) here there is)
+    (turn_more opening trace k tables middle sets nodes w (omega arith) here there is)
 
 -- an operation takes a slot
 searched_put : (opening : List ℕ) (trace : List Event) (k first : ℕ) (tables later : ℕ → List (Option Open))
@@ -152,7 +154,7 @@ searched_put : (opening : List ℕ) (trace : List Event) (k first : ℕ) (tables
     → IsTrace (length opening) trace → TraceIssuesAt trace k o.call → IsPending trace (suc k) o → first ≤ 64
     → IsPut (tables o.call.operation.address) first o (later o.call.operation.address)
     → ((v : ℕ) → v ≢ o.call.operation.address → later v ≡ tables v)
-    → IsSearched opening trace k tables sets nodes → IsSearched opening trace (suc k) later sets nodes
+    → IsSearchedInTurn opening trace k tables sets nodes → IsSearchedInTurn opening trace (suc k) later sets nodes
 searched_put opening trace k first tables later sets nodes o t now new low put_in same is =
     let w : ℕ = o.call.operation.address in
     let old : List (Option Open) = tables w in
@@ -166,18 +168,18 @@ searched_put opening trace k first tables later sets nodes o t now new low put_i
     let last_other : (v : ℕ) → v ≢ w → last v ≡ tables v = λ v ne. put_other tables w (longer ++ None ∷ []) v ne in
     let long : length longer ≡ length old + (first - length old) =
     length-append old pads ∙ ap (λ (n : ℕ). length old + n) (length-replicate (first - length old) None) in
-    ⊎_elim {C = IsSearched opening trace (suc k) later sets nodes}
+    ⊎_elim {C = IsSearchedInTurn opening trace (suc k) later sets nodes}
     (λ (r : (s : ℕ) × (first ≤ s) × (s < first + 64) × (slice_get old s ≡ Some None) × (later w ≡ set old s (Some o))).
-    searched_issue opening trace k tables later sets nodes r.0 o t now r.3 new r.4 same is)
+    turn_issue opening trace k tables later sets nodes r.0 o t now r.3 new r.4 same is)
     (λ (r : (length old < first + 64) × (later w ≡ longer ++ Some o ∷ [])).
     let few = r.0 in
     let mid_long : length (middle w) ≡ length longer = ap (λ (ts : List (Option Open)). length ts) mid in
-    searched_issue opening trace k last later sets nodes (length longer) o t now
+    turn_issue opening trace k last later sets nodes (length longer) o t now
     (ap (λ (ts : List (Option Open)). slice_get ts (length longer)) here ∙ get_push longer None) new
     (r.1 ∙ (sym (set_last longer None (Some o))
     ∙ ap (λ (ts : List (Option Open)). set ts (length longer) (Some o)) (sym here)))
     (λ v ne. same v ne ∙ sym (last_other v ne))
-    (searched_more opening trace k middle last sets nodes w (omega arith)
+    (turn_more opening trace k middle last sets nodes w (omega arith)
     (here ∙ ap (λ (ts : List (Option Open)). ts ++ None ∷ []) (sym mid))
     (λ v ne. last_other v ne ∙ sym (mid_other v ne))
     (searched_pads (first - length old) opening trace k tables middle sets nodes w (omega arith) mid mid_other is)))
@@ -213,7 +215,7 @@ holds_issue {A} opening trace whole k s tables old table first call promise seen
       tabled = ap (λ (vs : List (Vec (Option Open) A)). length vs) written
           ∙ (length-set s.tables.items w table ∙ holds.tabled);
       searched =
-          subst (λ (n : ℕ). IsSearched opening trace n (lists_of tables.items) (lists_of s.words.items) s.nodes.items)
+          subst (λ (n : ℕ). IsSearchedInTurn opening trace n (lists_of tables.items) (lists_of s.words.items) s.nodes.items)
           (sym (add-one k))
           (searched_put opening trace k first (lists_of s.tables.items) (lists_of tables.items) (lists_of s.words.items)
           s.nodes.items o t now (promised (length opening) trace k call promise t now tells)
@@ -255,9 +257,9 @@ holds_unanswered {A} opening trace whole k s call promise t now load none tells 
       sized = holds.sized;
       tabled = holds.tabled;
       searched =
-          subst (λ (n : ℕ). IsSearched opening trace n (lists_of s.tables.items) (lists_of s.words.items) s.nodes.items)
+          subst (λ (n : ℕ). IsSearchedInTurn opening trace n (lists_of s.tables.items) (lists_of s.words.items) s.nodes.items)
           (sym (add-one k))
-          (searched_unanswered opening trace k (lists_of s.tables.items) (lists_of s.words.items) s.nodes.items call now lost
+          (turn_unanswered opening trace k (lists_of s.tables.items) (lists_of s.words.items) s.nodes.items call now lost
           holds.searched);
       filled = holds.filled;
       parted = holds.parted;

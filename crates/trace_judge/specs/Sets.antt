@@ -7,7 +7,7 @@ use Rattle.trace_laws.specs.declared.opened.Config.{Config}
 use Rattle.trace_laws.specs.declared.opened.Branch.{Branch}
 use Rattle.trace_laws.specs.declared.opened.Node.{Node}
 use Rattle.trace_laws.specs.Traces.{IsTrace}
-use Rattle.trace_laws.specs.Configs.{GoesOn, IsIn, IsLeft, MayTake, AgreesWithValue, effect}
+use Rattle.trace_laws.specs.Configs.{IsIn, IsLeft, MayTake, AgreesWithValue, effect}
 use Rattle.trace_laws.specs.Searches.{AreTables, IsSoundSearch}
 
 -- what a place of the table holds may take effect

@@ -3,16 +3,18 @@
 ghost use Rattle.std.specs.Prelude.{◌≡◌, ◌<◌, ◌≤◌, IfErr, IfOk, OnOk, length};
 ghost use Rattle.trace_laws.specs.declared.opened.Config.{Config};
 ghost use Rattle.trace_laws.specs.declared.opened.Branch.{Branch};
-ghost use Rattle.trace_laws.specs.Configs.{IsIn, IsLeft, HasTakenEffect, HasAsGood, IsExpanded, release, GoesOn};
+ghost use Rattle.trace_laws.specs.Configs.{IsIn, IsLeft, HasTakenEffect, HasAsGood, release, GoesOn};
+ghost use Rattle.trace_judge.specs.Elders.{IsExpandedInTurn};
 ghost use Rattle.trace_laws.specs.Searches.{configs_of, AreReleased};
 ghost use Rattle.trace_judge.specs.declared.undecided.Full.TheVariants.{Configurations};
 ghost use Rattle.trace_judge.specs.Crowds.{IsOverfull};
 ghost use Rattle.trace_judge.specs.Idles.{AreListed, AreLow};
 ghost use Rattle.trace_judge.specs.Sets.{StaysSound};
 
-use crate::adding::{add, after, take};
+use crate::adding::{add, take};
 use crate::bits::{has, without};
 use crate::counting::is_crowd;
+use crate::elder::after_elders;
 use crate::idles::{Idle, idles_of};
 use crate::index::Index;
 use crate::undecided::Full;
@@ -61,13 +63,19 @@ fn expand<A: Allocator + Copy>(
     requires listed { AreListed table.now address idles.now }
     requires there { IsIn found.old.items from }
     ensures expanded { OnOk result
-        (IsExpanded table.now address (configs_of found.new.items) from.config) }
+        (IsExpandedInTurn table.now address (configs_of found.new.items) from.config) }
     ensures grows { OnOk result (GoesOn found.old.items found.new.items) }
     ensures sound { OnOk result (StaysSound table.now address found.old.items nodes.old.items
         found.new.items nodes.new.items) }
 {
     for slot in 0..table.len() {
-        if let Some((opened, config)) = after(from.config, table[slot], address, slot) {
+        if let Some((opened, config)) = after_elders(
+            from.config,
+            table,
+            table[slot],
+            address,
+            slot,
+        ) {
             take(
                 found, nodes, index, table, address, idles, from, opened, config,
             )?;
@@ -95,7 +103,7 @@ fn go_on<A: Allocator + Copy>(
     ensures kept { IfOk result (λ v. (c : Config) → IsIn (configs_of branches.now) c
         → HasAsGood table.now address (configs_of v.items) c) }
     ensures closed { IfOk result (λ v. (c : Config) → IsIn (configs_of v.items) c → IsLeft c slot
-        → IsExpanded table.now address (configs_of v.items) c) }
+        → IsExpandedInTurn table.now address (configs_of v.items) c) }
     ensures sound { IfOk result (λ v. StaysSound table.now address branches.now nodes.old.items
         v.items nodes.new.items) }
     ensures full { IfErr result (λ full. full ≡ Configurations
@@ -136,7 +144,7 @@ pub fn close<A: Allocator + Copy>(
     ensures kept { IfOk result (λ v. (c : Config) → IsIn (configs_of branches.now) c
         → HasAsGood table.now address (configs_of v.items) c) }
     ensures closed { IfOk result (λ v. (c : Config) → IsIn (configs_of v.items) c → IsLeft c slot
-        → IsExpanded table.now address (configs_of v.items) c) }
+        → IsExpandedInTurn table.now address (configs_of v.items) c) }
     ensures sound { IfOk result (λ v. StaysSound table.now address branches.now nodes.old.items
         v.items nodes.new.items) }
     ensures full { IfErr result (λ full. full ≡ Configurations

@@ -8,7 +8,7 @@ use Rattle.trace_judge.proofs.closing.expand.Goals.{in-Some+in_ok-take, in_defau
 pub loop-slot-preserved : goal.loop-slot-preserved
 loop-slot-preserved g c =
     let l : c.loop-slot.slot < length c.args.table.now = omega arith in
-    elim c.match-after.branch [
+    elim c.match-after_elders.branch [
       | in-Some+in_ok-take w ↦ rw (w.found-is, w.nodes-is)
           (expanding_add c.args.table.now c.args.address c.args.found.now.items c.args.nodes.now.items c.args.from c.loop-slot.slot
           c.loop-slot.found.items
