@@ -38,6 +38,12 @@ abbrev pub alone : Command → List (List ℕ) → Result Command Fault
 alone c [] = Ok c
 alone c (x ∷ xs) = Err fault.Line
 
+-- one word stands behind `load`
+abbrev pub load_digits : List (List ℕ) → Result Command Fault
+load_digits (digits ∷ []) = Ok command.Load
+load_digits [] = Err fault.Line
+load_digits (x ∷ y ∷ more) = Err fault.Line
+
 -- what a keyword and the words behind it ask for, of a machine of so many tiles and words
 abbrev pub named : ℕ → ℕ → List ℕ → List (List ℕ) → Result Command Fault
 named tiles memory keyword rest =
@@ -46,8 +52,10 @@ named tiles memory keyword rest =
     else (if bytes_eq keyword (codes "wait") then wait_of rest
     else (if bytes_eq keyword (codes "finish") then alone command.Finish rest
     else (if bytes_eq keyword (codes "report") then alone command.Report rest
+    else (if bytes_eq keyword (codes "save") then alone command.Save rest
+    else (if bytes_eq keyword (codes "load") then load_digits rest
     else (if bytes_eq keyword (codes "quit") then alone command.Quit rest
-    else Err fault.Line)))))
+    else Err fault.Line)))))))
 
 -- a line of another shape is a bad one; one of the right shape may have a fault
 abbrev pub command_from : Result Command Fault → Command
@@ -61,3 +69,9 @@ command_of tiles memory [] = command.Nothing
 command_of tiles memory (keyword ∷ rest) =
     if begins_comment keyword then command.Nothing
     else command_from (named tiles memory keyword rest)
+
+-- the second of some words, or nothing
+abbrev pub second_in : List (List ℕ) → List ℕ
+second_in [] = []
+second_in (first ∷ []) = []
+second_in (first ∷ second ∷ more) = second

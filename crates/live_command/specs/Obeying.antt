@@ -15,6 +15,9 @@ use Rattle.core_growth.specs.Handed.{handed, moves_kept, refused}
 use Rattle.core_machine.specs.Machine.{IsAfter, RunsOn, core_after}
 use Rattle.machine_asked.specs.Rounds.{rounds_of, NeedsRounds}
 use Rattle.machine_asked.specs.Asked.{Asked, IsNumbered, NeedsToWait, answer_to, has_spin, index_asked, spins_with}
+use Rattle.machine_record.specs.declared.action.Action.TheVariants as action
+use Rattle.machine_record.specs.Machine.{KeepsLine, KeepsRecord, Recorded}
+use Rattle.live_command.specs.Records.{KeepsRounds, LoadsRecord, SavesKept}
 use Rattle.live_command.specs.declared.command.Command.{Command}
 use Rattle.live_command.specs.declared.command.Command.TheVariants as command
 use Rattle.live_command.specs.declared.told.Told.{Told as ToldLine}
@@ -37,15 +40,17 @@ pub record TakesLine (p : ℕ) (line : Line) (old new : Asked) (told : ToldLine)
       → old.spins ≡ map has_spin l.scripts → IsNumbered (load_with l p line) p line index
 
 -- it refuses the line for this reason, or there is no memory, and stays as it was
-pub record RefusesLine (p : ℕ) (line : Line) (old new : Asked) (told : ToldLine) : Type 0 where
+pub record RefusesLine (p : ℕ) (line : Line) (old new : Recorded) (told : ToldLine) : Type 0 where
   pub reason : Fault
-  pub why : (refused old.core p line ≡ Some reason)
-      ⊎ ((refused old.core p line ≡ None) × (reason ≡ fault.Memory))
+  pub why : (refused old.asked.core p line ≡ Some reason)
+      ⊎ ((refused old.asked.core p line ≡ None) × (reason ≡ fault.Memory))
   pub same : new ≡ old
   pub answer : told ≡ reply.Refused reason
 
-abbrev pub Asks : ℕ → Line → Asked → Asked → ToldLine → Type 0
-Asks p line old new told = TakesLine p line old new told ⊎ RefusesLine p line old new told
+abbrev pub Asks : ℕ → Line → Recorded → Recorded → ToldLine → Type 0
+Asks p line old new told =
+    (TakesLine p line old.asked new.asked told × KeepsLine p line old.kept new.kept)
+    ⊎ RefusesLine p line old new told
 
 -- the machine makes so many rounds, and the answer is their number
 pub record MakesRounds (count : ℕ) (old new : Asked) (told : ToldLine) : Type 0 where
@@ -54,11 +59,17 @@ pub record MakesRounds (count : ℕ) (old new : Asked) (told : ToldLine) : Type 
   pub runs_on : RunsOn old.core new.core (rounds_of old.core.shape count)
   pub answer : told ≡ reply.Rounds count
 
--- the same, of the least number of rounds that finish every script
-pub record Finishes (old new : Asked) (told : ToldLine) : Type 0 where
+-- and each of them is kept
+abbrev pub MakesKeptRounds : ℕ → Recorded → Recorded → ToldLine → Type 0
+MakesKeptRounds count old new told =
+    MakesRounds count old.asked new.asked told × KeepsRounds count old.kept new.kept
+
+-- it makes the least number of rounds that finish every script, and keeps them
+pub record Finishes (old new : Recorded) (told : ToldLine) : Type 0 where
   pub rounds : ℕ
-  pub needed : NeedsRounds old.core rounds
-  pub made : MakesRounds rounds old new told
+  pub needed : NeedsRounds old.asked.core rounds
+  pub made : MakesRounds rounds old.asked new.asked told
+  pub kept : KeepsRecord (action.Rounds rounds) old.kept new.kept
 
 -- the answer at the end of a wait: the reply, or that every script is finished without it
 abbrev pub told_of_wait : ℕ → ℕ → Option Answer → ToldLine
@@ -66,29 +77,30 @@ told_of_wait p index None = reply.Idle
 told_of_wait p index (Some answer) = reply.Answered p index answer.reply
 
 -- the machine makes the least number of rounds until the operation of processor p that has this
--- index is answered, or every script is finished
-pub record Waits (p index : ℕ) (old new : Asked) (told : ToldLine) : Type 0 where
+-- index is answered, or every script is finished, and keeps them
+pub record Waits (p index : ℕ) (old new : Recorded) (told : ToldLine) : Type 0 where
   pub rounds : ℕ
-  pub needed : NeedsToWait old.core p index rounds
-  pub state : new.core ≡ core_after old.core (rounds_of old.core.shape rounds)
-  pub spins : new.spins ≡ old.spins
-  pub runs_on : RunsOn old.core new.core (rounds_of old.core.shape rounds)
-  pub answer : told ≡ told_of_wait p index (answer_to new.core p index)
+  pub needed : NeedsToWait old.asked.core p index rounds
+  pub state : new.asked.core ≡ core_after old.asked.core (rounds_of old.asked.core.shape rounds)
+  pub spins : new.asked.spins ≡ old.asked.spins
+  pub runs_on : RunsOn old.asked.core new.asked.core (rounds_of old.asked.core.shape rounds)
+  pub kept : KeepsRecord (action.Rounds rounds) old.kept new.kept
+  pub answer : told ≡ told_of_wait p index (answer_to new.asked.core p index)
 
 -- nothing changes, and the answer says so
-abbrev pub Tells : {T : Type 0} → T → Asked → Asked → T → Type 0
+abbrev pub Tells : {T : Type 0} → T → Recorded → Recorded → T → Type 0
 Tells what old new told = (new ≡ old) × (told ≡ what)
 
 -- an operation is waited for that the script of its processor, which makes so many, can make
-abbrev pub WaitsWithin : ℕ → ℕ → Option ℕ → Asked → Asked → ToldLine → Type 0
+abbrev pub WaitsWithin : ℕ → ℕ → Option ℕ → Recorded → Recorded → ToldLine → Type 0
 WaitsWithin p index None old new told = Tells (reply.Refused fault.Processor) old new told
 WaitsWithin p index (Some most) old new told =
     MatchBool (nat_lt index most) (Waits p index old new told)
     (Tells (reply.Refused fault.Range) old new told)
 
-abbrev pub WaitsFor : ℕ → ℕ → Asked → Asked → ToldLine → Type 0
+abbrev pub WaitsFor : ℕ → ℕ → Recorded → Recorded → ToldLine → Type 0
 WaitsFor p index old new told =
-    WaitsWithin p index (slice_get old.core.allowed p) old new told
+    WaitsWithin p index (slice_get old.asked.core.allowed p) old new told
 
 -- the answer is the machine's report, a good one, unless there is no memory
 pub record TellsReport {A : Type 0} (v : Asked) (said : Said A) : Type 0 where
@@ -104,14 +116,16 @@ pub record IsLine {A : Type 0} (is : ToldLine → Type 0) (said : Said A) : Type
   pub said_is : said ≡ Told line
   pub right : is line
 
--- what a machine does for what a line asks for, and what is answered
-abbrev pub Obeys : {A : Type 0} → Command → Asked → Asked → Said A → Type 0
-Obeys command.Nothing old new said = Tells (Told reply.Nothing) old new said
-Obeys (command.Ask p line) old new said = IsLine (Asks p line old new) said
-Obeys (command.Rounds count) old new said = IsLine (MakesRounds count old new) said
-Obeys (command.Wait p index) old new said = IsLine (WaitsFor p index old new) said
-Obeys command.Finish old new said = IsLine (Finishes old new) said
-Obeys command.Report old new said = (new ≡ old) × Reports old said
-Obeys command.Quit old new said = Tells (Told reply.Nothing) old new said
-Obeys (command.Refused reason) old new said = Tells (Told (reply.Refused reason)) old new said
-Obeys command.Bad old new said = Tells (Told reply.BadLine) old new said
+-- what a machine does for what a line asks for, which may come with digits, and what is answered
+abbrev pub Obeys : {A : Type 0} → Command → List ℕ → Recorded → Recorded → Said A → Type 0
+Obeys command.Nothing digits old new said = Tells (Told reply.Nothing) old new said
+Obeys (command.Ask p line) digits old new said = IsLine (Asks p line old new) said
+Obeys (command.Rounds count) digits old new said = IsLine (MakesKeptRounds count old new) said
+Obeys (command.Wait p index) digits old new said = IsLine (WaitsFor p index old new) said
+Obeys command.Finish digits old new said = IsLine (Finishes old new) said
+Obeys command.Report digits old new said = (new ≡ old) × Reports old.asked said
+Obeys command.Save digits old new said = (new ≡ old) × SavesKept old said
+Obeys command.Load digits old new said = IsLine (LoadsRecord digits old new) said
+Obeys command.Quit digits old new said = Tells (Told reply.Nothing) old new said
+Obeys (command.Refused reason) digits old new said = Tells (Told (reply.Refused reason)) old new said
+Obeys command.Bad digits old new said = Tells (Told reply.BadLine) old new said

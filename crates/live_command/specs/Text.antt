@@ -22,6 +22,12 @@ told_words (told.Answered p index reply) =
     codes "answer" ++ spaced (decimal p) ++ spaced (decimal index) ++ spaced (reply_word reply)
 told_words told.Idle = codes "idle"
 told_words (told.Rounds count) = codes "rounds" ++ spaced (decimal count)
+told_words told.Loaded = codes "loaded"
+told_words told.NoRecord = codes "no record"
+told_words (told.BadByte place) = codes "bad byte" ++ spaced (decimal place)
+told_words (told.BadAction number) = codes "bad action" ++ spaced (decimal number)
+told_words (told.BadText fault) =
+    codes "bad text" ++ spaced (fault_code fault.fault) ++ spaced (decimal fault.line)
 told_words (told.Refused fault) = codes "fault" ++ spaced (fault_code fault)
 told_words told.BadLine = codes "bad line"
 

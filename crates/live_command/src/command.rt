@@ -16,6 +16,10 @@ pub enum Command {
     Finish,
     /// The report.
     Report,
+    /// The record of the machine.
+    Save,
+    /// The machine that a record makes, in the place of this one. The record is the line's second word.
+    Load,
     /// The end of the dialogue.
     Quit,
     /// Something of the right shape that can't be asked for, and why.

@@ -8,16 +8,16 @@ ghost use Rattle.live_command.specs.Responding.{Responds, goes_on};
 
 use crate::obeying::obey;
 use crate::said::put_said;
-use crate::{Command, Told, read_command, told_text};
-use machine_asked::AskedMachine;
+use crate::{Command, Told, read_command, second_word, told_text};
+use machine_record::RecordedMachine;
 use program_fault::ProgramFault;
 use report_lines::output::put_all;
 use report_lines::{Out, OutputFailed, Piped};
 use std::alloc::Allocator;
-use std::io::{self, BufRead, Read, Write};
+use std::io::{self, BufRead, ErrorKind, Read, Write};
 use torus::Fault;
 
-/// The most bytes that a line has, its end apart.
+/// The most bytes that a line has, its end apart, but for one that brings a record.
 const MOST_BYTES: u64 = 4096;
 
 /// Whether the dialogue goes on behind a command.
@@ -32,6 +32,8 @@ fn goes_on(command: Command) -> bool
         Command::Wait(_, _) => true,
         Command::Finish => true,
         Command::Report => true,
+        Command::Save => true,
+        Command::Load => true,
         Command::Refused(_) => true,
         Command::Bad => true,
     }
@@ -42,7 +44,7 @@ fn goes_on(command: Command) -> bool
 /// Errors: the output failed; a beginning of the answer was put.
 pub fn respond<A: Allocator + Copy, W: Out>(
     alloc: A,
-    machine: &mut AskedMachine<A>,
+    machine: &mut RecordedMachine<A>,
     line: &[u8],
     out: &mut W,
 ) -> Result<bool, OutputFailed>
@@ -52,18 +54,17 @@ pub fn respond<A: Allocator + Copy, W: Out>(
 {
     let tiles = machine.machine().torus().tiles();
     let command = read_command(line, tiles, machine.machine().words());
-    let said = obey(alloc, machine, command);
+    let said = obey(alloc, machine, command, second_word(line));
     put_said(out, &said)?;
     Ok(goes_on(command))
 }
 
-/// Answers that a line is a bad one. The dialogue goes on.
-fn refuse<W: Out>(out: &mut W) -> Result<bool, OutputFailed>
-    ensures ok { OnOk result
-        (Appends (W.taken out.old) (W.taken out.new) (told_text Told.BadLine)) }
+/// Answers why a line isn't obeyed. The dialogue goes on.
+fn refuse<W: Out>(out: &mut W, why: Told) -> Result<bool, OutputFailed>
+    ensures ok { OnOk result (Appends (W.taken out.old) (W.taken out.new) (told_text why)) }
     ensures on { IfOk result (λ on. on ≡ true) }
 {
-    put_all(out, told_text(Told::BadLine).as_str().as_bytes())?;
+    put_all(out, told_text(why).as_str().as_bytes())?;
     Ok(true)
 }
 
@@ -76,25 +77,70 @@ enum Came {
     Line,
     /// The line has more bytes than a line has; all of them are passed.
     TooLong,
+    /// Memory for the line was refused; all of it is passed.
+    NoMemory,
 }
 
-/// Reads the next line, without its end: a line feed, and a carriage return before it.
+/// Whether a line begins so that it may have more bytes than others: it brings a record.
+fn brings_record(line: &[u8]) -> bool {
+    line.starts_with(b"load ".as_slice())
+}
+
+/// Takes the end off a line: a line feed, and a carriage return before it.
+fn cut_end<A: Allocator>(line: &mut Vec<u8, A>) {
+    if line.last() == Some(&b'\n') {
+        line.pop();
+        if line.last() == Some(&b'\r') {
+            line.pop();
+        }
+    }
+}
+
+/// Reads the rest of a line that brings a record, without the line's end.
+fn read_rest<A: Allocator, I: BufRead>(input: &mut I, line: &mut Vec<u8, A>) -> io::Result<Came> {
+    match input.read_until(b'\n', line) {
+        Ok(_) => {
+            cut_end(line);
+            Ok(Came::Line)
+        }
+        Err(error) => {
+            if error.kind() != ErrorKind::OutOfMemory {
+                return Err(error);
+            }
+            input.skip_until(b'\n')?;
+            Ok(Came::NoMemory)
+        }
+    }
+}
+
+/// What comes of a line that has more bytes than a line has. It is whole, or its rest is still to be read.
+fn long_line<A: Allocator, I: BufRead>(
+    input: &mut I,
+    line: &mut Vec<u8, A>,
+    is_whole: bool,
+) -> io::Result<Came> {
+    match (brings_record(line), is_whole) {
+        (true, true) => Ok(Came::Line),
+        (true, false) => read_rest(input, line),
+        (false, true) => Ok(Came::TooLong),
+        (false, false) => {
+            input.skip_until(b'\n')?;
+            Ok(Came::TooLong)
+        }
+    }
+}
+
+/// Reads the next line, without its end.
 fn next_line<A: Allocator, I: BufRead>(input: &mut I, line: &mut Vec<u8, A>) -> io::Result<Came> {
     line.clear();
     let count = input.by_ref().take(MOST_BYTES + 2).read_until(b'\n', line)?;
     if count == 0 {
         return Ok(Came::Nothing);
     }
-    if line.last() == Some(&b'\n') {
-        line.pop();
-        if line.last() == Some(&b'\r') {
-            line.pop();
-        }
-    } else if count as u64 > MOST_BYTES {
-        input.skip_until(b'\n')?;
-    }
+    let is_whole = line.last() == Some(&b'\n');
+    cut_end(line);
     if line.len() as u64 > MOST_BYTES {
-        return Ok(Came::TooLong);
+        return long_line(input, line, is_whole);
     }
     Ok(Came::Line)
 }
@@ -105,7 +151,7 @@ fn next_line<A: Allocator, I: BufRead>(input: &mut I, line: &mut Vec<u8, A>) -> 
 /// Errors: out of memory, before the first line; or the output failed.
 pub fn converse<A: Allocator + Copy, I: BufRead, W: Write>(
     alloc: A,
-    machine: &mut AskedMachine<A>,
+    machine: &mut RecordedMachine<A>,
     input: &mut I,
     out: &mut W,
 ) -> Result<(), ProgramFault> {
@@ -115,7 +161,10 @@ pub fn converse<A: Allocator + Copy, I: BufRead, W: Write>(
     for _ in 0..u64::MAX {
         let goes_on = match next_line(input, &mut line) {
             Ok(Came::Line) => respond(alloc, machine, &line, &mut Piped::new(&mut *out))?,
-            Ok(Came::TooLong) => refuse(&mut Piped::new(&mut *out))?,
+            Ok(Came::TooLong) => refuse(&mut Piped::new(&mut *out), Told::BadLine)?,
+            Ok(Came::NoMemory) => {
+                refuse(&mut Piped::new(&mut *out), Told::Refused(Fault::Memory))?
+            }
             Ok(Came::Nothing) => false,
             Err(_) => false,
         };

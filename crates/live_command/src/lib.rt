@@ -12,9 +12,9 @@ pub mod told;
 
 pub use command::Command;
 pub use dialogue::{converse, respond};
-pub use machine_asked::AskedMachine;
+pub use machine_record::RecordedMachine;
 pub use obeying::obey;
-pub use reading::read_command;
+pub use reading::{read_command, second_word};
 pub use said::{Said, put_said};
 pub use text::{ToldText, told_text};
 pub use told::Told;

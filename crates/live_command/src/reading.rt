@@ -2,8 +2,8 @@
 
 ghost use Rattle.std.specs.Prelude.{◌≡◌, map};
 ghost use Rattle.lexer.specs.Words.{first_words};
-ghost use Rattle.live_command.specs.Command.{alone, ask_of, command_from, command_of, named, round_of};
-ghost use Rattle.live_command.specs.Command.{rounds_asked, wait_of};
+ghost use Rattle.live_command.specs.Command.{alone, ask_of, command_from, command_of, load_digits, named, round_of};
+ghost use Rattle.live_command.specs.Command.{rounds_asked, second_in, wait_of};
 
 use crate::command::Command;
 use lexer::first_words;
@@ -74,6 +74,17 @@ fn alone(command: Command, words: &[&[u8]]) -> Result<Command, Fault>
     }
 }
 
+/// What stands behind `load`: one word.
+fn load_digits(words: &[&[u8]]) -> Result<Command, Fault>
+    ensures { result ≡ load_digits (map (λ word. word.now) words.now) }
+{
+    match words {
+        [_] => Ok(Command::Load),
+        [] => Err(Fault::Line),
+        [_, _, ..] => Err(Fault::Line),
+    }
+}
+
 /// What a keyword and the words behind it ask for.
 fn named(keyword: &[u8], rest: &[&[u8]], tiles: u32, memory: u32) -> Result<Command, Fault>
     ensures { result ≡ named tiles memory keyword.now (map (λ word. word.now) rest.now) }
@@ -92,6 +103,12 @@ fn named(keyword: &[u8], rest: &[&[u8]], tiles: u32, memory: u32) -> Result<Comm
     }
     if keyword == b"report".as_slice() {
         return alone(Command::Report, rest);
+    }
+    if keyword == b"save".as_slice() {
+        return alone(Command::Save, rest);
+    }
+    if keyword == b"load".as_slice() {
+        return load_digits(rest);
     }
     if keyword == b"quit".as_slice() {
         return alone(Command::Quit, rest);
@@ -128,4 +145,16 @@ pub fn read_command(line: &[u8], tiles: u32, memory: u32) -> Command
 {
     let (words, count) = first_words(line);
     command_of(&words[..count], tiles, memory)
+}
+
+/// The second word of a line, or nothing.
+pub fn second_word(line: &[u8]) -> &[u8]
+    ensures { result.now ≡ second_in (first_words line.now) }
+{
+    let (words, count) = first_words(line);
+    match &words[..count] {
+        [_, second, ..] => second,
+        [_] => b"".as_slice(),
+        [] => b"".as_slice(),
+    }
 }

@@ -7,6 +7,7 @@ use crate::told::Told;
 use arrayvec::ArrayString;
 use itoa::Buffer;
 use packet::Reply;
+use script::LineFault;
 
 /// The text of an answer, with its line feed.
 pub type ToldText = ArrayString<64>;
@@ -96,17 +97,29 @@ fn answered(processor: u32, index: u32, reply: Reply) -> ToldText
     ended(text)
 }
 
-/// How many rounds were made.
-fn rounds(count: u64) -> ToldText
-    ensures { result.bytes ≡ told_text (Told.Rounds count) }
+/// These words, and a number.
+fn numbered(words: &str, number: u64) -> ToldText
+    requires { length words.now ≤ 10 }
+    ensures { result.bytes ≡ words.now ++ (32 ∷ decimal number) ++ (10 ∷ []) }
 {
-    let mut text = begun("rounds");
-    put_value(&mut text, count);
+    let mut text = begun(words);
+    put_value(&mut text, number);
     ended(text)
 }
 
-/// The text of an answer: `asked 0 3`, `answer 0 3 17`, `rounds 12`, `idle`, `fault F7` or `bad line`,
-/// with a line feed. `asked` has no index where none is known; where nothing is answered, it is empty.
+/// The fault of a record's text, and its line.
+fn bad_text(fault: LineFault) -> ToldText
+    ensures { result.bytes ≡ told_text (Told.BadText fault) }
+{
+    let mut text = begun("bad text");
+    put_word(&mut text, fault.fault.code());
+    put_value(&mut text, fault.line);
+    ended(text)
+}
+
+/// The text of an answer: `asked 0 3`, `answer 0 3 17`, `rounds 12`, `idle`, `loaded`, `no record`,
+/// `bad byte 8`, `bad action 3`, `bad text F4 1`, `fault F7` or `bad line`, with a line feed. `asked` has no index
+/// where none is known; where nothing is answered, it is empty.
 pub fn told_text(told: Told) -> ToldText
     ensures { result.bytes ≡ told_text told }
 {
@@ -115,7 +128,12 @@ pub fn told_text(told: Told) -> ToldText
         Told::Asked(processor, index) => asked(processor, index),
         Told::Answered(processor, index, reply) => answered(processor, index, reply),
         Told::Idle => ended(begun("idle")),
-        Told::Rounds(count) => rounds(count),
+        Told::Rounds(count) => numbered("rounds", count),
+        Told::Loaded => ended(begun("loaded")),
+        Told::NoRecord => ended(begun("no record")),
+        Told::BadByte(place) => numbered("bad byte", place),
+        Told::BadAction(number) => numbered("bad action", number),
+        Told::BadText(fault) => bad_text(fault),
         Told::Refused(fault) => {
             let mut text = begun("fault");
             put_word(&mut text, fault.code());

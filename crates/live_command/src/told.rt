@@ -1,4 +1,5 @@
 use packet::Reply;
+use script::LineFault;
 use torus::Fault;
 
 /// What is answered to a line of a dialogue, but for a report.
@@ -14,6 +15,16 @@ pub enum Told {
     Idle,
     /// So many rounds were made.
     Rounds(u64),
+    /// A record's machine stands in the place of this one.
+    Loaded,
+    /// There is no record: memory for it was refused.
+    NoRecord,
+    /// What stands at this byte of a record is no record's.
+    BadByte(u64),
+    /// The action of this number of a record, from 0, can't be done.
+    BadAction(u64),
+    /// A text of a record has this fault.
+    BadText(LineFault),
     /// It can't be done, and why.
     Refused(Fault),
     /// The line is of no shape that a line has.

@@ -1,7 +1,7 @@
 //! The dialogue with a machine, over standard input and standard output.
 
 use command_jobs::writer;
-use live_command::{AskedMachine, converse};
+use live_command::{RecordedMachine, converse};
 use program_fault::ProgramFault;
 use std::io::{BufReader, Input};
 use torus::Fault;
@@ -13,7 +13,7 @@ pub(crate) fn talk<R: Input + Print + AllocGlobal>(
     rt: &R,
     machine: &[u8],
 ) -> Result<(), ProgramFault> {
-    let mut machine = AskedMachine::load(rt.alloc(), machine, b"")?;
+    let mut machine = RecordedMachine::load(rt.alloc(), machine, b"")?;
     let Ok(mut input) = BufReader::new(rt.alloc(), rt.reader()) else {
         return Err(ProgramFault::Fault(Fault::Memory));
     };

@@ -1,0 +1,23 @@
+-- The cells of a line of a table: comma-separated values without quotes (RFC 4180).
+use Rattle.std.specs.Prelude.{ℕ, ◌==◌, ◌&&◌, Bool, not, List, []}
+use Rattle.std.specs.List.{list_any, slice_index_or, slice_split}
+use Rattle.lexer.specs.Words.{is_blank}
+
+-- the cells of a line: the parts between commas
+abbrev pub table_cells : List ℕ → List (List ℕ)
+table_cells line = slice_split (λ c. c == 44) line
+
+-- the cell at a place, empty where there is none
+abbrev pub cell_in : List (List ℕ) → ℕ → List ℕ
+cell_in cells place = slice_index_or cells place []
+
+-- a line has a quote
+abbrev pub has_quote : List ℕ → Bool
+has_quote line = list_any (λ c. c == 34) line
+
+-- a line has something beside blanks and commas
+abbrev pub is_in_cell : ℕ → Bool
+is_in_cell c = not (is_blank c) && not (c == 44)
+
+abbrev pub has_cells : List ℕ → Bool
+has_cells line = list_any is_in_cell line

@@ -1,0 +1,202 @@
+//! A row of a table: an operation.
+
+ghost use Rattle.std.specs.Prelude.{◌≡◌, map, slice_get};
+ghost use Rattle.trace_table.specs.Row.{answer_in_cell, operation_in_cells, operation_with, processor_in};
+ghost use Rattle.trace_table.specs.Row.{processor_in_cell};
+ghost use Rattle.trace_table.specs.Row.{reply_in_cell, reply_of_word, row_of_cells, row_time, time_in_cell};
+
+use crate::cells::cell_in;
+use crate::column::{Column, Columns};
+use crate::reason::TableReason;
+use lexer::{first_words, index, value};
+use packet::{Code, Operation, Reply};
+use trace_lines::{reply_read, spelled_form, told_of, unwanted_reply};
+
+/// The reply to an operation, and the time of it.
+#[derive(Clone, Copy)]
+pub struct TimedReply {
+    pub reply: Reply,
+    pub time: u64,
+}
+
+/// An operation of a table.
+#[derive(Clone, Copy)]
+pub struct TableRow {
+    /// The number of its line, from 1.
+    pub line: u64,
+    /// The processor, below 4096.
+    pub processor: u32,
+    pub operation: Operation,
+    /// The time of the issue.
+    pub issued: u64,
+    /// `None` where it isn't answered.
+    pub answer: Option<TimedReply>,
+}
+
+/// The processor of a cell.
+fn processor_in_cell(cell: &[u8]) -> Result<u32, TableReason>
+    ensures { result ≡ processor_in_cell cell.now }
+{
+    let (words, count) = first_words(cell);
+    match &words[..count] {
+        [word] => match index(word) {
+            Some(p) => {
+                if p < 4096 {
+                    Ok(p)
+                } else {
+                    Err(TableReason::Cell(Column::Processor))
+                }
+            }
+            None => Err(TableReason::Cell(Column::Processor)),
+        },
+        _ => Err(TableReason::Cell(Column::Processor)),
+    }
+}
+
+/// The time of a cell of a column; none where the cell is empty.
+fn time_in_cell(column: Column, cell: &[u8]) -> Result<Option<u64>, TableReason>
+    ensures { result ≡ time_in_cell column cell.now }
+{
+    let (words, count) = first_words(cell);
+    match &words[..count] {
+        [] => Ok(None),
+        [word] => row_time(column, value(word)),
+        _ => Err(TableReason::Cell(column)),
+    }
+}
+
+/// A time that a word of a column spells, where it spells a number.
+fn row_time(column: Column, spelled: Option<u128>) -> Result<Option<u64>, TableReason>
+    ensures { result ≡ row_time column spelled }
+{
+    match spelled {
+        Some(time) => {
+            if time < 1 << 64 {
+                Ok(Some(time as u64))
+            } else {
+                Err(TableReason::Cell(column))
+            }
+        }
+        None => Err(TableReason::Cell(column)),
+    }
+}
+
+/// The operation of a word, an address and values.
+fn operation_with(word: &[u8], address: &[u8], values: &[&[u8]]) -> Result<Operation, TableReason>
+    ensures { result ≡ operation_with word.now address.now (map (λ value. value.now) values.now) }
+{
+    let form = match values {
+        [] => spelled_form(word, &[address])?,
+        [one] => spelled_form(word, &[address, one])?,
+        [one, two] => spelled_form(word, &[address, one, two])?,
+        [one, two, three, ..] => spelled_form(word, &[address, one, two, three])?,
+    };
+    let operation = form.operation(1 << 32)?;
+    Ok(operation)
+}
+
+/// The operation of the cells of its word, its address and its values.
+fn operation_in_cells(word: &[u8], address: &[u8], values: &[u8]) -> Result<Operation, TableReason>
+    ensures { result ≡ operation_in_cells word.now address.now values.now }
+{
+    let (words, count) = first_words(word);
+    let [word] = &words[..count] else {
+        return Err(TableReason::Cell(Column::Operation));
+    };
+    let (addresses, count) = first_words(address);
+    let [address] = &addresses[..count] else {
+        return Err(TableReason::Cell(Column::Address));
+    };
+    let (values, count) = first_words(values);
+    operation_with(word, address, &values[..count])
+}
+
+/// The reply that a word is to an operation of a code.
+fn reply_of_word(code: Code, word: &[u8]) -> Result<Reply, TableReason>
+    ensures { result ≡ reply_of_word code word.now }
+{
+    let told = told_of(word)?;
+    if let Some(reason) = unwanted_reply(code, told) {
+        return Err(TableReason::Line(reason));
+    }
+    let reply = reply_read(told)?;
+    Ok(reply)
+}
+
+/// The reply of a cell to an operation of a code.
+fn reply_in_cell(code: Code, cell: &[u8]) -> Result<Reply, TableReason>
+    ensures { result ≡ reply_in_cell code cell.now }
+{
+    let (words, count) = first_words(cell);
+    match &words[..count] {
+        [word] => reply_of_word(code, word),
+        _ => Err(TableReason::Cell(Column::Reply)),
+    }
+}
+
+/// The answer to an operation of a code that was issued at a time.
+fn answer_in_cell(
+    code: Code,
+    issued: u64,
+    answered: Option<u64>,
+    cell: &[u8],
+) -> Result<Option<TimedReply>, TableReason>
+    ensures { result ≡ answer_in_cell code issued answered cell.now }
+{
+    let Some(time) = answered else {
+        return Ok(None);
+    };
+    if time < issued {
+        return Err(TableReason::Backwards);
+    }
+    let reply = reply_in_cell(code, cell)?;
+    Ok(Some(TimedReply { reply, time }))
+}
+
+/// The row of the cells of a line.
+///
+/// Errors: the first cell that is refused.
+pub(crate) fn row_of_cells(
+    line: u64,
+    columns: Columns,
+    cells: &[&[u8]],
+) -> Result<TableRow, TableReason>
+    ensures { result ≡ row_of_cells line columns (map (λ cell. cell.now) cells.now) }
+{
+    let processor = processor_in_cell(cell_in(cells, columns.processor))?;
+    let operation = operation_in_cells(
+        cell_in(cells, columns.operation),
+        cell_in(cells, columns.address),
+        cell_in(cells, columns.values),
+    )?;
+    let Some(issued) = time_in_cell(Column::Issued, cell_in(cells, columns.issued))? else {
+        return Err(TableReason::Cell(Column::Issued));
+    };
+    let answered = time_in_cell(Column::Answered, cell_in(cells, columns.answered))?;
+    let code = operation.op.code();
+    let answer = answer_in_cell(code, issued, answered, cell_in(cells, columns.reply))?;
+    Ok(TableRow {
+        line,
+        processor,
+        operation,
+        issued,
+        answer,
+    })
+}
+
+/// The row of a number, from 0.
+pub(crate) fn row_at(rows: &[TableRow], number: usize) -> Option<TableRow>
+    ensures { result ≡ slice_get rows.now number }
+{
+    rows.get(number).copied()
+}
+
+/// The processor of the row of a number, from 0; 0 where there is none.
+pub(crate) fn processor_at(rows: &[TableRow], number: usize) -> u32
+    ensures { result ≡ processor_in (slice_get rows.now number) }
+{
+    match row_at(rows, number) {
+        Some(row) => row.processor,
+        None => 0,
+    }
+}
