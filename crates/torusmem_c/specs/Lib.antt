@@ -2,9 +2,11 @@ pub mod Outcome
 pub mod Choices
 pub mod Held
 pub mod Steps
+pub mod Clocked
 pub mod Records
 pub mod Room
 pub mod Routes
+pub mod Saving
 pub mod Shapes
 pub mod Orders
 pub mod Shown
@@ -17,3 +19,4 @@ pub mod Traces
 pub mod Watching
 pub mod Appending
 pub mod Opening
+pub mod Models

@@ -3,7 +3,9 @@
 
 pub mod appending;
 mod choice;
+pub mod clocking;
 pub mod explaining;
+pub mod models;
 pub mod networks;
 pub mod opening;
 pub mod order;
@@ -13,6 +15,7 @@ pub mod reading;
 pub mod records;
 mod room;
 pub mod routes;
+pub mod saving;
 pub mod shape;
 pub mod spinning;
 pub mod stepping;
