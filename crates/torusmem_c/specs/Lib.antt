@@ -9,6 +9,7 @@ pub mod Routes
 pub mod Saving
 pub mod Shapes
 pub mod Orders
+pub mod Happened
 pub mod Shown
 pub mod Texts
 pub mod Channels

@@ -4,6 +4,7 @@
 pub mod appending;
 mod choice;
 pub mod clocking;
+pub mod events;
 pub mod explaining;
 pub mod models;
 pub mod networks;
