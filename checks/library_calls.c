@@ -134,6 +134,8 @@ static void every_call_says_empty(torusmem_machine *m) {
   MUST(says(torusmem_save(m, &byte, 1), TORUSMEM_EMPTY, 0) && byte == 7);
   torusmem_ordered ordered = { 7, 7, 7, 7, 7, 7, 7 };
   MUST(says(torusmem_order(m, 0, &ordered, 1), TORUSMEM_EMPTY, 0) && ordered.bank == 7);
+  torusmem_happened happened = { 7, 7, ordered };
+  MUST(says(torusmem_events(m, 0, &happened, 1), TORUSMEM_EMPTY, 0) && happened.number == 7);
   MUST(says(torusmem_word(m, 99), TORUSMEM_EMPTY, 0));
   MUST(says(torusmem_row(m, 0), TORUSMEM_EMPTY, 0));
   MUST(says(torusmem_rows(m, &word, 1), TORUSMEM_EMPTY, 0) && word == 7);
@@ -1006,6 +1008,9 @@ static void run_with_little_memory(void) {
   torusmem_ordered row = { 7, 7, 7, 7, 7, 7, 7 };
   said = torusmem_order(&m, (uint32_t)(torusmem_order(&m, 0, NULL, 0).value - 1), &row, 1);
   MUST((says(said, TORUSMEM_OK, 1) && row.answered > 0) || row.bank == 7);
+  torusmem_happened event = { 7, 7, row };
+  said = torusmem_events(&m, 1, &event, 1);
+  MUST(event.number == 7 && (said.code == TORUSMEM_SHORT || says(said, TORUSMEM_FAULT_MEMORY, 0)));
   torusmem_machine fresh = TORUSMEM_MACHINE_INIT;
   said = torusmem_reopen(&m, &fresh);
   MUST(fresh.full ? says(said, TORUSMEM_OK, 0) : says(said, TORUSMEM_FAULT_MEMORY, 0));
@@ -1115,6 +1120,37 @@ static void orders(torusmem_machine *m) {
   MUST(says(torusmem_order(m, UINT32_MAX, rest, 1), TORUSMEM_OK, 0));
 }
 
+/* The events from each number on: those of the rows of the order, each once, by rising numbers. */
+static void events(torusmem_machine *m) {
+  enum { MOST_ROWS = 4096 };
+  static torusmem_ordered rows[MOST_ROWS];
+  static torusmem_happened all[3 * MOST_ROWS], rest[3 * MOST_ROWS];
+  uint64_t count = torusmem_order(m, 0, rows, MOST_ROWS).value, wanted = 0;
+  for (uint64_t row = 0; row < count; row++) wanted += rows[row].answered > 0 ? 3 : 2;
+  MUST(says(torusmem_events(m, 0, all, 3 * MOST_ROWS), TORUSMEM_OK, wanted));
+  for (uint64_t at = 0; at < wanted; at++) {
+    const torusmem_happened *it = &all[at];
+    const torusmem_ordered *row = &it->operation;
+    MUST(at == 0 ? it->number > 0 : it->number > all[at - 1].number);
+    MUST(it->what == TORUSMEM_ISSUED ? it->number == row->issued
+                                     : it->number == (it->what == TORUSMEM_SERVED ? row->served : row->answered));
+    bool found = false;
+    for (uint64_t place = 0; place < count; place++) found |= memcmp(row, &rows[place], sizeof *row) == 0;
+    MUST(it->what <= TORUSMEM_ANSWERED && found);
+  }
+  uint32_t last = wanted > 0 ? all[wanted - 1].number : 0;
+  for (uint32_t from = 0; from <= last + 1; from += 1 + last / 20) {
+    size_t left = 0;
+    for (uint64_t at = 0; at < wanted; at++) left += all[at].number >= from;
+    memset(rest, 7, sizeof rest);
+    if (left > 0) MUST(says(torusmem_events(m, from, rest, left - 1), TORUSMEM_SHORT, left) && rest[0].what == 0x07070707);
+    MUST(says(torusmem_events(m, from, rest, left + 1), TORUSMEM_OK, left) && rest[left].what == 0x07070707);
+    MUST(memcmp(rest, all + (wanted - left), left * sizeof *rest) == 0);
+    MUST(says(torusmem_events(m, from, NULL, 0), left > 0 ? TORUSMEM_SHORT : TORUSMEM_OK, left));
+  }
+  MUST(says(torusmem_events(m, UINT32_MAX, rest, 1), TORUSMEM_OK, 0));
+}
+
 /* The report and its check ask for memory, and give all of it back. */
 static void report_keeps_nothing(torusmem_machine *m) {
   int64_t before = live;
@@ -1165,14 +1201,14 @@ static void steps(void) {
   }
   MUST(moves > 0 && uses_of_memory() == before);
   report_keeps_nothing(&m);
-  orders(&m);
+  orders(&m), events(&m);
   report.length = (size_t)torusmem_report(&m, report.bytes, MOST_BYTES).value;
   before = uses_of_memory();
   while (torusmem_finished(&m).value == 0 && torusmem_moves_left(&m).value > 0) torusmem_round(&m);
   look(&m);
   MUST(says(torusmem_finished(&m), TORUSMEM_OK, 1) && uses_of_memory() == before);
   report_keeps_nothing(&m);
-  orders(&m);
+  orders(&m), events(&m);
   torusmem_free(&m);
   MUST(!m.full && live == 0);
   lists(made, count, moves, &report);

@@ -34,6 +34,7 @@ void machines() {
   MUST(m.answers(0).size() == 2 && m.answers(0, 1).at(0).old == 17 && m.entries(1).size() == 2);
   MUST(m.rows().size() == 24 * 4 + 8 + 1 && m.rows()[24 * 4 + 5] == 17 && m.ports() == 10);
   MUST(m.order().size() == 2 && m.order(1).at(0).served == 5 && m.order(2).empty());
+  MUST(m.events().size() == 6 && m.events(6).at(0).what == TORUSMEM_ANSWERED && m.events(7).empty());
   MUST(m.shape().radices[0] == 2 && m.shape().tags == 4);
   torusmem::machine again = m.reopened();
   MUST(again.word(5) == 17 && again.answers(0).empty() && m.answers(0).size() == 2);

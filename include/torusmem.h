@@ -7,8 +7,8 @@
    MEMORY. torusmem_load, torusmem_load_recorded, torusmem_open, torusmem_reopen, torusmem_restore and torusmem_clone
    allocate what the machine needs, torusmem_append and torusmem_ask what a further line needs, and torusmem_free frees
    all of it. Of a machine that keeps a record, the calls that make steps or rounds also allocate what the record needs.
-   torusmem_report, torusmem_save, torusmem_order, torusmem_check, torusmem_explain, torusmem_spins_out, torusmem_network,
-   torusmem_linearize and torusmem_model free what they allocate before they return.
+   torusmem_report, torusmem_save, torusmem_order, torusmem_events, torusmem_check, torusmem_explain, torusmem_spins_out,
+   torusmem_network, torusmem_linearize and torusmem_model free what they allocate before they return.
    torusmem_watch_begin allocates what a watch needs at first, torusmem_watch_issue and torusmem_watch_answer allocate
    and free as operations open and end, and torusmem_watch_end frees all of it. No other call allocates.
 
@@ -395,6 +395,24 @@ typedef struct torusmem_ordered {
 torusmem_outcome torusmem_order(torusmem_machine *m, uint32_t from, torusmem_ordered *out, size_t out_length)
     TORUSMEM_RESULT;
 
+/* What happens to an operation: it is issued, served and answered. */
+enum { TORUSMEM_ISSUED = 0, TORUSMEM_SERVED = 1, TORUSMEM_ANSWERED = 2 };
+
+/* An event of an operation that is served. */
+typedef struct torusmem_happened {
+  uint32_t number;            /* among all events, from 1 */
+  uint32_t what;              /* TORUSMEM_ISSUED, TORUSMEM_SERVED or TORUSMEM_ANSWERED */
+  torusmem_ordered operation; /* its row of torusmem_order */
+} torusmem_happened;
+
+/* The issues, services and answers of the operations that are served, those numbered `from` or higher, in the order in
+   which they happened, by the numbers that torusmem_order tells. The issue of an operation comes with its service: until
+   then its number is left free.
+   OK: they are the first `value` of out, and those behind them are as they were; where there are no more, value is 0.
+   SHORT: value is how many there are, and out is as it was; so is it on FAULT_MEMORY and EMPTY. */
+torusmem_outcome torusmem_events(torusmem_machine *m, uint32_t from, torusmem_happened *out, size_t out_length)
+    TORUSMEM_RESULT;
+
 /* A spin that ran out of loads: it made all its loads, and none of them found the number that it sought. */
 typedef struct torusmem_spin {
   uint32_t processor, address, loads;
@@ -585,7 +603,7 @@ torusmem_outcome torusmem_watch_answer(torusmem_watch *w, uint64_t number, uint3
 /* Ends the watch that *w holds, if any, and gives its memory back. It may be begun again then. */
 void torusmem_watch_end(torusmem_watch *w);
 
-/* The library's own calls take no null pointer. So a C program that calls one of the seventeen below has a call in front
+/* The library's own calls take no null pointer. So a C program that calls one of the eighteen below has a call in front
    of it, by which a pointer with the length 0 becomes one to an item that is not looked at. */
 static inline const uint8_t *torusmem_text_at(const uint8_t *at, size_t length) {
   static const uint8_t none = 0;
@@ -673,6 +691,14 @@ static inline torusmem_outcome torusmem_order_into(torusmem_machine *m, uint32_t
   return torusmem_order(m, from, out_length > 0 ? out : &none, out_length);
 }
 #define torusmem_order torusmem_order_into
+
+TORUSMEM_RESULT
+static inline torusmem_outcome torusmem_events_into(torusmem_machine *m, uint32_t from, torusmem_happened *out,
+                                                    size_t out_length) {
+  torusmem_happened none = { 0, 0, { 0, 0, 0, 0, 0, 0, 0 } };
+  return torusmem_events(m, from, out_length > 0 ? out : &none, out_length);
+}
+#define torusmem_events torusmem_events_into
 
 TORUSMEM_RESULT
 static inline torusmem_outcome torusmem_report_into(torusmem_machine *m, uint8_t *out, size_t out_length) {
@@ -900,6 +926,8 @@ static inline void torusmem_watch_end_marked(torusmem_watch *w) {
 #define torusmem_entry_at(m, ...) torusmem_entry_at(TORUSMEM_MACHINE(m, "torusmem_entry_at"), __VA_ARGS__)
 #undef torusmem_order
 #define torusmem_order(m, ...) torusmem_order_into(TORUSMEM_MACHINE(m, "torusmem_order"), __VA_ARGS__)
+#undef torusmem_events
+#define torusmem_events(m, ...) torusmem_events_into(TORUSMEM_MACHINE(m, "torusmem_events"), __VA_ARGS__)
 #undef torusmem_spins_out
 #define torusmem_spins_out(m, ...) torusmem_spins_out_into(TORUSMEM_MACHINE(m, "torusmem_spins_out"), __VA_ARGS__)
 #undef torusmem_report

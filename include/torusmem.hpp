@@ -237,6 +237,12 @@ class machine {
       return torusmem_order(&held_, from, at, room);
     });
   }
+  // The issues, services and answers of the operations served so far, in their order: those numbered `from` or higher.
+  std::vector<torusmem_happened> events(uint32_t from = 1) {
+    return filled<std::vector<torusmem_happened>>("events", 64, [&](torusmem_happened *at, size_t room) {
+      return torusmem_events(&held_, from, at, room);
+    });
+  }
   std::vector<torusmem_spin> spins_out(text shape, text scripts) {
     return filled<std::vector<torusmem_spin>>("spins_out", 16, [&](torusmem_spin *at, size_t room) {
       return torusmem_spins_out(&held_, shape.data(), shape.size(), scripts.data(), scripts.size(), at, room);

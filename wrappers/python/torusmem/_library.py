@@ -69,6 +69,10 @@ class RawOrdered(Structure):
     _fields_ = [(it, c_uint32) for it in ("bank", "place", "source", "index", "issued", "served", "answered")]
 
 
+class RawHappened(Structure):
+    _fields_ = [("number", c_uint32), ("what", c_uint32), ("operation", RawOrdered)]
+
+
 class RawSpin(Structure):
     _fields_ = [(it, c_uint32) for it in ("processor", "address", "loads")] + [
         (it, c_uint64) for it in ("line", "sought")
@@ -137,6 +141,7 @@ CALLS = {
     "entries": (Outcome, [_M, c_uint32]),
     "entry_at": (RawEntry, [_M, c_uint32, c_uint32]),
     "order": (Outcome, [_M, c_uint32, POINTER(RawOrdered), c_size_t]),
+    "events": (Outcome, [_M, c_uint32, POINTER(RawHappened), c_size_t]),
     "spins_out": (Outcome, [_M, c_char_p, c_size_t, c_char_p, c_size_t, POINTER(RawSpin), c_size_t]),
     "report": (Outcome, [_M, c_void_p, c_size_t]),
     "check": (Outcome, [c_char_p, c_size_t]),

@@ -184,6 +184,19 @@ pub struct torusmem_ordered {
     pub answered: u32,
 }
 
+pub const TORUSMEM_ISSUED: u32 = 0;
+pub const TORUSMEM_SERVED: u32 = 1;
+pub const TORUSMEM_ANSWERED: u32 = 2;
+
+/// An event of an operation that is served.
+#[repr(C)]
+#[derive(Clone, Copy, Debug, Default)]
+pub struct torusmem_happened {
+    pub number: u32,
+    pub what: u32,
+    pub operation: torusmem_ordered,
+}
+
 /// A channel of a route.
 #[repr(C)]
 #[derive(Clone, Copy, Debug, Default)]
@@ -343,6 +356,12 @@ extern "C" {
         m: *mut torusmem_machine,
         from: u32,
         out: *mut torusmem_ordered,
+        out_length: usize,
+    ) -> torusmem_outcome;
+    pub fn torusmem_events(
+        m: *mut torusmem_machine,
+        from: u32,
+        out: *mut torusmem_happened,
         out_length: usize,
     ) -> torusmem_outcome;
     pub fn torusmem_spins_out(

@@ -249,6 +249,22 @@ pub struct Ordered {
     pub answered: Option<u32>,
 }
 
+/// What happens to an operation.
+#[derive(Clone, Copy, Debug, PartialEq, Eq, Hash)]
+pub enum What {
+    Issue,
+    Service,
+    Answer,
+}
+
+/// An event of an operation that is served: its number among all events, from 1, and the operation.
+#[derive(Clone, Copy, Debug, PartialEq, Eq, Hash)]
+pub struct Happened {
+    pub number: u32,
+    pub what: What,
+    pub operation: Ordered,
+}
+
 /// A spin that ran out of loads: none of them found the number that it sought.
 #[derive(Clone, Copy, Debug, PartialEq, Eq, Hash)]
 pub struct Spin {
@@ -548,6 +564,19 @@ impl Machine {
         Ok(room.iter().map(ordered_of).collect())
     }
 
+    /// The issues, services and answers of the operations served so far, in the order in which they happened: those
+    /// numbered `from` or higher. The issue of an operation comes with its service. The only fault is that memory is refused.
+    pub fn events(&mut self, from: u32) -> Result<Vec<Happened>, Fault> {
+        let mut room = Vec::new();
+        let mut said = self.raw.events(from, &mut room);
+        if said.code == sys::TORUSMEM_SHORT {
+            room.resize(said.value as usize, sys::torusmem_happened::default());
+            said = self.raw.events(from, &mut room);
+        }
+        granted(said)?;
+        Ok(room.iter().map(happened_of).collect())
+    }
+
     /// The spins that ran out of loads in what was run so far, by processor, and of each in the order of its script: by
     /// the texts of which the machine was loaded, which are read once more. The faults are those of the texts, and want
     /// of memory.
@@ -696,6 +725,15 @@ fn entry_of(entry: &sys::torusmem_entry) -> Entry {
         operation: operation_of(entry.operation, entry.first, entry.second),
         reply: reply_of(entry.has_old, entry.old),
     }
+}
+
+fn happened_of(event: &sys::torusmem_happened) -> Happened {
+    let what = match event.what {
+        sys::TORUSMEM_ISSUED => What::Issue,
+        sys::TORUSMEM_SERVED => What::Service,
+        _ => What::Answer,
+    };
+    Happened { number: event.number, what, operation: ordered_of(&event.operation) }
 }
 
 fn ordered_of(row: &sys::torusmem_ordered) -> Ordered {

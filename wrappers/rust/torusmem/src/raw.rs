@@ -170,6 +170,12 @@ impl Raw {
         unsafe { torusmem_order(&mut self.0, from, buffer_at(out, &mut none), out.len()) }
     }
 
+    pub fn events(&mut self, from: u32, out: &mut [torusmem_happened]) -> torusmem_outcome {
+        let mut none = torusmem_happened::default();
+        // SAFETY: the machine is this one's alone, and so is the slice, which has as many events as it says.
+        unsafe { torusmem_events(&mut self.0, from, buffer_at(out, &mut none), out.len()) }
+    }
+
     pub fn spins_out(&mut self, machine: &[u8], scripts: &[u8], out: &mut [torusmem_spin]) -> torusmem_outcome {
         let mut none = torusmem_spin::default();
         let (machine_at, scripts_at) = (text_at(machine), text_at(scripts));

@@ -2,10 +2,10 @@
 use std::fs;
 use std::path::{Path, PathBuf};
 use std::thread;
-use torusmem::{check, explain, linearize, model, network, Answer, Asked, By, Channel, Choice, Class, Dir, Entry, Event};
-use torusmem::{EventFault, LogEntry, LogFault};
+use torusmem::{check, explain, linearize, model, network, Answer, Asked, By, Channel, Choice, Class, Dir, Entry};
+use torusmem::{Event, EventFault, LogEntry, LogFault};
 use torusmem::{Fault, Judged, Kind, Line, Link, Machine, NotTaken, Operation, Refused, Reply, Spin, Text, Value};
-use torusmem::{Fill, Verdict, Watch, Why};
+use torusmem::{Fill, Verdict, Watch, What, Why};
 
 fn path(name: &str) -> PathBuf {
     Path::new(env!("CARGO_MANIFEST_DIR")).join("../../..").join(name)
@@ -276,6 +276,11 @@ fn the_order() {
     let told = |it: &torusmem::Ordered| (it.bank, it.place, it.source, it.index, it.issued, it.served, it.answered);
     assert_eq!(rows.iter().map(told).collect::<Vec<_>>(), [(1, 0, 0, 0, 1, 2, Some(3)), (1, 1, 0, 1, 4, 5, Some(6))]);
     assert_eq!((machine.order(1), machine.order(u32::MAX)), (Ok(rows[1..].to_vec()), Ok(vec![])));
+    let events = machine.events(1).unwrap();
+    let seen: Vec<_> = events.iter().map(|it| (it.number, it.what, it.operation)).collect();
+    let kinds = [What::Issue, What::Service, What::Answer];
+    let wanted: Vec<_> = (0..6).map(|at| (at as u32 + 1, kinds[at % 3], rows[at / 3])).collect();
+    assert_eq!((seen, machine.events(6)), (wanted, Ok(events[5..].to_vec())));
 }
 
 #[test]
