@@ -2,8 +2,8 @@
 
      library_calls finish MACHINE SCRIPT           prints the report of a finished run, and nothing else
      library_calls codes MACHINE SCRIPT REPORT     what calls answer of a machine that is empty or full, of what isn't
-                                                   there, of short buffers, of texts with faults, of networks, spins
-                                                   and traces; the texts are those of examples/
+                                                   there, of short buffers, of texts with faults, of networks, spins,
+                                                   traces and logs; the texts are those of examples/
      library_calls memory MACHINE SCRIPT REPORT    the same run with the n-th request for memory refused, for each n
      library_calls steps MACHINE SCRIPT            a run by drawn steps, one by one and by lists, by rounds and at once:
                                                    once it is loaded, no call asks for memory but that of a report and
@@ -118,6 +118,7 @@ static void every_call_says_empty(torusmem_machine *m) {
   MUST(says(torusmem_run(m, &attempt, 1), TORUSMEM_EMPTY, 0) && says(torusmem_run(m, NULL, 0), TORUSMEM_EMPTY, 0));
   MUST(says(torusmem_round(m), TORUSMEM_EMPTY, 0));
   MUST(says(torusmem_finish(m), TORUSMEM_EMPTY, 0));
+  MUST(says(torusmem_clocked_round(m, 0), TORUSMEM_EMPTY, 0) && says(torusmem_finish_clocked(m), TORUSMEM_EMPTY, 0));
   MUST(says(torusmem_append(m, 0, TORUSMEM_LOAD, 0, 0, 0, 0), TORUSMEM_EMPTY, 0));
   MUST(says(torusmem_ask(m, 0, TORUSMEM_LOAD, 0, 0, 0, 0), TORUSMEM_EMPTY, 0));
   MUST(torusmem_answer_of(m, 0, 0).code == TORUSMEM_EMPTY);
@@ -129,8 +130,12 @@ static void every_call_says_empty(torusmem_machine *m) {
   MUST(says(torusmem_shape(m, &shape), TORUSMEM_EMPTY, 0) && memcmp(&shape, &same, sizeof shape) == 0);
   torusmem_machine fresh = TORUSMEM_MACHINE_INIT;
   MUST(says(torusmem_reopen(m, &fresh), TORUSMEM_EMPTY, 0) && !fresh.full);
+  MUST(says(torusmem_clone(m, &fresh), TORUSMEM_EMPTY, 0) && !fresh.full);
+  MUST(says(torusmem_save(m, &byte, 1), TORUSMEM_EMPTY, 0) && byte == 7);
   torusmem_ordered ordered = { 7, 7, 7, 7, 7, 7, 7 };
   MUST(says(torusmem_order(m, 0, &ordered, 1), TORUSMEM_EMPTY, 0) && ordered.bank == 7);
+  torusmem_happened happened = { 7, 7, ordered };
+  MUST(says(torusmem_events(m, 0, &happened, 1), TORUSMEM_EMPTY, 0) && happened.number == 7);
   MUST(says(torusmem_word(m, 99), TORUSMEM_EMPTY, 0));
   MUST(says(torusmem_row(m, 0), TORUSMEM_EMPTY, 0));
   MUST(says(torusmem_rows(m, &word, 1), TORUSMEM_EMPTY, 0) && word == 7);
@@ -650,6 +655,116 @@ static void traces_are_refused(void) {
   MUST(order[0] == 1 && order[1] == 0 && order[2] == 2 && order[3] == 3);
 }
 
+static torusmem_log_entry makes(uint32_t processor, uint32_t operation, uint32_t address, uint64_t first) {
+  torusmem_log_entry entry = { TORUSMEM_LOG_MADE, processor, 99, operation, address, 99, 99, 99, first, 0, 99 };
+  return entry;
+}
+
+static torusmem_log_entry names(uint32_t kind, uint32_t processor, uint32_t index) {
+  torusmem_log_entry entry = { kind, processor, index, 99, 99, 99, 99, 99, 99, 99, 99 };
+  return entry;
+}
+
+static torusmem_log_entry replies(uint32_t processor, uint32_t index, uint32_t has_old, uint64_t old) {
+  torusmem_log_entry entry = names(TORUSMEM_LOG_REPLIED, processor, index);
+  entry.has_old = has_old, entry.old = old;
+  return entry;
+}
+
+static torusmem_models models_of(uint64_t words, const torusmem_log_entry *log, size_t count, uint32_t order,
+                                 size_t room) {
+  memset(written.bytes, 0xAA, room + 8);
+  torusmem_models said = torusmem_model(words, log, count, order, written.bytes, room);
+  MUST(written.bytes[room] == 0xAA && live == 0);
+  return said;
+}
+
+/* The models that a log obeys, and the text; with a byte too few it is too short. */
+static void obeys(const torusmem_log_entry *log, size_t count, uint32_t order, uint32_t models, const char *text) {
+  size_t length = strlen(text);
+  torusmem_models said = models_of(2, log, count, order, length - 1);
+  MUST(said.code == TORUSMEM_SHORT && said.value == length && said.models == models && written.bytes[0] == 0xAA);
+  said = models_of(2, log, count, order, length + 1);
+  MUST(said.code == TORUSMEM_OK && said.value == length && said.models == models && said.word + said.writer == 0);
+  MUST(memcmp(written.bytes, text, length) == 0 && written.bytes[length] == 0xAA);
+}
+
+/* A log that has a wrong reply, or an entry that can't stand. */
+static void refuses(const torusmem_log_entry *log, size_t count, uint32_t code, uint64_t value, uint64_t word,
+                    uint64_t writer) {
+  torusmem_models said = models_of(2, log, count, 1, 100);
+  MUST(said.code == code && said.models == 0 && said.value == value && said.word == word && said.writer == writer);
+  MUST(written.bytes[0] == 0xAA);
+}
+
+/* Two processors store, then load the other word, and neither sees the other's store (Lamport, IEEE ToC 28(9), 1979):
+   what total store order allows and sequential consistency forbids. */
+static void logs_are_judged(void) {
+  const torusmem_log_entry log[] = {
+    makes(0, TORUSMEM_STORE, 0, 1),           makes(0, TORUSMEM_LOAD, 1, 0),
+    makes(1, TORUSMEM_STORE, 1, 1),           makes(1, TORUSMEM_LOAD, 0, 0),
+    names(TORUSMEM_LOG_WROTE, 0, 0),          names(TORUSMEM_LOG_WROTE, 1, 0),
+    names(TORUSMEM_LOG_READ_OPENING, 0, 1),   names(TORUSMEM_LOG_SERVED, 1, 1),
+    replies(0, 0, 0, 99),                     replies(0, 1, 1, 0),
+  };
+  torusmem_log_entry other[12];
+  memcpy(other, log, sizeof log);
+  obeys(log, 8, 0, TORUSMEM_COHERENT + TORUSMEM_FENCED + TORUSMEM_PSO + TORUSMEM_TSO + TORUSMEM_SC,
+        "coherent yes\nfenced yes\npso yes\ntso yes\nsc yes\n");
+  other[7] = names(TORUSMEM_LOG_READ_OPENING, 1, 1);
+  obeys(other, 10, 0, TORUSMEM_COHERENT + TORUSMEM_FENCED + TORUSMEM_PSO + TORUSMEM_TSO,
+        "coherent yes\nfenced yes\npso yes\ntso yes\nsc no\nno order of sc:\nline 1: 0 store 0 1\n"
+        "  before, in program order\nline 2: 0 load 1\n  read a word that was overwritten by\n"
+        "line 3: 1 store 1 1\n  before, in program order\nline 4: 1 load 0\n"
+        "  read a word that was overwritten by\nline 1: 0 store 0 1\n");
+  other[7] = names(TORUSMEM_LOG_READ, 1, 1), other[7].from_processor = other[7].from_index = 0;
+  MUST(models_of(2, other, 10, 1, 1000).models == 31 && strstr((char *)written.bytes, "sc yes\nan order of sc:\n"));
+  other[2] = makes(1, TORUSMEM_FENCE, 99, 99);
+  refuses(other, 10, 4, 6, 0, 0);
+  MUST(models_of(1, NULL, 0, 0, 100).models == 31 && torusmem_model(1, NULL, 0, 0, NULL, 0).code == TORUSMEM_SHORT);
+}
+
+/* Replies that aren't due, and entries that can't stand, each with the fault of the log text. */
+static void logs_are_refused(void) {
+  torusmem_log_entry log[6] = { makes(0, TORUSMEM_STORE, 1, 5), makes(4095, TORUSMEM_LOAD, 1, 0),
+                                names(TORUSMEM_LOG_WROTE, 0, 0), names(TORUSMEM_LOG_SERVED, 4095, 0) };
+  torusmem_log_entry *last = &log[4];
+  *last = replies(4095, 0, 1, 4);
+  refuses(log, 5, TORUSMEM_WRONG_REPLY, 5, 5, 1);
+  *last = replies(4095, 0, 1, 5);
+  MUST(models_of(2, log, 5, 0, 100).models == 31);
+  log[5] = *last;
+  refuses(log, 6, 5, 6, 0, 0);
+  *last = replies(4095, 0, 2, 5);
+  refuses(log, 5, 4, 5, 0, 0);
+  *last = replies(4095, 0, 0, 5);
+  refuses(log, 5, 4, 5, 0, 0);
+  *last = names(7, 0, 0);
+  refuses(log, 5, 4, 5, 0, 0);
+  *last = makes(0, TORUSMEM_FENCE + 1, 0, 0);
+  refuses(log, 5, 4, 5, 0, 0);
+  *last = makes(4096, TORUSMEM_MIN, 0, 0);
+  refuses(log, 5, 8, 5, 0, 0);
+  *last = makes(0, TORUSMEM_MIN, 2, 0);
+  refuses(log, 5, 7, 5, 0, 0);
+  *last = makes(0, TORUSMEM_MIN, 0, 0);
+  refuses(log, 5, 5, 5, 0, 0);
+  *last = names(TORUSMEM_LOG_WROTE, 0, 1);
+  refuses(log, 5, 6, 5, 0, 0);
+  *last = names(TORUSMEM_LOG_WROTE, 0, 0);
+  refuses(log, 5, 5, 5, 0, 0);
+  *last = names(TORUSMEM_LOG_INIT, 0, 0), last->address = 0;
+  refuses(log, 5, 5, 5, 0, 0);
+  MUST(models_of(0, log, 4, 0, 100).code == 6 && models_of((UINT64_C(1) << 32) + 1, log, 4, 0, 100).code == 6);
+  MUST(models_of(UINT64_C(1) << 32, log, 4, 0, 100).models == 31);
+  log[5] = log[3], log[4] = log[2], log[3] = log[1], log[2] = log[0];
+  log[0] = log[1] = names(TORUSMEM_LOG_INIT, 0, 0), log[0].address = 0, log[1].address = 1, log[1].first = 6;
+  log[3].first = 7;
+  MUST(models_of(2, log, 6, 0, 100).models == 31);
+  log[1].address = 0;
+  refuses(log, 6, 5, 2, 0, 0);
+}
+
 /* Issues and answers of a watch: what they answer, of which OK is all that changes anything. */
 static torusmem_outcome issues(torusmem_watch *w, uint64_t number, uint32_t operation, uint32_t address,
                                uint64_t first) {
@@ -740,6 +855,22 @@ static void memory_of_a_watch_stays(void) {
   MUST(live == 0);
 }
 
+/* Clocked rounds: of the script's store and its load behind a fence, each over one hop, each takes 4 + 2 * 4 + 5. */
+static void clocked_rounds(void) {
+  torusmem_machine m = TORUSMEM_MACHINE_INIT;
+  uint64_t turn = 0;
+  MUST(says(load(&m), TORUSMEM_OK, 0) && says(torusmem_finish_clocked(&m), TORUSMEM_OK, 34) && reports_well(&m));
+  MUST(says(torusmem_finish_clocked(&m), TORUSMEM_OK, 0));
+  torusmem_free(&m);
+  MUST(says(load(&m), TORUSMEM_OK, 0));
+  for (; torusmem_finished(&m).value == 0 && turn < 1000; turn++) {
+    MUST(says(torusmem_clocked_round(&m, turn), TORUSMEM_OK, 0));
+  }
+  MUST(turn == 34);
+  torusmem_free(&m);
+  MUST(live == 0);
+}
+
 static void codes(void) {
   torusmem_machine m = TORUSMEM_MACHINE_INIT, moved = TORUSMEM_MACHINE_INIT, other = TORUSMEM_MACHINE_INIT;
   every_call_says_empty(&m);
@@ -752,6 +883,8 @@ static void codes(void) {
   spins_run_out(&other);
   traces_of_a_register();
   traces_are_refused();
+  logs_are_judged();
+  logs_are_refused();
   traces_are_watched();
   operations_are_watched();
   shapes(&other);
@@ -779,6 +912,7 @@ static void codes(void) {
   MUST(reports_well(&moved) && live > 0);
   torusmem_free(&moved);
   MUST(live == 0);
+  clocked_rounds();
 }
 
 /* An explanation and a verdict, for which memory may be refused. */
@@ -834,6 +968,15 @@ static void watch_with_little_memory(void) {
   MUST(!w.full && live == 0);
 }
 
+/* A log, the text of its models, and what is told where memory is refused. */
+static void model_with_little_memory(void) {
+  const torusmem_log_entry log[] = { makes(0, TORUSMEM_STORE, 0, 1), names(TORUSMEM_LOG_WROTE, 0, 0) };
+  const char *text = "coherent yes\nfenced yes\npso yes\ntso yes\nsc yes\nan order of sc:\nline 1: 0 store 0 1\n";
+  torusmem_models said = models_of(1, log, 2, 1, 200);
+  if (said.code == TORUSMEM_OK) MUST(said.models == 31 && memcmp(written.bytes, text, (size_t)said.value) == 0);
+  else MUST(said.code == TORUSMEM_FAULT_MEMORY && said.value + said.models == 0 && written.bytes[0] == 0xAA);
+}
+
 /* A run in which a request for memory may be refused: each call works or says so, and what is asked again once there
    is memory is as it has to be. */
 static void run_with_little_memory(void) {
@@ -845,6 +988,8 @@ static void run_with_little_memory(void) {
   judge_with_little_memory();
   MUST(live == 0);
   watch_with_little_memory();
+  MUST(live == 0);
+  model_with_little_memory();
   MUST(live == 0);
   said = load(&m);
   if (said.code != TORUSMEM_OK) {
@@ -863,6 +1008,9 @@ static void run_with_little_memory(void) {
   torusmem_ordered row = { 7, 7, 7, 7, 7, 7, 7 };
   said = torusmem_order(&m, (uint32_t)(torusmem_order(&m, 0, NULL, 0).value - 1), &row, 1);
   MUST((says(said, TORUSMEM_OK, 1) && row.answered > 0) || row.bank == 7);
+  torusmem_happened event = { 7, 7, row };
+  said = torusmem_events(&m, 1, &event, 1);
+  MUST(event.number == 7 && (said.code == TORUSMEM_SHORT || says(said, TORUSMEM_FAULT_MEMORY, 0)));
   torusmem_machine fresh = TORUSMEM_MACHINE_INIT;
   said = torusmem_reopen(&m, &fresh);
   MUST(fresh.full ? says(said, TORUSMEM_OK, 0) : says(said, TORUSMEM_FAULT_MEMORY, 0));
@@ -972,6 +1120,37 @@ static void orders(torusmem_machine *m) {
   MUST(says(torusmem_order(m, UINT32_MAX, rest, 1), TORUSMEM_OK, 0));
 }
 
+/* The events from each number on: those of the rows of the order, each once, by rising numbers. */
+static void events(torusmem_machine *m) {
+  enum { MOST_ROWS = 4096 };
+  static torusmem_ordered rows[MOST_ROWS];
+  static torusmem_happened all[3 * MOST_ROWS], rest[3 * MOST_ROWS];
+  uint64_t count = torusmem_order(m, 0, rows, MOST_ROWS).value, wanted = 0;
+  for (uint64_t row = 0; row < count; row++) wanted += rows[row].answered > 0 ? 3 : 2;
+  MUST(says(torusmem_events(m, 0, all, 3 * MOST_ROWS), TORUSMEM_OK, wanted));
+  for (uint64_t at = 0; at < wanted; at++) {
+    const torusmem_happened *it = &all[at];
+    const torusmem_ordered *row = &it->operation;
+    MUST(at == 0 ? it->number > 0 : it->number > all[at - 1].number);
+    MUST(it->what == TORUSMEM_ISSUED ? it->number == row->issued
+                                     : it->number == (it->what == TORUSMEM_SERVED ? row->served : row->answered));
+    bool found = false;
+    for (uint64_t place = 0; place < count; place++) found |= memcmp(row, &rows[place], sizeof *row) == 0;
+    MUST(it->what <= TORUSMEM_ANSWERED && found);
+  }
+  uint32_t last = wanted > 0 ? all[wanted - 1].number : 0;
+  for (uint32_t from = 0; from <= last + 1; from += 1 + last / 20) {
+    size_t left = 0;
+    for (uint64_t at = 0; at < wanted; at++) left += all[at].number >= from;
+    memset(rest, 7, sizeof rest);
+    if (left > 0) MUST(says(torusmem_events(m, from, rest, left - 1), TORUSMEM_SHORT, left) && rest[0].what == 0x07070707);
+    MUST(says(torusmem_events(m, from, rest, left + 1), TORUSMEM_OK, left) && rest[left].what == 0x07070707);
+    MUST(memcmp(rest, all + (wanted - left), left * sizeof *rest) == 0);
+    MUST(says(torusmem_events(m, from, NULL, 0), left > 0 ? TORUSMEM_SHORT : TORUSMEM_OK, left));
+  }
+  MUST(says(torusmem_events(m, UINT32_MAX, rest, 1), TORUSMEM_OK, 0));
+}
+
 /* The report and its check ask for memory, and give all of it back. */
 static void report_keeps_nothing(torusmem_machine *m) {
   int64_t before = live;
@@ -1022,14 +1201,14 @@ static void steps(void) {
   }
   MUST(moves > 0 && uses_of_memory() == before);
   report_keeps_nothing(&m);
-  orders(&m);
+  orders(&m), events(&m);
   report.length = (size_t)torusmem_report(&m, report.bytes, MOST_BYTES).value;
   before = uses_of_memory();
   while (torusmem_finished(&m).value == 0 && torusmem_moves_left(&m).value > 0) torusmem_round(&m);
   look(&m);
   MUST(says(torusmem_finished(&m), TORUSMEM_OK, 1) && uses_of_memory() == before);
   report_keeps_nothing(&m);
-  orders(&m);
+  orders(&m), events(&m);
   torusmem_free(&m);
   MUST(!m.full && live == 0);
   lists(made, count, moves, &report);
@@ -1038,6 +1217,11 @@ static void steps(void) {
   MUST(torusmem_finish(&m).code == TORUSMEM_OK && uses_of_memory() == before);
   look(&m);
   MUST(uses_of_memory() == before);
+  torusmem_free(&m);
+  MUST(says(load(&m), TORUSMEM_OK, 0));
+  before = uses_of_memory();
+  MUST(says(torusmem_clocked_round(&m, 0), TORUSMEM_OK, 0) && uses_of_memory() == before);
+  MUST(torusmem_finish_clocked(&m).code == TORUSMEM_OK && uses_of_memory() == before);
   torusmem_free(&m);
   MUST(!m.full && live == 0);
 }

@@ -34,9 +34,16 @@ void machines() {
   MUST(m.answers(0).size() == 2 && m.answers(0, 1).at(0).old == 17 && m.entries(1).size() == 2);
   MUST(m.rows().size() == 24 * 4 + 8 + 1 && m.rows()[24 * 4 + 5] == 17 && m.ports() == 10);
   MUST(m.order().size() == 2 && m.order(1).at(0).served == 5 && m.order(2).empty());
+  MUST(m.events().size() == 6 && m.events(6).at(0).what == TORUSMEM_ANSWERED && m.events(7).empty());
   MUST(m.shape().radices[0] == 2 && m.shape().tags == 4);
   torusmem::machine again = m.reopened();
   MUST(again.word(5) == 17 && again.answers(0).empty() && m.answers(0).size() == 2);
+  torusmem::machine kept = torusmem::machine::recorded(shape, "0 store 5 17\n0 fence\n0 load 5\n");
+  kept.round();
+  torusmem::machine restored = torusmem::machine::restored(kept.save()), cloned = kept.clone();
+  MUST(restored.report() == kept.report() && restored.save() == cloned.save() && restored.finish() == cloned.finish());
+  MUST(thrown(TORUSMEM_NO_RECORD, [&] { m.save(); }).find("save: the machine keeps no record") == 0);
+  MUST(thrown(TORUSMEM_BAD_RECORD, [] { torusmem::machine::restored(std::vector<uint8_t>()); }).find("restore: bytes") == 0);
   std::vector<uint64_t> opening = {7, 8};
   MUST(torusmem::machine(m.shape(), opening).word(1) == 8 && torusmem::machine(m.shape()).word(1) == 0);
   struct torusmem_shape odd = m.shape();
@@ -76,6 +83,17 @@ void judges() {
   torusmem::verdict rises = torusmem::network("channels 3\ninject 0\neject 2\njoin 0 2\nnext 0 2 1\nnext 1 2 2\n");
   MUST(rises.code == TORUSMEM_OK && rises.text.find("rising") != std::string::npos);
   MUST(torusmem::network("channels 2\ninject 0\neject 1\njoin 0 1\n").code == TORUSMEM_NO_ROUTE);
+  std::vector<torusmem_log_entry> log(3, torusmem_log_entry());
+  log[0].kind = TORUSMEM_LOG_MADE;
+  log[1].kind = TORUSMEM_LOG_READ_OPENING;
+  log[2].kind = TORUSMEM_LOG_REPLIED;
+  log[2].has_old = 1;
+  torusmem::obeyed found = torusmem::model(8, log, true);
+  MUST(found.code == TORUSMEM_OK && found.models == 31 && found.text.find("an order of sc:\nline 1: 0 load 0\n") > 0);
+  log[2].old = 9;
+  found = torusmem::model(8, log);
+  MUST(found.code == TORUSMEM_WRONG_REPLY && found.entry == 3 && found.word == 0 && found.writer == 0);
+  MUST(thrown(TORUSMEM_FAULT_RANGE, [&] { torusmem::model(0, log); }).find("model: a number is out of") == 0);
 }
 
 }  // namespace

@@ -27,6 +27,7 @@ int main(int count, char **words) {
   if (strcmp(misuse, "freed copy") == 0) torusmem_free(&m), torusmem_round(&copy);
   if (strcmp(misuse, "freed twice") == 0) torusmem_free(&m), torusmem_free(&copy);
   if (strcmp(misuse, "one machine twice") == 0) return (int)torusmem_reopen(&m, &m).code;
+  if (strcmp(misuse, "one machine cloned") == 0) return (int)torusmem_clone(&m, &m).code;
   if (strcmp(misuse, "moved") != 0) return 3;
   torusmem_machine moved = m;
   torusmem_round(&moved);

@@ -4,9 +4,11 @@
    freed. Each call is a function with a contract, and proved (docs/PROVED.md, "torusmem_c: the library for C").
    No call prints, ends the process or starts a thread, and each call returns.
 
-   MEMORY. torusmem_load, torusmem_open and torusmem_reopen allocate what the machine needs, torusmem_append and
-   torusmem_ask what a further line needs, and torusmem_free frees all of it. torusmem_report, torusmem_order, torusmem_check, torusmem_explain,
-   torusmem_spins_out, torusmem_network and torusmem_linearize free what they allocate before they return.
+   MEMORY. torusmem_load, torusmem_load_recorded, torusmem_open, torusmem_reopen, torusmem_restore and torusmem_clone
+   allocate what the machine needs, torusmem_append and torusmem_ask what a further line needs, and torusmem_free frees
+   all of it. Of a machine that keeps a record, the calls that make steps or rounds also allocate what the record needs.
+   torusmem_report, torusmem_save, torusmem_order, torusmem_events, torusmem_check, torusmem_explain, torusmem_spins_out,
+   torusmem_network, torusmem_linearize and torusmem_model free what they allocate before they return.
    torusmem_watch_begin allocates what a watch needs at first, torusmem_watch_issue and torusmem_watch_answer allocate
    and free as operations open and end, and torusmem_watch_end frees all of it. No other call allocates.
 
@@ -34,8 +36,8 @@
 
    A DEBUG BUILD. Where TORUSMEM_DEBUG is defined before this header, in all files of a program, handles carry a mark. Then
    a call on a null pointer, on a handle that was not initialized, on a watch in place of a machine, or on a copy whose
-   other one was used or freed since, and a torusmem_reopen of one machine twice, prints a line that says so, with file
-   and line, and aborts. */
+   other one was used or freed since, and a torusmem_reopen or torusmem_clone of one machine twice, prints a line that
+   says so, with file and line, and aborts. */
 #ifndef TORUSMEM_H
 #define TORUSMEM_H
 #define TORUSMEM_VERSION "0.2.0"
@@ -115,7 +117,11 @@ enum {
   TORUSMEM_TOO_MANY = 23, /* undecided: at this answer a word has more configurations than were allowed */
   TORUSMEM_TOO_OPEN = 24, /* undecided: at this issue 64 other operations are open on its word */
   TORUSMEM_BEHIND_SPIN = 25, /* the script has a spin, so the index of an operation behind it is not known */
-  TORUSMEM_NOT_YET = 26      /* the operation is not answered yet */
+  TORUSMEM_NOT_YET = 26,     /* the operation is not answered yet */
+  TORUSMEM_NO_RECORD = 27,   /* the machine keeps no record of what is done to it */
+  TORUSMEM_BAD_RECORD = 28,  /* bytes are no record; value: the place of the first byte that is wrong, or missing, from 0 */
+  TORUSMEM_BAD_ACTION = 29,  /* an action of a record can't be done; value: the action, from 0 */
+  TORUSMEM_WRONG_REPLY = 30  /* of a log: a reply isn't what its operation does to the word that it finds */
 };
 
 /* What a code says, in a few words of ASCII, as "an address is not below the number of words". For any number. */
@@ -188,6 +194,33 @@ torusmem_outcome torusmem_open(torusmem_machine *m, const struct torusmem_shape 
    *m has made its rounds, and *fresh is empty. m and fresh are not the same. */
 torusmem_outcome torusmem_reopen(torusmem_machine *m, torusmem_machine *fresh) TORUSMEM_RESULT;
 
+/* RECORDS. A machine that keeps a record can be saved as bytes at any time, and made again of them (docs/FORMATS.md, "Record
+   of a machine"). The record has the texts that were loaded; each move, each call that makes rounds and each line that
+   came later, in 4 bytes; and 32 bytes more of such a line. Where memory for the record is refused, or it would have
+   268435456 lines, it ends, and the machine goes on without it: no call fails for that. */
+
+/* Does what torusmem_load does, and answers as it does; and the machine keeps a record from then on. */
+torusmem_outcome torusmem_load_recorded(torusmem_machine *m, const uint8_t *machine, size_t machine_length,
+                                        const uint8_t *scripts, size_t scripts_length) TORUSMEM_RESULT;
+
+/* Puts the bytes of the machine's record into a buffer. torusmem_restore makes this machine of them. The machine goes on as
+   if nothing was saved.
+   OK: they are the first `value` of out, and the bytes behind them are as they were. SHORT: value is how many there
+   are, and out is as it was; so is it on NO_RECORD, on TORUSMEM_FAULT_MEMORY and on EMPTY. */
+torusmem_outcome torusmem_save(torusmem_machine *m, uint8_t *out, size_t out_length) TORUSMEM_RESULT;
+
+/* Makes the machine of a record's bytes again: it loads the texts, and does what was done. The machine shows what the saved
+   one showed, and each call does to it and answers what it would have done and answered there. It keeps the record.
+   OK; FULL; BAD_RECORD: the bytes are no record; BAD_ACTION: an action can't be done where it comes, as a move that isn't
+   enabled; or a fault: of a text of the record, as torusmem_load answers it, or TORUSMEM_FAULT_MEMORY. On anything but OK,
+   *m is as it was. The bytes may go after the call. It takes as long as the rounds and moves took. */
+torusmem_outcome torusmem_restore(torusmem_machine *m, const uint8_t *bytes, size_t bytes_length) TORUSMEM_RESULT;
+
+/* Makes the same machine once more in *fresh, which is empty, with the same record, by doing what the record says. The two
+   share nothing. OK; FULL: *fresh isn't empty; EMPTY: *m is; NO_RECORD; TORUSMEM_FAULT_MEMORY. *m is as it was, and but for
+   OK so is *fresh. m and fresh are not the same. */
+torusmem_outcome torusmem_clone(torusmem_machine *m, torusmem_machine *fresh) TORUSMEM_RESULT;
+
 /* Texts of a load. */
 enum { TORUSMEM_NO_TEXT = 0, TORUSMEM_MACHINE_TEXT = 1, TORUSMEM_SCRIPTS_TEXT = 2 };
 
@@ -238,6 +271,15 @@ torusmem_outcome torusmem_round(torusmem_machine *m);
 /* Makes rounds until every script is finished. OK, value: how many rounds, the least number that does; EMPTY. */
 torusmem_outcome torusmem_finish(torusmem_machine *m);
 
+/* Makes one clocked round: each choice that is enabled now is attempted once, in the order of a round, so that a flit goes
+   one stage at most. The puts of each router begin at input turn mod p, where p is the number of its inputs, and then come
+   those before it: give the number of rounds so far. OK, value 0; EMPTY. */
+torusmem_outcome torusmem_clocked_round(torusmem_machine *m, uint64_t turn);
+
+/* Makes clocked rounds, with the turns from 0 on, until every script is finished. OK, value: how many rounds, the least
+   number that does; EMPTY. */
+torusmem_outcome torusmem_finish_clocked(torusmem_machine *m);
+
 /* Lines of a script beside the operations: the next operation is issued when every earlier one is answered; loads of the
    address, one at a time, until one is answered with the first value, at most as many as the second says. */
 enum { TORUSMEM_FENCE = 10, TORUSMEM_SPIN = 11 };
@@ -255,7 +297,7 @@ enum { TORUSMEM_FIRST_IS_LAST = 1, TORUSMEM_SECOND_IS_LAST = 2 };
    line has, value 0, in this order: 8, there is no such processor; 7, no such address; 6, a spin hasn't 1 to 4096 loads; 10, `last` with no
    operation before it; 9, a script has at most 4096 operations, and all together at most 65536; or
    TORUSMEM_FAULT_MEMORY. But for OK nothing has changed. It and torusmem_ask are the calls after torusmem_load that take
-   memory for the machine. */
+   memory for the machine beside its record. */
 torusmem_outcome torusmem_append(torusmem_machine *m, uint32_t processor, uint32_t operation, uint32_t address,
                                  uint64_t first, uint64_t second, uint32_t lasts) TORUSMEM_RESULT;
 
@@ -353,6 +395,24 @@ typedef struct torusmem_ordered {
 torusmem_outcome torusmem_order(torusmem_machine *m, uint32_t from, torusmem_ordered *out, size_t out_length)
     TORUSMEM_RESULT;
 
+/* What happens to an operation: it is issued, served and answered. */
+enum { TORUSMEM_ISSUED = 0, TORUSMEM_SERVED = 1, TORUSMEM_ANSWERED = 2 };
+
+/* An event of an operation that is served. */
+typedef struct torusmem_happened {
+  uint32_t number;            /* among all events, from 1 */
+  uint32_t what;              /* TORUSMEM_ISSUED, TORUSMEM_SERVED or TORUSMEM_ANSWERED */
+  torusmem_ordered operation; /* its row of torusmem_order */
+} torusmem_happened;
+
+/* The issues, services and answers of the operations that are served, those numbered `from` or higher, in the order in
+   which they happened, by the numbers that torusmem_order tells. The issue of an operation comes with its service: until
+   then its number is left free.
+   OK: they are the first `value` of out, and those behind them are as they were; where there are no more, value is 0.
+   SHORT: value is how many there are, and out is as it was; so is it on FAULT_MEMORY and EMPTY. */
+torusmem_outcome torusmem_events(torusmem_machine *m, uint32_t from, torusmem_happened *out, size_t out_length)
+    TORUSMEM_RESULT;
+
 /* A spin that ran out of loads: it made all its loads, and none of them found the number that it sought. */
 typedef struct torusmem_spin {
   uint32_t processor, address, loads;
@@ -444,6 +504,69 @@ torusmem_outcome torusmem_linearize(const uint64_t *opening, size_t opening_leng
                                     size_t events_length, uint64_t configurations, uint64_t *out, size_t out_length)
     TORUSMEM_RESULT;
 
+/* Kinds of entries of a log. */
+enum {
+  TORUSMEM_LOG_INIT = 0,         /* the opening word of an address; all of these stand in front */
+  TORUSMEM_LOG_MADE = 1,         /* the next operation in a processor's program, or a fence */
+  TORUSMEM_LOG_WROTE = 2,        /* an operation wrote next on its word; every one but a load writes */
+  TORUSMEM_LOG_READ = 3,         /* a load read what an operation wrote */
+  TORUSMEM_LOG_READ_OPENING = 4, /* a load read the opening word */
+  TORUSMEM_LOG_SERVED = 5,       /* a load read what the last WROTE above left on its word */
+  TORUSMEM_LOG_REPLIED = 6       /* what an operation replied */
+};
+
+/* An entry of a log. What isn't named for its kind is not looked at. */
+typedef struct torusmem_log_entry {
+  uint32_t kind;
+  uint32_t processor;                  /* of all but INIT: that of the operation, below 4096 */
+  uint32_t index;                      /* of WROTE to REPLIED: which operation of it, from 0; fences count too */
+  uint32_t operation;                  /* of MADE: TORUSMEM_LOAD .. TORUSMEM_MIN, or TORUSMEM_FENCE */
+  uint32_t address;                    /* of INIT, and of MADE but for a fence */
+  uint32_t from_processor, from_index; /* of READ: the operation that wrote */
+  uint32_t has_old;                    /* of REPLIED: 1 for an old word, 0 for `ok`, that of a store */
+  uint64_t first, second;              /* of INIT: the word, in first; of MADE: the values, as in an answer */
+  uint64_t old;                        /* of REPLIED: the old word, where it has one */
+} torusmem_log_entry;
+
+/* Memory models, weakest first: coherence; coherence with fences; partial and total store order (SPARC v9); sequential
+   consistency (Lamport 1979). Several of them are the sum of their numbers. */
+enum {
+  TORUSMEM_COHERENT = 1,
+  TORUSMEM_FENCED = 2,
+  TORUSMEM_PSO = 4,
+  TORUSMEM_TSO = 8,
+  TORUSMEM_SC = 16
+};
+
+/* Which memory models a log obeys. */
+typedef struct torusmem_models {
+  uint32_t code;   /* OK, SHORT, WRONG_REPLY or a fault */
+  uint32_t models; /* of OK and SHORT: those that it obeys; else 0 */
+  uint64_t value;  /* of OK and SHORT: the length of the text; else the entry at fault, from 1 */
+  uint64_t word;   /* of WRONG_REPLY: the word that the operation finds; else 0 */
+  uint64_t writer; /* of WRONG_REPLY: the entry that made the operation which left that word; 0 for the opening word, and else */
+} torusmem_models;
+
+/* Judges a log by five memory models: what processors made, the order of each word's writes, and what each load read
+   (docs/FORMATS.md, "Log text"), over a memory of so many words, 1 to 2^32. Needs no machine. It looks at time nowhere:
+   a processor's program is the order of its MADE entries, a word's order that of its WROTE entries. Each MADE operation
+   is named by one WROTE, READ, READ_OPENING or SERVED behind it; a reply may be there or not. Entries are numbered from
+   1, and the text calls them lines.
+   A text is put into a buffer: a line for each model, as `tso yes`; then the cycle of the weakest model that the log
+   breaks, an operation a line with the reason to the next; then, unless order is 0, an order of the strongest that it
+   obeys. Each yes and each no is proved.
+   OK: the text is the first `value` bytes of out, and the bytes behind them are as they were.
+   SHORT: `value` is what the text needs, and out is as it was; so is it on all other codes.
+   WRONG_REPLY: at entry `value`; the replies are looked at before any model.
+   A fault: entry `value` can't stand. F4: it is of no kind; there is no such operation or reply; it names a fence, a
+   load where a write belongs or a write where a load belongs; or the reply doesn't go with its operation. F5: an INIT
+   behind a MADE, or of the same address as one before; an operation that was named before, or replied; or a MADE one
+   that nothing behind names. F6: the processor has made no such operation so far; with value 0: words is not 1 to 2^32.
+   F7: the address is not below words, or a load and its write are on different words. F8: the processor is not below
+   4096. F9: there are 4194304 operations already, or operations on 1048576 addresses. F12 is out of memory, with 0. */
+torusmem_models torusmem_model(uint64_t words, const torusmem_log_entry *entries, size_t entries_length, uint32_t order,
+                               uint8_t *out, size_t out_length) TORUSMEM_RESULT;
+
 /* A watch of a trace that goes on: what torusmem_linearize judges at the end, it judges at each event, so that a host
    checks itself while it runs. Its memory follows the operations that are open, and not the length of the trace. Room
    for a watch is the caller's, as that of a machine: begun by TORUSMEM_WATCH_INIT, then changed by calls alone. */
@@ -480,7 +603,7 @@ torusmem_outcome torusmem_watch_answer(torusmem_watch *w, uint64_t number, uint3
 /* Ends the watch that *w holds, if any, and gives its memory back. It may be begun again then. */
 void torusmem_watch_end(torusmem_watch *w);
 
-/* The library's own calls take no null pointer. So a C program that calls one of the thirteen below has a call in front
+/* The library's own calls take no null pointer. So a C program that calls one of the eighteen below has a call in front
    of it, by which a pointer with the length 0 becomes one to an item that is not looked at. */
 static inline const uint8_t *torusmem_text_at(const uint8_t *at, size_t length) {
   static const uint8_t none = 0;
@@ -494,6 +617,28 @@ static inline torusmem_outcome torusmem_load_texts(torusmem_machine *m, const ui
                        torusmem_text_at(scripts, scripts_length), scripts_length);
 }
 #define torusmem_load torusmem_load_texts
+
+TORUSMEM_RESULT
+static inline torusmem_outcome torusmem_load_recorded_texts(torusmem_machine *m, const uint8_t *machine,
+                                                            size_t machine_length, const uint8_t *scripts,
+                                                            size_t scripts_length) {
+  return torusmem_load_recorded(m, torusmem_text_at(machine, machine_length), machine_length,
+                                torusmem_text_at(scripts, scripts_length), scripts_length);
+}
+#define torusmem_load_recorded torusmem_load_recorded_texts
+
+TORUSMEM_RESULT
+static inline torusmem_outcome torusmem_save_into(torusmem_machine *m, uint8_t *out, size_t out_length) {
+  uint8_t none = 0;
+  return torusmem_save(m, out_length > 0 ? out : &none, out_length);
+}
+#define torusmem_save torusmem_save_into
+
+TORUSMEM_RESULT
+static inline torusmem_outcome torusmem_restore_bytes(torusmem_machine *m, const uint8_t *bytes, size_t bytes_length) {
+  return torusmem_restore(m, torusmem_text_at(bytes, bytes_length), bytes_length);
+}
+#define torusmem_restore torusmem_restore_bytes
 
 TORUSMEM_RESULT
 static inline torusmem_outcome torusmem_open_with(torusmem_machine *m, const struct torusmem_shape *shape,
@@ -548,6 +693,14 @@ static inline torusmem_outcome torusmem_order_into(torusmem_machine *m, uint32_t
 #define torusmem_order torusmem_order_into
 
 TORUSMEM_RESULT
+static inline torusmem_outcome torusmem_events_into(torusmem_machine *m, uint32_t from, torusmem_happened *out,
+                                                    size_t out_length) {
+  torusmem_happened none = { 0, 0, { 0, 0, 0, 0, 0, 0, 0 } };
+  return torusmem_events(m, from, out_length > 0 ? out : &none, out_length);
+}
+#define torusmem_events torusmem_events_into
+
+TORUSMEM_RESULT
 static inline torusmem_outcome torusmem_report_into(torusmem_machine *m, uint8_t *out, size_t out_length) {
   uint8_t none = 0;
   return torusmem_report(m, out_length > 0 ? out : &none, out_length);
@@ -580,6 +733,17 @@ static inline torusmem_outcome torusmem_linearize_events(const uint64_t *opening
                             out_length > 0 ? out : &none, out_length);
 }
 #define torusmem_linearize torusmem_linearize_events
+
+TORUSMEM_RESULT
+static inline torusmem_models torusmem_model_entries(uint64_t words, const torusmem_log_entry *entries,
+                                                     size_t entries_length, uint32_t order, uint8_t *out,
+                                                     size_t out_length) {
+  static const torusmem_log_entry no_entry = { 0, 0, 0, 0, 0, 0, 0, 0, 0, 0, 0 };
+  uint8_t none = 0;
+  return torusmem_model(words, entries_length > 0 ? entries : &no_entry, entries_length, order,
+                        out_length > 0 ? out : &none, out_length);
+}
+#define torusmem_model torusmem_model_entries
 
 TORUSMEM_RESULT
 static inline torusmem_outcome torusmem_watch_begin_at(torusmem_watch *w, const uint64_t *opening,
@@ -667,6 +831,31 @@ static inline torusmem_outcome torusmem_reopen_marked(torusmem_machine *m, torus
   return said;
 }
 
+TORUSMEM_RESULT
+static inline torusmem_outcome torusmem_load_recorded_marked(torusmem_machine *m, const uint8_t *machine,
+                                                             size_t machine_length, const uint8_t *scripts,
+                                                             size_t scripts_length) {
+  torusmem_outcome said = torusmem_load_recorded(m, machine, machine_length, scripts, scripts_length);
+  m->ticket = torusmem_ticket_of(m->full, m->ticket, &m->calls);
+  return said;
+}
+
+TORUSMEM_RESULT
+static inline torusmem_outcome torusmem_restore_marked(torusmem_machine *m, const uint8_t *bytes, size_t bytes_length) {
+  torusmem_outcome said = torusmem_restore(m, bytes, bytes_length);
+  m->ticket = torusmem_ticket_of(m->full, m->ticket, &m->calls);
+  return said;
+}
+
+TORUSMEM_RESULT
+static inline torusmem_outcome torusmem_clone_marked(torusmem_machine *m, torusmem_machine *fresh, const char *file,
+                                                     int line) {
+  torusmem_look_at(m != fresh, "the two machines are one", "torusmem_clone", file, line);
+  torusmem_outcome said = torusmem_clone(m, fresh);
+  fresh->ticket = torusmem_ticket_of(fresh->full, fresh->ticket, &fresh->calls);
+  return said;
+}
+
 static inline void torusmem_free_marked(torusmem_machine *m) {
   torusmem_free(m);
   if (m->ticket != NULL) m->ticket->gone = true;
@@ -690,6 +879,8 @@ static inline void torusmem_watch_end_marked(torusmem_watch *w) {
 #define TORUSMEM_MACHINE(m, call) torusmem_marked(m, call, __FILE__, __LINE__)
 #define TORUSMEM_WATCH(w, call) torusmem_watch_marked(w, call, __FILE__, __LINE__)
 #undef torusmem_load
+#undef torusmem_load_recorded
+#undef torusmem_restore
 #undef torusmem_open
 #undef torusmem_watch_begin
 #define torusmem_open(m, ...) torusmem_open_marked(TORUSMEM_MACHINE(m, "torusmem_open"), __VA_ARGS__)
@@ -697,6 +888,14 @@ static inline void torusmem_watch_end_marked(torusmem_watch *w) {
   torusmem_reopen_marked(TORUSMEM_MACHINE(m, "torusmem_reopen"), TORUSMEM_MACHINE(fresh, "torusmem_reopen"), __FILE__, \
                          __LINE__)
 #define torusmem_load(m, ...) torusmem_load_marked(TORUSMEM_MACHINE(m, "torusmem_load"), __VA_ARGS__)
+#define torusmem_load_recorded(m, ...) \
+  torusmem_load_recorded_marked(TORUSMEM_MACHINE(m, "torusmem_load_recorded"), __VA_ARGS__)
+#undef torusmem_save
+#define torusmem_save(m, ...) torusmem_save_into(TORUSMEM_MACHINE(m, "torusmem_save"), __VA_ARGS__)
+#define torusmem_restore(m, ...) torusmem_restore_marked(TORUSMEM_MACHINE(m, "torusmem_restore"), __VA_ARGS__)
+#define torusmem_clone(m, fresh) \
+  torusmem_clone_marked(TORUSMEM_MACHINE(m, "torusmem_clone"), TORUSMEM_MACHINE(fresh, "torusmem_clone"), __FILE__, \
+                        __LINE__)
 #define torusmem_free(m) torusmem_free_marked(TORUSMEM_MACHINE(m, "torusmem_free"))
 #define torusmem_watch_begin(w, ...) torusmem_watch_begin_marked(TORUSMEM_WATCH(w, "torusmem_watch_begin"), __VA_ARGS__)
 #define torusmem_watch_end(w) torusmem_watch_end_marked(TORUSMEM_WATCH(w, "torusmem_watch_end"))
@@ -706,6 +905,9 @@ static inline void torusmem_watch_end_marked(torusmem_watch *w) {
 #define torusmem_enabled(m, ...) torusmem_enabled(TORUSMEM_MACHINE(m, "torusmem_enabled"), __VA_ARGS__)
 #define torusmem_round(m) torusmem_round(TORUSMEM_MACHINE(m, "torusmem_round"))
 #define torusmem_finish(m) torusmem_finish(TORUSMEM_MACHINE(m, "torusmem_finish"))
+#define torusmem_clocked_round(m, ...) \
+  torusmem_clocked_round(TORUSMEM_MACHINE(m, "torusmem_clocked_round"), __VA_ARGS__)
+#define torusmem_finish_clocked(m) torusmem_finish_clocked(TORUSMEM_MACHINE(m, "torusmem_finish_clocked"))
 #define torusmem_append(m, ...) torusmem_append(TORUSMEM_MACHINE(m, "torusmem_append"), __VA_ARGS__)
 #define torusmem_ask(m, ...) torusmem_ask(TORUSMEM_MACHINE(m, "torusmem_ask"), __VA_ARGS__)
 #define torusmem_finished(m) torusmem_finished(TORUSMEM_MACHINE(m, "torusmem_finished"))
@@ -724,6 +926,8 @@ static inline void torusmem_watch_end_marked(torusmem_watch *w) {
 #define torusmem_entry_at(m, ...) torusmem_entry_at(TORUSMEM_MACHINE(m, "torusmem_entry_at"), __VA_ARGS__)
 #undef torusmem_order
 #define torusmem_order(m, ...) torusmem_order_into(TORUSMEM_MACHINE(m, "torusmem_order"), __VA_ARGS__)
+#undef torusmem_events
+#define torusmem_events(m, ...) torusmem_events_into(TORUSMEM_MACHINE(m, "torusmem_events"), __VA_ARGS__)
 #undef torusmem_spins_out
 #define torusmem_spins_out(m, ...) torusmem_spins_out_into(TORUSMEM_MACHINE(m, "torusmem_spins_out"), __VA_ARGS__)
 #undef torusmem_report

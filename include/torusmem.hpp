@@ -142,6 +142,8 @@ class machine {
   }
   void round() { granted("round", torusmem_round(&held_)); }
   uint64_t finish() { return granted("finish", torusmem_finish(&held_)); }
+  void clocked_round(uint64_t turn) { granted("clocked_round", torusmem_clocked_round(&held_, turn)); }
+  uint64_t finish_clocked() { return granted("finish_clocked", torusmem_finish_clocked(&held_)); }
 
   void append(uint32_t processor, uint32_t line, uint32_t address = 0, uint64_t first = 0, uint64_t second = 0,
               uint32_t lasts = 0) {
@@ -157,6 +159,31 @@ class machine {
   machine reopened() {
     machine fresh;
     granted("reopen", torusmem_reopen(&held_, &fresh.held_));
+    return fresh;
+  }
+
+  // Loads such a machine, which keeps a record of what is done to it, so that it can be saved.
+  static machine recorded(text shape, text scripts = text()) {
+    machine made;
+    torusmem_outcome said = torusmem_load_recorded(&made.held_, shape.data(), shape.size(), scripts.data(), scripts.size());
+    if (said.code != TORUSMEM_OK) throw error(explain(shape, scripts), said);
+    return made;
+  }
+  // The bytes of its record, of which restored() makes this machine again.
+  std::vector<uint8_t> save() {
+    return filled<std::vector<uint8_t>>("save", 256, [&](uint8_t *at, size_t room) {
+      return torusmem_save(&held_, at, room);
+    });
+  }
+  static machine restored(span<const uint8_t> saved) {
+    machine made;
+    granted("restore", torusmem_restore(&made.held_, saved.data(), saved.size()));
+    return made;
+  }
+  // The same machine once more, with the same record.
+  machine clone() {
+    machine fresh;
+    granted("clone", torusmem_clone(&held_, &fresh.held_));
     return fresh;
   }
 
@@ -208,6 +235,12 @@ class machine {
   std::vector<torusmem_ordered> order(uint32_t from = 0) {
     return filled<std::vector<torusmem_ordered>>("order", 64, [&](torusmem_ordered *at, size_t room) {
       return torusmem_order(&held_, from, at, room);
+    });
+  }
+  // The issues, services and answers of the operations served so far, in their order: those numbered `from` or higher.
+  std::vector<torusmem_happened> events(uint32_t from = 1) {
+    return filled<std::vector<torusmem_happened>>("events", 64, [&](torusmem_happened *at, size_t room) {
+      return torusmem_events(&held_, from, at, room);
     });
   }
   std::vector<torusmem_spin> spins_out(text shape, text scripts) {
@@ -303,6 +336,28 @@ inline judged linearize(span<const uint64_t> opening, span<const torusmem_event>
   if (said.code >= TORUSMEM_NOT_LINEARIZABLE && said.code <= TORUSMEM_TOO_OPEN) return {said.code, said.value, {}};
   order.resize(static_cast<size_t>(granted("linearize", said)));
   return {TORUSMEM_OK, 0, order};
+}
+
+// The verdict on a log: the models that it obeys, and the text that the program prints; or, of a wrong reply, its entry,
+// the word that its operation finds, and the entry that made the operation which left it.
+struct obeyed {
+  uint32_t code;    // OK or WRONG_REPLY
+  uint32_t models;  // the sum of TORUSMEM_COHERENT to TORUSMEM_SC
+  std::string text;
+  uint64_t entry, word, writer;
+};
+inline obeyed model(uint64_t words, span<const torusmem_log_entry> entries, bool order = false) {
+  std::string made(4096, ' ');
+  torusmem_models said;
+  for (;;) {
+    said = torusmem_model(words, entries.data(), entries.size(), order ? 1 : 0, reinterpret_cast<uint8_t *>(&made[0]),
+                          made.size());
+    if (said.code != TORUSMEM_SHORT) break;
+    made.resize(static_cast<size_t>(said.value));
+  }
+  if (said.code == TORUSMEM_WRONG_REPLY) return {said.code, 0, "", said.value, said.word, said.writer};
+  made.resize(static_cast<size_t>(granted("model", {said.code, said.value})));
+  return {said.code, said.models, made, 0, 0, 0};
 }
 
 }  // namespace torusmem

@@ -30,6 +30,10 @@ static const char *const texts[] = {
   "more operations of a trace are open on one word than are looked at",
   "the script of a processor has a spin, so that the index of what is asked behind it isn't known",
   "the operation isn't answered yet",
+  "the machine keeps no record of what is done to it",
+  "bytes are no record",
+  "an action of a record can't be done",
+  "a reply of a log isn't what its operation does to the word that it finds",
 };
 
 const char *torusmem_code_text(uint32_t code) {

@@ -22,9 +22,9 @@ use Rattle.c_handles.proofs.machine_slot.Slot.TheLaws.{lowers}
 use Rattle.std.specs.contracts.impls.GlobalAllocator.TheImpl.{ghosts, dict}
 use Rattle.std.specs.contracts.alloc.Global.{the_row as G}
 use Rattle.std.proofs.alloc.Global.TheLaws.{the_row_laws as global_laws}
-use Rattle.machine_asked.proofs.asked.AskedMachine.TheLaws.{the_row_laws as laws_of}
+use Rattle.machine_record.proofs.recorded.RecordedMachine.TheLaws.{the_row_laws as laws_of}
 use Rattle.c_handles.proofs.Boxes.{boxed, boxed_is_lawful, boxed_word, boxed_tells, Heap, no_drop}
-use Rattle.machine_asked.specs.Asked.{Asked}
+use Rattle.machine_record.specs.Machine.{Recorded}
 use Rattle.c_handles.specs.declared.machine_slot.Slot.{Slot}
 use Rattle.c_handles.specs.contracts.machine_slot.Slot.{the_row as R, the_type}
 use Rattle.c_handles.specs.Row.{machine_row as T, heap}
@@ -51,7 +51,7 @@ box_tells = boxed_tells T
 
 -- the drop of a machine
 abbrev pub drops : Dict
-drops = impl ("c_handles::machine_asked++asked++AskedMachine+Destruct::drop" ∷ []) (tcons (layout Heap) tnil) (dcons dict (dcons no_drop dnil))
+drops = impl ("c_handles::machine_record++recorded++RecordedMachine+Destruct::drop" ∷ []) (tcons (layout Heap) tnil) (dcons dict (dcons no_drop dnil))
 
 -- what the fields own
 abbrev pub Fields : Slot → List Val → Fml
@@ -75,7 +75,7 @@ module _ {M : Type 1} {𝓤 : Ura M} (𝓛 : Logic 𝓤) where
   abbrev pub Rest : Slot → List Val → ℕ → ℕ → SProp 𝓤
   Rest s us b o = sep 𝓤 (sem 𝓛 (Frees s.at)) (sep 𝓤 (sem 𝓛 (Fields (record s { full = true }) us)) (sem 𝓛 (cell_at full_share R.mir us b o)))
 
-  pub whole_with : (s : Slot) (us : List Val) (b o b' o' : ℕ) → s.at ≡ block_ptr b' o' → (w : Asked)
+  pub whole_with : (s : Slot) (us : List Val) (b o b' o' : ℕ) → s.at ≡ block_ptr b' o' → (w : Recorded)
       → ent 𝓤 (sep 𝓤 (sem 𝓛 ((mem T).own_at w b' o')) (Rest s us b o)) (sem 𝓛 ((mem R).own_at (slot_with s w) b o))
   unfolding part_of
   whole_with s us b o b' o' e w =

@@ -5,13 +5,13 @@ use Rattle.std.specs.Box.Ownership.{box_owns}
 use Rattle.std.specs.Global.{Global}
 use Rattle.std.specs.contracts.alloc.Global as global
 use Rattle.std.specs.contracts.impls.GlobalAllocator.TheImpl.{ghosts}
-use Rattle.machine_asked.specs.contracts.asked.AskedMachine.{the_row as asked_row}
+use Rattle.machine_record.specs.contracts.recorded.RecordedMachine.{the_row as recorded_row}
 use Rattle.c_handles.specs.contracts.kept.Kept.{the_row as kept_row}
 use denote.RawPtr.{Ptr}
 
--- `AskedMachine<Global>`, as the logic has the type
+-- `RecordedMachine<Global>`, as the logic has the type
 abbrev pub machine_row : RattleType
-machine_row = asked_row global.the_row ghosts
+machine_row = recorded_row global.the_row ghosts
 
 -- `Kept<Global>`, a watch, as the logic has the type
 abbrev pub watch_row : RattleType

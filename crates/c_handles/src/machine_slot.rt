@@ -1,9 +1,9 @@
 ghost use Rattle.std.specs.Prelude.{◌≡◌, IsTrue, true, false};
 ghost use Rattle.std.specs.Borrow.{sem};
-ghost use Rattle.machine_asked.specs.Asked.{Asked};
+ghost use Rattle.machine_record.specs.Machine.{Recorded};
 ghost use Rattle.c_handles.specs.Row.{machine_row};
 
-use machine_asked::AskedMachine;
+use machine_record::RecordedMachine;
 use std::alloc::Global;
 use std::marker::Model;
 
@@ -13,7 +13,7 @@ use std::marker::Model;
 pub struct Slot {
     full: bool,
     at: *mut (),
-    ghost core: { Asked } by { machine_row.coded },
+    ghost core: { Recorded } by { machine_row.coded },
 }
 
 impl Model for Slot {
@@ -39,16 +39,16 @@ impl Slot {
 
     /// The machine in it, which stays where it lies.
     #[inline(always)]
-    pub fn get_mut(&mut self) -> &mut AskedMachine
+    pub fn get_mut(&mut self) -> &mut RecordedMachine
         requires { IsTrue self.old.full }
         ensures* writes_back { sem 𝓛 (LendsMachine self.entry result) }
         ensures value { result.now ≡ self.old.core }
     {
-        unsafe { &mut *(self.at as *mut AskedMachine) }
+        unsafe { &mut *(self.at as *mut RecordedMachine) }
     }
 
     /// Puts a machine into it.
-    pub fn put(&mut self, boxed: Box<AskedMachine>)
+    pub fn put(&mut self, boxed: Box<RecordedMachine>)
         requires { self.old.full ≡ false }
         ensures full { IsTrue self.new.full }
         ensures core { self.new.core ≡ boxed.value }
@@ -58,12 +58,12 @@ impl Slot {
     }
 
     /// Takes the machine out of it.
-    pub fn take(&mut self, alloc: Global) -> Box<AskedMachine>
+    pub fn take(&mut self, alloc: Global) -> Box<RecordedMachine>
         requires { IsTrue self.old.full }
         ensures core { result.value ≡ self.old.core }
         ensures empty { self.new.full ≡ false }
     {
         self.full = false;
-        unsafe { Box::from_raw(alloc, self.at as *mut AskedMachine) }
+        unsafe { Box::from_raw(alloc, self.at as *mut RecordedMachine) }
     }
 }

@@ -1,24 +1,27 @@
 -- What is kept makes the machine, after each call.
-use Rattle.std.proofs.Common.{◌≡◌, inl, inr, ℕ, true, List, Option, Some, None, refl, sym, ◌∙◌, ap, subst}
+use Rattle.std.proofs.Common.{◌≡◌, inl, inr, ℕ, ◌%◌, true, List, Option, Some, None, refl, sym, ◌∙◌, ap, subst}
 use Rattle.std.specs.Prelude.{option_map}
 use Rattle.std.proofs.lemmas.List.{append-nil}
+use Rattle.torus.specs.Shape.{dims_of}
 use Rattle.torus.specs.declared.step.Step.{Step}
 use Rattle.torus.specs.declared.step.Stepped.TheVariants.{Moved, Idle}
+use Rattle.channel_number.specs.Ports.{port_count}
 use Rattle.script.specs.declared.line.Line.{Line as ScriptLine}
 use Rattle.machine_parts.specs.Core.{round}
 use Rattle.machine_parts.specs.Handed.{handed, refused}
 use Rattle.machine_parts.specs.Machine.{Steps, core_after}
 use Rattle.machine_core.specs.Rounds.{rounds_of}
+use Rattle.machine_core.specs.Clocked.{clocked_round, clocked_rounds}
 use Rattle.machine_asked.specs.Asked.{Asked, spins_with}
 use Rattle.machine_record.specs.declared.action.Action.{Action}
-use Rattle.machine_record.specs.declared.action.Action.TheVariants.{Move, Rounds}
+use Rattle.machine_record.specs.declared.action.Action.TheVariants.{Move, Rounds, Clocked, ClockedRounds}
 use Rattle.machine_record.specs.declared.row.LineRow.{LineRow}
 use Rattle.machine_record.specs.Action.{action_number, is_narrow}
 use Rattle.machine_record.specs.Recording.{Recording}
 use Rattle.machine_record.specs.Machine.{HasLineRoom, KeepsRecord, KeepsLine, with_action, with_row}
 use Rattle.machine_record.specs.MachineInside.{RecordMakes}
 use Rattle.machine_record.specs.Replay.{acted, with_line}
-use Rattle.machine_record.proofs.Replays.{acts, idle_is, made_action, made_line, moved_is, rounds_is}
+use Rattle.machine_record.proofs.Replays.{acts, clocked_is, clocked_rounds_are, idle_is, made_action, made_line, moved_is, rounds_is}
 
 -- an action more
 makes_action : (k : Option Recording) (v w : Asked) (a : Action) → is_narrow a ≡ true → RecordMakes k v → ((rows : List LineRow) → acted rows v a ≡ Some w)
@@ -51,6 +54,18 @@ pub keeps_round : (old new : Option Recording) (v w : Asked) → RecordMakes old
     → KeepsRecord (Rounds 1) old new → RecordMakes new w
 keeps_round old new v w h state spins kept =
     keeps_rounds old new v w 1 h (state ∙ ap (core_after v.core) (sym (append-nil (round v.core.shape)))) spins kept
+
+-- a clocked round, which is kept by the input at which its puts begin
+pub keeps_clocked : (old new : Option Recording) (v w : Asked) (turn k : ℕ) → k ≡ turn % port_count (dims_of v.core.shape) → RecordMakes old v
+    → w.core ≡ core_after v.core (clocked_round v.core turn) → w.spins ≡ v.spins → KeepsRecord (Clocked k) old new → RecordMakes new w
+keeps_clocked old new v w turn k is h state spins kept =
+    keeps_action old new v w (Clocked k) h (λ rows. ap Some (clocked_is v w turn k is state spins)) kept
+
+-- clocked rounds
+pub keeps_clocked_rounds : (old new : Option Recording) (v w : Asked) (k : ℕ) → RecordMakes old v → w.core ≡ core_after v.core (clocked_rounds v.core k)
+    → w.spins ≡ v.spins → KeepsRecord (ClockedRounds k) old new → RecordMakes new w
+keeps_clocked_rounds old new v w k h state spins kept =
+    keeps_action old new v w (ClockedRounds k) h (λ rows. ap Some (clocked_rounds_are v w k state spins)) kept
 
 -- a line
 line_more : (k : Option Recording) (v : Asked) (p : ℕ) (first : ScriptLine) → RecordMakes k v → HasLineRoom k → refused v.core p first ≡ None

@@ -1,16 +1,19 @@
 -- A record of one action more makes the machine that the action leads to.
-use Rattle.std.proofs.Common.{◌≡◌, ℕ, zero, suc, ◌+◌, ◌<◌, ◌≤◌, nat_lt, Bool, true, false, not, ◌&&◌, List, [], ◌∷◌, ◌++◌, length, Option, Some, None, Result, Ok, Err, refl, sym, ◌∙◌, ap, arith, take, slice_get}
-use Rattle.std.specs.Prelude.{if◌then◌else◌, option_and_then}
+use Rattle.std.proofs.Common.{◌≡◌, ℕ, zero, suc, ◌+◌, ◌%◌, ◌<◌, ◌≤◌, nat_lt, Bool, true, false, not, ◌&&◌, List, [], ◌∷◌, ◌++◌, length, Option, Some, None, Result, Ok, Err, refl, sym, ◌∙◌, ap, arith, take, slice_get}
+use Rattle.std.specs.Prelude.{if◌then◌else◌, filter, is_some, option_and_then}
+use Rattle.std.specs.List.{flat_map, range_with_len}
 use Rattle.std.specs.Str.Lines.{lines}
+use Rattle.std.proofs.Math.Nat.{mod-mod}
 use Rattle.std.proofs.lemmas.Bool.{leb-true, lt-ltb}
 use Rattle.std.proofs.lemmas.List.{take_more}
 use Rattle.std.proofs.lemmas.Option.{slice_get_within, get_or_from_slice_get}
-use Rattle.torus.specs.Shape.{Shape}
+use Rattle.torus.specs.Shape.{Shape, dims_of, tiles_of}
 use Rattle.torus.specs.declared.fault.Fault.{Fault}
 use Rattle.torus.specs.declared.fault.Fault.TheVariants as fault
 use Rattle.torus.specs.declared.step.Step.{Step}
 use Rattle.torus.specs.declared.step.Stepped.{Stepped}
 use Rattle.torus.specs.declared.step.Stepped.TheVariants.{Moved, Idle}
+use Rattle.channel_number.specs.Ports.{port_count}
 use Rattle.script.specs.declared.fault.LineFault.{LineFault}
 use Rattle.script.specs.declared.line.Line.{Line as ScriptLine}
 use Rattle.script.specs.declared.line.Line.TheVariants as line
@@ -20,17 +23,18 @@ use Rattle.machine_parts.specs.Handed.{has_loads, is_word, refused}
 use Rattle.machine_parts.specs.Machine.{Core, Steps, built_to, core_after, core_next, core_with, event_in, machine_told}
 use Rattle.machine_core.specs.Loading.{load_by}
 use Rattle.machine_core.specs.Rounds.{rounds_of}
+use Rattle.machine_core.specs.Clocked.{clocked_round, clocked_rounds, turned_at}
 use Rattle.machine_core.proofs.Finishing.{rounds_push}
 use Rattle.machine_core.proofs.Rounds.{core_append, same_shape}
 use Rattle.machine_asked.specs.Asked.{Asked, asked_in}
 use Rattle.machine_record.specs.declared.action.Action.{Action}
-use Rattle.machine_record.specs.declared.action.Action.TheVariants.{Move, Rounds, Line}
+use Rattle.machine_record.specs.declared.action.Action.TheVariants.{Move, Rounds, Line, Clocked, ClockedRounds}
 use Rattle.machine_record.specs.declared.row.LineRow.{LineRow}
 use Rattle.machine_record.specs.Action.{action_number, action_of, is_narrow}
 use Rattle.machine_record.specs.Row.{line_of_row, row_of_line}
 use Rattle.machine_record.specs.Recording.{Recording}
 use Rattle.machine_record.specs.Machine.{with_action, with_row}
-use Rattle.machine_record.specs.Replay.{acted, acted_by, if_moved, if_taken, loaded, made_by, machine_moved, replayed, replayed_from, rounds_made, row_handed, with_line}
+use Rattle.machine_record.specs.Replay.{acted, acted_by, clocked_made, clocked_rounds_made, if_moved, if_taken, loaded, made_by, machine_moved, replayed, replayed_from, rounds_made, row_handed, with_line}
 use Rattle.machine_record.specs.Replayed.{ComesInTurn}
 use Rattle.machine_record.proofs.Actions.{number_back}
 use Rattle.machine_record.specs.Widths.{HasFewLoads}
@@ -70,6 +74,8 @@ acted_grown : (rows more : List LineRow) (v : Asked) (a : Action) (w : Asked) �
 acted_grown rows more v (Move s) w h = h
 acted_grown rows more v (Rounds k) w h = h
 acted_grown rows more v (Line k) w h = row_there rows more v k w (slice_get rows k) refl h
+acted_grown rows more v (Clocked k) w h = h
+acted_grown rows more v (ClockedRounds k) w h = h
 
 acted_by_grown : (rows more : List LineRow) (v : Asked) (o : Option Action) (w : Asked) → option_and_then (acted rows v) o ≡ Some w
     → option_and_then (acted (rows ++ more) v) o ≡ Some w
@@ -192,6 +198,35 @@ round_more start now next k so_far is spins =
     ∙ (ap (λ (x : Asked). core_after x.core (round start.core.shape)) so_far
     ∙ (sym (core_append start.core (rounds_of start.core.shape k) (round start.core.shape))
     ∙ ap (core_after start.core) (sym (rounds_push start.core.shape k))))) in
+    let flags : next.spins ≡ start.spins = spins ∙ ap (λ (x : Asked). x.spins) so_far in
+    λ i. record { core = core i; spins = flags i }
+
+-- a clocked round, of a turn or of the input at which its puts begin
+pub clocked_is : (v w : Asked) (turn k : ℕ) → k ≡ turn % port_count (dims_of v.core.shape) → w.core ≡ core_after v.core (clocked_round v.core turn)
+    → w.spins ≡ v.spins → clocked_made v k ≡ w
+clocked_is v w turn k is state spins =
+    let ports : ℕ = port_count (dims_of v.core.shape) in
+    let same : k % ports ≡ turn % ports = ap (λ (n : ℕ). n % ports) is ∙ mod-mod turn ports in
+    let core : core_after v.core (clocked_round v.core k) ≡ w.core =
+    ap (λ (n : ℕ). core_after v.core (filter (λ a. is_some (step (built_to v.core) v.core.state a)) (flat_map (turned_at ports n) (range_with_len 0 (tiles_of v.core.shape))))) same
+    ∙ sym state in
+    λ i. record { core = core i; spins = sym spins i }
+
+-- clocked rounds
+pub clocked_rounds_are : (v w : Asked) (k : ℕ) → w.core ≡ core_after v.core (clocked_rounds v.core k) → w.spins ≡ v.spins → clocked_rounds_made v k ≡ w
+clocked_rounds_are v w k state spins = λ i. record { core = sym state i; spins = sym spins i }
+
+-- a clocked round more
+pub clocked_more : (start now next : Asked) (k : ℕ) → now ≡ clocked_rounds_made start k → next.core ≡ core_after now.core (clocked_round now.core k)
+    → next.spins ≡ now.spins → next ≡ clocked_rounds_made start (k + 1)
+clocked_more start now next k so_far is spins =
+    let made : List Step = clocked_rounds start.core k in
+    let more : suc k ≡ k + 1 = omega arith in
+    let core : next.core ≡ core_after start.core (clocked_rounds start.core (k + 1)) =
+    is
+    ∙ (ap (λ (x : Asked). core_after x.core (clocked_round x.core k)) so_far
+    ∙ (sym (core_append start.core made (clocked_round (core_after start.core made) k))
+    ∙ ap (λ (n : ℕ). core_after start.core (clocked_rounds start.core n)) more)) in
     let flags : next.spins ≡ start.spins = spins ∙ ap (λ (x : Asked). x.spins) so_far in
     λ i. record { core = core i; spins = flags i }
 

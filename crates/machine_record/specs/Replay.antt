@@ -13,9 +13,10 @@ use Rattle.machine_parts.specs.Handed.{handed, refused}
 use Rattle.machine_parts.specs.Machine.{built_to, core_after, core_after_load, core_next, machine_told}
 use Rattle.machine_core.specs.Loading.{load_by}
 use Rattle.machine_core.specs.Rounds.{rounds_of}
+use Rattle.machine_core.specs.Clocked.{clocked_round, clocked_rounds}
 use Rattle.machine_asked.specs.Asked.{Asked, asked_in, has_spin, spins_with}
 use Rattle.machine_record.specs.declared.action.Action.{Action}
-use Rattle.machine_record.specs.declared.action.Action.TheVariants.{Move, Rounds, Line}
+use Rattle.machine_record.specs.declared.action.Action.TheVariants.{Move, Rounds, Line, Clocked, ClockedRounds}
 use Rattle.machine_record.specs.declared.row.LineRow.{LineRow}
 use Rattle.machine_record.specs.Action.{action_of}
 use Rattle.machine_record.specs.Row.{line_of_row}
@@ -40,6 +41,13 @@ machine_moved v attempt =
 abbrev pub rounds_made : Asked → ℕ → Asked
 rounds_made v count = asked_in v (core_after v.core (rounds_of v.core.shape count))
 
+-- the machine after a clocked round of a turn, and after so many with the turns from 0 on
+abbrev pub clocked_made : Asked → ℕ → Asked
+clocked_made v turn = asked_in v (core_after v.core (clocked_round v.core turn))
+
+abbrev pub clocked_rounds_made : Asked → ℕ → Asked
+clocked_rounds_made v count = asked_in v (core_after v.core (clocked_rounds v.core count))
+
 -- the machine whose processor p is handed a line, whatever the line
 abbrev pub with_line : Asked → ℕ → ScriptLine → Asked
 with_line v p line = record { core = handed v.core p line; spins = spins_with v.spins p line }
@@ -60,6 +68,8 @@ abbrev pub acted : List LineRow → Asked → Action → Option Asked
 acted rows v (Move attempt) = machine_moved v attempt
 acted rows v (Rounds count) = Some (rounds_made v count)
 acted rows v (Line number) = option_and_then (row_handed v) (slice_get rows number)
+acted rows v (Clocked turn) = Some (clocked_made v turn)
+acted rows v (ClockedRounds count) = Some (clocked_rounds_made v count)
 
 -- the machine after the action of a number
 abbrev pub acted_by : List LineRow → Asked → ℕ → Option Asked

@@ -1,8 +1,8 @@
 //! What is done to a machine, and the number that a record has of it.
 
-ghost use Rattle.std.specs.Prelude.{◌≡◌, true};
+ghost use Rattle.std.specs.Prelude.{◌≡◌, ◌/◌, ◌%◌, true, option_map};
 ghost use Rattle.machine_record.specs.Action.{action_coded, action_number, action_of, choice_coded, choice_number};
-ghost use Rattle.machine_record.specs.Action.{is_narrow, port_of};
+ghost use Rattle.machine_record.specs.Action.{is_narrow, move_recorded, port_of};
 
 use torus::{Choice, Step};
 
@@ -15,6 +15,10 @@ pub enum Action {
     Rounds(u32),
     /// A processor is handed the line of this number, from 0.
     Line(u32),
+    /// A clocked round, in which the puts of each router begin at this input.
+    Clocked(u32),
+    /// So many clocked rounds, with the turns from 0 on.
+    ClockedRounds(u32),
 }
 
 /// The number of a choice, 0 to 8.
@@ -64,17 +68,11 @@ fn choice_coded(number: u32, port: u32) -> Option<Choice>
     }
 }
 
-/// The action of a kind: 0 to 8 a choice, 9 rounds, 10 a line.
-fn action_coded(kind: u32, rest: u32) -> Option<Action>
-    ensures { result ≡ action_coded kind rest }
+/// The attempt by an agent of the choice that has this number.
+fn move_coded(number: u32, rest: u32) -> Option<Action>
+    ensures { result ≡ option_map (move_recorded (rest / 4096)) (choice_coded number (rest % 4096)) }
 {
-    if kind == 9 {
-        return Some(Action::Rounds(rest));
-    }
-    if kind == 10 {
-        return Some(Action::Line(rest));
-    }
-    match choice_coded(kind, rest % 4096) {
+    match choice_coded(number, rest % 4096) {
         Some(choice) => Some(Action::Move(Step {
             agent: rest / 4096,
             choice,
@@ -83,9 +81,22 @@ fn action_coded(kind: u32, rest: u32) -> Option<Action>
     }
 }
 
+/// The action of a kind: 0 to 8 a choice, 9 rounds, 10 a line, 11 a clocked round, 12 clocked rounds.
+fn action_coded(kind: u32, rest: u32) -> Option<Action>
+    ensures { result ≡ action_coded kind rest }
+{
+    match kind {
+        9 => Some(Action::Rounds(rest)),
+        10 => Some(Action::Line(rest)),
+        11 => Some(Action::Clocked(rest)),
+        12 => Some(Action::ClockedRounds(rest)),
+        _ => move_coded(kind, rest),
+    }
+}
+
 impl Action {
     /// Whether a record has a number for it: an agent is below 65536, an input or output below 4096, and
-    /// rounds and lines below 2^28.
+    /// rounds, lines and turns below 2^28.
     pub fn is_narrow(self) -> bool
         ensures { result ≡ is_narrow self }
     {
@@ -93,6 +104,8 @@ impl Action {
             Action::Move(step) => port_of(step.choice) < 4096 && step.agent < 65536,
             Action::Rounds(count) => count < 268435456,
             Action::Line(number) => number < 268435456,
+            Action::Clocked(turn) => turn < 268435456,
+            Action::ClockedRounds(count) => count < 268435456,
         }
     }
 
@@ -107,6 +120,8 @@ impl Action {
             }
             Action::Rounds(count) => count * 16 + 9,
             Action::Line(number) => number * 16 + 10,
+            Action::Clocked(turn) => turn * 16 + 11,
+            Action::ClockedRounds(count) => count * 16 + 12,
         }
     }
 

@@ -53,6 +53,31 @@ pub(crate) fn keep_rounds<A: Allocator>(kept: &mut Option<Record<A>>, count: u64
     }
 }
 
+/// Keeps a clocked round of a turn. The record ends where no number names it, or memory is refused.
+pub(crate) fn keep_clocked<A: Allocator>(kept: &mut Option<Record<A>>, turn: u64)
+    ensures { KeepsRecord (Action.Clocked turn) (option_map recording_of kept.old)
+        (option_map recording_of kept.new) }
+{
+    if turn < MOST {
+        keep(kept, Action::Clocked(turn as u32));
+    } else {
+        *kept = None;
+    }
+}
+
+/// Keeps clocked rounds, with the turns from 0 on. The record ends where no number names them, or memory is
+/// refused.
+pub(crate) fn keep_clocked_rounds<A: Allocator>(kept: &mut Option<Record<A>>, count: u64)
+    ensures { KeepsRecord (Action.ClockedRounds count) (option_map recording_of kept.old)
+        (option_map recording_of kept.new) }
+{
+    if count < MOST {
+        keep(kept, Action::ClockedRounds(count as u32));
+    } else {
+        *kept = None;
+    }
+}
+
 /// Puts a line that a processor is handed behind a record.
 ///
 /// Errors: no number names it, or out of memory.

@@ -4,6 +4,7 @@
 
 pub mod action;
 pub mod bytes;
+pub mod clocked;
 mod keeping;
 pub mod laws;
 pub mod reading;

@@ -1,7 +1,8 @@
 //! What a record's actions do to a machine.
 
 ghost use Rattle.std.specs.Prelude.{◌≡◌, IfOk};
-ghost use Rattle.machine_record.specs.Replay.{acted, acted_by, machine_moved, rounds_made, row_handed};
+ghost use Rattle.machine_record.specs.Replay.{acted, acted_by, clocked_rounds_made, machine_moved};
+ghost use Rattle.machine_record.specs.Replay.{rounds_made, row_handed};
 ghost use Rattle.machine_record.specs.Replayed.{ComesInTurn, Replays};
 
 use crate::{Action, LineRow};
@@ -25,6 +26,15 @@ fn make_rounds<A: Allocator>(machine: &mut AskedMachine<A>, count: u32)
 {
     for made in 0..count {
         machine.round();
+    }
+}
+
+/// Makes so many clocked rounds, with the turns from 0 on.
+fn make_clocked<A: Allocator>(machine: &mut AskedMachine<A>, count: u32)
+    ensures { machine.new ≡ clocked_rounds_made machine.old count }
+{
+    for turn in 0..count {
+        machine.clocked_round(turn as u64);
     }
 }
 
@@ -64,6 +74,14 @@ fn act<A: Allocator>(
             Some(row) => hand(machine, *row),
             None => Ok(false),
         },
+        Action::Clocked(turn) => {
+            machine.clocked_round(turn as u64);
+            Ok(true)
+        }
+        Action::ClockedRounds(count) => {
+            make_clocked(machine, count);
+            Ok(true)
+        }
     }
 }
 

@@ -2,11 +2,14 @@ pub mod Outcome
 pub mod Choices
 pub mod Held
 pub mod Steps
+pub mod Clocked
 pub mod Records
 pub mod Room
 pub mod Routes
+pub mod Saving
 pub mod Shapes
 pub mod Orders
+pub mod Happened
 pub mod Shown
 pub mod Texts
 pub mod Channels
@@ -17,3 +20,4 @@ pub mod Traces
 pub mod Watching
 pub mod Appending
 pub mod Opening
+pub mod Models

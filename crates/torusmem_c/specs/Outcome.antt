@@ -40,6 +40,10 @@ c_code code.TooMany = 23
 c_code code.TooOpen = 24
 c_code code.BehindSpin = 25
 c_code code.NotYet = 26
+c_code code.NoRecord = 27
+c_code code.BadRecord = 28
+c_code code.BadAction = 29
+c_code code.WrongReply = 30
 
 -- a code, and the number that goes with it
 abbrev pub c_outcome : Code → ℕ → Outcome

@@ -11,7 +11,7 @@ ghost use Rattle.torusmem_c.specs.Outcome.{c_outcome};
 
 use crate::outcome::{Code, Outcome};
 use c_handles::MachineHandle;
-use machine_asked::AskedMachine;
+use machine_record::RecordedMachine;
 use script::{Line, Value};
 
 /// A value: a number, or `last`.
@@ -88,8 +88,8 @@ fn line_named(number: u32, address: u32, first: u64, second: u64, lasts: u32) ->
 }
 
 /// Gives a processor the line that is named.
-fn appended(machine: &mut AskedMachine, processor: u32, line: Option<Line>) -> Outcome
-    ensures { Appends processor line machine.old machine.new result }
+fn appended(machine: &mut RecordedMachine, processor: u32, line: Option<Line>) -> Outcome
+    ensures { Appends processor line machine.old.asked machine.new.asked result }
 {
     let Some(line) = line else {
         return Outcome::no_such();
@@ -150,11 +150,11 @@ fn index_number(index: Option<u32>) -> u64
 }
 
 /// Gives a processor an operation, and answers its index.
-fn numbered(machine: &mut AskedMachine, processor: u32, line: Line) -> Outcome
+fn numbered(machine: &mut RecordedMachine, processor: u32, line: Line) -> Outcome
     requires operation { is_operation line ≡ true }
-    requires plain { is_behind_spin machine.old processor ≡ false }
-    ensures { Numbers processor line machine.old machine.new result
-        ⊎ RefusesLine processor line machine.old machine.new result }
+    requires plain { is_behind_spin machine.old.asked processor ≡ false }
+    ensures { Numbers processor line machine.old.asked machine.new.asked result
+        ⊎ RefusesLine processor line machine.old.asked machine.new.asked result }
 {
     match machine.ask(processor, line) {
         Ok(index) => Outcome::done(index_number(index)),
@@ -163,14 +163,14 @@ fn numbered(machine: &mut AskedMachine, processor: u32, line: Line) -> Outcome
 }
 
 /// Gives a processor the operation that is named, and answers its index, if it is known.
-fn asked(machine: &mut AskedMachine, processor: u32, line: Option<Line>) -> Outcome
+fn asked(machine: &mut RecordedMachine, processor: u32, line: Option<Line>) -> Outcome
     requires { IfSome line (λ line. is_operation line ≡ true) }
-    ensures { AsksAppend processor line machine.old machine.new result }
+    ensures { AsksAppend processor line machine.old.asked machine.new.asked result }
 {
     let Some(line) = line else {
         return Outcome::no_such();
     };
-    if machine.is_behind_spin(processor) {
+    if machine.asked().is_behind_spin(processor) {
         return Outcome::of(Code::BehindSpin, 0);
     }
     numbered(machine, processor, line)

@@ -3,7 +3,10 @@
 
 pub mod appending;
 mod choice;
+pub mod clocking;
+pub mod events;
 pub mod explaining;
+pub mod models;
 pub mod networks;
 pub mod opening;
 pub mod order;
@@ -13,6 +16,7 @@ pub mod reading;
 pub mod records;
 mod room;
 pub mod routes;
+pub mod saving;
 pub mod shape;
 pub mod spinning;
 pub mod stepping;

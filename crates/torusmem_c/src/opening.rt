@@ -9,6 +9,7 @@ use crate::outcome::{Code, Outcome, no_memory};
 use crate::shape::ShapeRecord;
 use c_handles::MachineHandle;
 use machine_asked::AskedMachine;
+use machine_record::RecordedMachine;
 use std::alloc::{AllocError, Global};
 use torus::{Fault, Torus};
 
@@ -75,7 +76,7 @@ fn kept(handle: &mut MachineHandle, machine: AskedMachine, value: u64) -> Outcom
     requires { held handle.old ≡ None }
     ensures { Keeps machine value (held handle.new) result }
 {
-    match handle.hold(machine) {
+    match handle.hold(RecordedMachine::unrecorded(machine)) {
         Ok(()) => Outcome::done(value),
         Err(_) => no_memory(),
     }
@@ -111,12 +112,12 @@ pub extern "C" fn torusmem_open(
 }
 
 /// Finishes a machine, and holds one that goes on where it stands in an empty handle.
-fn gone_on(alloc: Global, machine: &mut AskedMachine, fresh: &mut MachineHandle) -> Outcome
+fn gone_on(alloc: Global, machine: &mut RecordedMachine, fresh: &mut MachineHandle) -> Outcome
     requires { held fresh.old ≡ None }
-    ensures { GoesOn machine.old machine.new (held fresh.new) result }
+    ensures { GoesOn machine.old.asked machine.new.asked (held fresh.new) result }
 {
     let rounds = machine.finish();
-    match machine.reopened(alloc) {
+    match machine.asked().reopened(alloc) {
         Ok(made) => kept(fresh, made, rounds),
         Err(_) => no_memory(),
     }

@@ -28,7 +28,7 @@ pub struct OrderedRecord {
 }
 
 /// What C sees of a row of the order.
-fn ordered_record(row: Ordered) -> OrderedRecord
+pub(crate) fn ordered_record(row: Ordered) -> OrderedRecord
     ensures { result ≡ ordered_record row }
 {
     OrderedRecord {

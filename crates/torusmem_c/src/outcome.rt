@@ -38,13 +38,21 @@ pub enum Code {
     BehindSpin,
     /// The operation isn't answered yet.
     NotYet,
+    /// The machine keeps no record of what is done to it.
+    NoRecord,
+    /// Bytes are no record.
+    BadRecord,
+    /// An action of a record can't be done.
+    BadAction,
+    /// A reply of a log isn't what its operation does to the word that it finds.
+    WrongReply,
 }
 
 impl Code {
     /// The number by which C knows it.
     pub fn number(self) -> u32
         ensures value { result ≡ c_code self }
-        ensures small { result ≤ 26 }
+        ensures small { result ≤ 30 }
     {
         match self {
             Code::Done => 0,
@@ -61,6 +69,10 @@ impl Code {
             Code::TooOpen => 24,
             Code::BehindSpin => 25,
             Code::NotYet => 26,
+            Code::NoRecord => 27,
+            Code::BadRecord => 28,
+            Code::BadAction => 29,
+            Code::WrongReply => 30,
         }
     }
 }

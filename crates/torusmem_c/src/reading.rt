@@ -164,7 +164,7 @@ pub extern "C" fn torusmem_answer_of(
         (held handle.old) (held handle.new) result }
 {
     match handle.machine() {
-        Some(machine) => answer_or_wait(machine, processor, index),
+        Some(machine) => answer_or_wait(machine.asked(), processor, index),
         None => AnswerRecord::none(Code::Empty),
     }
 }

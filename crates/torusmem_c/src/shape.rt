@@ -83,7 +83,7 @@ pub extern "C" fn torusmem_shape(handle: &mut MachineHandle, out: &mut ShapeReco
 {
     match handle.machine() {
         Some(machine) => {
-            *out = shape_record(machine);
+            *out = shape_record(machine.asked());
             Outcome::done(0)
         }
         None => Outcome::empty(),

@@ -10,7 +10,7 @@ ghost use Rattle.torusmem_c.specs.Steps.{TellsMovesLeft, enabled_told, first_unn
 use crate::choice::{attempt_named, step_named};
 use crate::outcome::{Code, Outcome};
 use c_handles::MachineHandle;
-use machine_asked::AskedMachine;
+use machine_record::RecordedMachine;
 use machine_report::Machine;
 use torus::{Stepped, Torus};
 
@@ -34,8 +34,8 @@ pub extern "C" fn torusmem_step(
 
 /// Makes the step that is named, if there is one.
 #[inline(always)]
-fn made(machine: &mut AskedMachine, agent: u32, choice: u32, number: u32) -> Outcome
-    ensures { OnCore (MakesNamed agent choice number) machine.old machine.new result }
+fn made(machine: &mut RecordedMachine, agent: u32, choice: u32, number: u32) -> Outcome
+    ensures { OnCore (MakesNamed agent choice number) machine.old.asked machine.new.asked result }
 {
     match step_named(machine.machine().torus(), agent, choice, number) {
         Some(attempt) => Outcome::done(moved(machine.step(attempt))),
@@ -79,8 +79,8 @@ fn first_unnamed(torus: &Torus, attempts: &[AttemptRecord]) -> Option<usize>
 }
 
 /// Makes attempts, if all of them name steps.
-fn made_if_named(machine: &mut AskedMachine, attempts: &[AttemptRecord]) -> Outcome
-    ensures { OnCore (MakesAll attempts.now) machine.old machine.new result }
+fn made_if_named(machine: &mut RecordedMachine, attempts: &[AttemptRecord]) -> Outcome
+    ensures { OnCore (MakesAll attempts.now) machine.old.asked machine.new.asked result }
 {
     match first_unnamed(machine.machine().torus(), attempts) {
         Some(at) => Outcome::of(Code::NoSuch, at as u64),
@@ -102,16 +102,16 @@ pub extern "C" fn torusmem_run(handle: &mut MachineHandle, attempts: &[AttemptRe
 }
 
 /// How many moves are left.
-fn moves_left(machine: &AskedMachine) -> u64
-    ensures { result ≡ machine.now.core.moves_left }
+fn moves_left(machine: &RecordedMachine) -> u64
+    ensures { result ≡ machine.now.asked.core.moves_left }
 {
     machine.machine().moves_left()
 }
 
 /// Makes the steps that are named, one after the other, and answers how many of them moved: each move
 /// takes one from the moves that are left.
-fn made_all(machine: &mut AskedMachine, attempts: &[AttemptRecord]) -> u64
-    ensures { OnCore (MakesSteps (steps_named attempts.now)) machine.old machine.new
+fn made_all(machine: &mut RecordedMachine, attempts: &[AttemptRecord]) -> u64
+    ensures { OnCore (MakesSteps (steps_named attempts.now)) machine.old.asked machine.new.asked
         (c_outcome Code.Done result) }
 {
     machine.reached();

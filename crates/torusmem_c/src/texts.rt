@@ -16,6 +16,7 @@ use crate::outcome::{Code, Outcome, fault_outcome, no_memory};
 use crate::room::put_over;
 use c_handles::MachineHandle;
 use machine_asked::AskedMachine;
+use machine_record::RecordedMachine;
 use machine_report::{Machine, Out, check_report, of_run, write_report};
 use report_check::CheckFault;
 use std::alloc::{AllocError, Global};
@@ -74,7 +75,7 @@ pub extern "C" fn torusmem_load(
         return Outcome::of(Code::Full, 0);
     }
     match AskedMachine::load(alloc, machine, scripts) {
-        Ok(machine) => match handle.hold(machine) {
+        Ok(machine) => match handle.hold(RecordedMachine::unrecorded(machine)) {
             Ok(()) => Outcome::done(0),
             Err(_) => no_memory(),
         },

@@ -16,7 +16,8 @@ import warnings
 import torusmem
 from torusmem import Answer, Answered, BadReport, Channel, Choice, Closed, Cycle, Entry, EventFault, Fill, Issued, Kind
 from torusmem import Linearizable, Link, Machine, NoRoute, NotLinearizable, Operation, Rising, Spin, TextFault
-from torusmem import Steps, TooMany, Undecided, Watch, linearize, network
+from torusmem import Init, LogFault, Made, Model, Read, Replied, Served, Steps, TooMany, Undecided, Watch, WrongReply, Wrote
+from torusmem import linearize, model, network
 
 ROOT = os.path.dirname(os.path.dirname(os.path.dirname(os.path.dirname(os.path.realpath(__file__)))))
 EXAMPLES = os.path.join(ROOT, "examples")
@@ -76,6 +77,16 @@ class Runs(unittest.TestCase):
             self.assertTrue(machine.finished)
             self.assertEqual(machine.report(), read("report.txt"))
             self.assertEqual(machine.finish(), 0)
+
+    def test_the_first_run_in_clocked_rounds(self):
+        turn = 0
+        with first() as machine, first() as by_one:
+            self.assertEqual(machine.finish_clocked(), 34)
+            while not by_one.finished:
+                by_one.clocked_round(turn)
+                turn += 1
+            self.assertEqual(turn, 34)
+            self.assertEqual(machine.report(), by_one.report())
 
     def test_rounds_one_by_one(self):
         machine, rounds = first(), 0
@@ -204,6 +215,27 @@ class Looks(unittest.TestCase):
         ]:
             with self.assertRaisesRegex(ValueError, f"\\({why}\\)"):
                 Machine.of(torusmem.Shape(*shape), words)
+
+    def test_machines_that_are_restored(self):
+        machine = Machine.read(path("flag/machine.txt"), path("flag/script.txt"), recorded=True)
+        machine.round()
+        machine.ask(1, torusmem.Operation.ADD, 1, 3)
+        for again in (Machine.restored(machine.save()), machine.clone()):
+            self.assertEqual((again.report(), again.row(), again.save()), (machine.report(), machine.row(), machine.save()))
+            other = machine.clone()
+            self.assertEqual(again.step(0, Choice.SEND), other.step(0, Choice.SEND))
+            self.assertEqual((again.finish(), again.report()), (other.finish(), other.report()))
+        for bytes_of_none, why in [
+            (b"", "byte 0 "), (machine.save()[:-1], f"byte {len(machine.save()) - 1} "), (b"T" + machine.save()[1:], "byte 0 "),
+            (machine.save()[:-4] + b"\x0f\0\0\0", "action 1 "), (machine.save().replace(b"radix", b"Radix"), "line 1: .*F4"),
+        ]:
+            with self.assertRaisesRegex(ValueError, why):
+                Machine.restored(bytes_of_none)
+        self.assertRaisesRegex(ValueError, "recorded=True", first().save)
+        self.assertRaisesRegex(ValueError, "recorded=True", first().clone)
+        machine.close()
+        self.assertRaises(torusmem.Closed, machine.save)
+        self.assertRaises(torusmem.Closed, machine.clone)
 
     def test_what_is_not_there(self):
         machine = first()
@@ -464,6 +496,70 @@ class Traces(unittest.TestCase):
         self.assertRaises(ValueError, linearize, [self.LOAD], {2**63: -1})
 
 
+class Models(unittest.TestCase):
+    STORES = (Made(0, Operation.STORE, 0, (1,)), Made(1, Operation.STORE, 1, (1,)))
+    LOADS = (Made(0, Operation.LOAD, 1), Made(1, Operation.LOAD, 0))
+    FENCES = (Made(0, torusmem.FENCE), Made(1, torusmem.FENCE))
+
+    def test_store_buffering(self):
+        """Two processors store, then load the other word (Lamport, IEEE ToC 28(9), 1979): TSO allows what SC forbids."""
+        sources = (Wrote(0, 0), Wrote(1, 0), Read(0, 1), Read(1, 1))
+        obeyed = model([*self.STORES, *self.LOADS, *sources], words=2, order=True)
+        self.assertEqual(obeyed.models, Model.COHERENT | Model.FENCED | Model.PSO | Model.TSO)
+        self.assertTrue(obeyed.text.startswith("coherent yes\nfenced yes\npso yes\ntso yes\nsc no\nno order of sc:\n"))
+        self.assertIn("\nan order of tso:\n", obeyed.text)
+        sources = (Wrote(0, 0), Wrote(1, 0), Read(0, 2), Read(1, 2))
+        obeyed = model(iter([*self.STORES, *self.FENCES, *self.LOADS, *sources]))
+        self.assertEqual(obeyed.models, Model.COHERENT)
+        sources = (Served(0, 1), Wrote(0, 0), Wrote(1, 0), Read(1, 1, (0, 0)), Replied(1, 1, 1), Replied(0, 0))
+        obeyed = model([*self.STORES, *self.LOADS, *sources])
+        self.assertEqual(obeyed.models, Model(31))
+        self.assertEqual(obeyed.text, "coherent yes\nfenced yes\npso yes\ntso yes\nsc yes\n")
+        self.assertEqual(model([]).models, Model(31))
+
+    def test_long_texts(self):
+        log = [Made(it, Operation.ADD, 2**32 - 1, (2**64 - 1,)) for it in range(400)]
+        said = model([*log, *(Wrote(it, 0) for it in range(400))], order=True)
+        self.assertEqual((said.models, said.text.count("add 4294967295 18446744073709551615")), (Model(31), 400))
+
+    def test_replies_that_are_not_due(self):
+        log = [Init(0, 7), Made(0, Operation.LOAD, 0), Made(1, Operation.CAS, 0, (7, 9)), Wrote(1, 0)]
+        self.assertEqual(model([*log, Read(0, 0), Replied(0, 0, 8)]), WrongReply(6, 7, 0))
+        self.assertEqual(model([*log, Read(0, 0, (1, 0)), Replied(1, 0, 7), Replied(0, 0, 7)]), WrongReply(7, 9, 3))
+        self.assertEqual(model([*log, Read(0, 0, (1, 0)), Replied(1, 0, 7), Replied(0, 0, 9)]).models, Model(31))
+
+    def test_entries_that_can_not_stand(self):
+        rows = (
+            (Wrote(0, 1), 6),
+            (Wrote(2, 0), 6),
+            (Wrote(0, 0), 5),
+            (Wrote(1, 0), 4),
+            (Wrote(4096, 0), 8),
+            (Read(0, 0), 4),
+            (Read(1, 0, (2, 0)), 6),
+            (Made(4096, Operation.LOAD, 0), 8),
+            (Made(0, Operation.LOAD, 2), 7),
+            (Init(0, 1), 5),
+            (Replied(0, 0, 1), 4),
+            (Replied(1, 0), 4),
+        )
+        for entry, fault in rows:
+            with self.assertRaises(LogFault) as caught:
+                model([self.STORES[0], self.LOADS[1], Wrote(0, 0), entry], words=2)
+            self.assertEqual((caught.exception.entry, caught.exception.fault), (4, fault), entry)
+            self.assertEqual(caught.exception.reason, torusmem.LOG_REASONS[fault])
+        with self.assertRaises(LogFault) as caught:
+            model([self.STORES[0], self.LOADS[0], Wrote(0, 0)])
+        self.assertEqual((caught.exception.entry, caught.exception.fault), (2, 5))
+        self.assertEqual(str(pickle.loads(pickle.dumps(caught.exception))), str(caught.exception))
+        for words in (0, 2**32 + 1):
+            with self.assertRaises(LogFault) as caught:
+                model([], words)
+            self.assertEqual((caught.exception.entry, caught.exception.fault), (0, 6))
+        for bad in (Made(0, Operation.STORE, 0), Made(0, 12), Made(0, Operation.LOAD, -1), Replied(0, 0, 2**64)):
+            self.assertRaises(ValueError, model, [bad])
+
+
 class Watches(unittest.TestCase):
     def test_traces_are_watched(self):
         watch = Watch([0, 5])
@@ -608,6 +704,7 @@ class Words(unittest.TestCase):
         names = "OK FAULT_MEMORY BAD_REPORT EMPTY FULL NONE SHORT NO_ROUTE CYCLE".split()
         names += ["NO_TEXT", "MACHINE_TEXT", "SCRIPTS_TEXT", "ISSUE", "ANSWER"]
         names += ["NOT_LINEARIZABLE", "TOO_MANY", "TOO_OPEN", "BEHIND_SPIN", "NOT_YET"]
+        names += ["NO_RECORD", "BAD_RECORD", "BAD_ACTION"]
         names += ["FENCE", "SPIN", "FIRST_IS_LAST", "SECOND_IS_LAST"]
         codes = {name: getattr(library, name) for name in names}
         self.assertEqual(numbers, {**codes, "REQUEST": 0, "REPLY": 1})

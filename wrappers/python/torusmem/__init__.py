@@ -20,18 +20,20 @@ the reason: TextFault, BadReport.
 network() judges any network that is written down, and answers numbers that rise along every route, a pair without a
 route, or a cycle with the channels that fill up. linearize() finds an order that explains a trace of calls and answers,
 or the event from which on there is none, or that the trace is undecided. A Watch judges a trace event by event, while it
-goes on.
+goes on. model() tells which memory models a log of programs obeys, and the cycle of the weakest that it breaks.
 
 The library beneath is proved; this package, which only passes numbers and texts on, is tested.
 """
 
 from __future__ import annotations
 
-from ._faults import BadReport, Closed, EVENT_REASONS, EventFault, NETWORK_REASONS, REASONS, TextFault, TooMany
+from ._faults import BadReport, Closed, EVENT_REASONS, EventFault, LOG_REASONS, LogFault, NETWORK_REASONS, REASONS
+from ._faults import TextFault, TooMany
 from ._judges import Answered, Cycle, Event, Fill, Issued, Judged, Linearizable, Link, NoRoute, NotLinearizable
 from ._judges import Rising, Undecided, Verdict, check, linearize, network
 from ._library import LibraryNotFound
 from ._machine import Machine
+from ._models import Init, LogEntry, Made, Model, Obeyed, Read, Replied, Served, WrongReply, Wrote, model
 from ._records import Answer, Channel, Choice, Entry, FENCE, Happened, Kind, Line, Operation, Ordered, SPIN, Shape, Spin
 from ._records import Steps
 from ._watch import Watch
@@ -52,22 +54,32 @@ __all__ = [
     "FENCE",
     "Fill",
     "Happened",
+    "Init",
     "Issued",
     "Judged",
     "Kind",
+    "LOG_REASONS",
     "LibraryNotFound",
     "Line",
     "Linearizable",
     "Link",
+    "LogEntry",
+    "LogFault",
     "Machine",
+    "Made",
+    "Model",
     "NETWORK_REASONS",
     "NoRoute",
     "NotLinearizable",
+    "Obeyed",
     "Operation",
     "Ordered",
     "REASONS",
+    "Read",
+    "Replied",
     "Rising",
     "SPIN",
+    "Served",
     "Shape",
     "Spin",
     "Steps",
@@ -76,7 +88,10 @@ __all__ = [
     "Undecided",
     "Verdict",
     "Watch",
+    "WrongReply",
+    "Wrote",
     "check",
     "linearize",
+    "model",
     "network",
 ]

@@ -41,6 +41,16 @@ EVENT_REASONS = {
     8: "its processor is not below 4096",
 }
 
+# What they say of an entry of a log.
+LOG_REASONS = {
+    4: "there is no such operation or reply, or the entry names an operation of another kind",
+    5: "it comes too late, its operation is named already, or nothing behind it names its operation",
+    6: "its processor has made no such operation so far, or the number of words is not 1 to 4294967296",
+    7: "the address is not below the number of words, or a load and its write are on different words",
+    8: "its processor is not below 4096",
+    9: "there are more than 4194304 operations, or operations on more than 1048576 addresses",
+}
+
 
 class TextFault(ValueError):
     """A text was refused: its first fault.
@@ -86,6 +96,19 @@ class EventFault(ValueError):
 
     def __reduce__(self) -> Any:
         return EventFault, (self.event, self.fault)
+
+
+class LogFault(ValueError):
+    """An entry of a log can't stand: `entry`, its number from 1, or 0 where the number of words is at fault; the `fault`,
+    4 for F4 and so on; and the `reason`."""
+
+    def __init__(self, entry: int, fault: int) -> None:
+        self.entry, self.fault = entry, fault
+        self.reason = LOG_REASONS.get(fault, "a fault that this version doesn't know")
+        super().__init__(f"entry {entry}: F{fault}: {self.reason}")
+
+    def __reduce__(self) -> Any:
+        return LogFault, (self.entry, self.fault)
 
 
 class Closed(ValueError):

@@ -13,7 +13,9 @@ SONAME = "libtorusmem.so.0.2"
 OK, FAULT_MEMORY, BAD_REPORT, EMPTY, FULL, NONE, SHORT, NO_ROUTE, CYCLE = 0, 12, 15, 16, 17, 18, 19, 20, 21
 NOT_LINEARIZABLE, TOO_MANY, TOO_OPEN = 22, 23, 24
 BEHIND_SPIN, NOT_YET = 25, 26
+NO_RECORD, BAD_RECORD, BAD_ACTION, WRONG_REPLY = 27, 28, 29, 30
 ISSUE, ANSWER = 0, 1
+LOG_INIT, LOG_MADE, LOG_WROTE, LOG_READ, LOG_READ_OPENING, LOG_SERVED, LOG_REPLIED = 0, 1, 2, 3, 4, 5, 6
 FENCE, SPIN, FIRST_IS_LAST, SECOND_IS_LAST = 10, 11, 1, 2
 NO_TEXT, MACHINE_TEXT, SCRIPTS_TEXT = 0, 1, 2
 LONGEST_ROUTE = 10
@@ -67,6 +69,10 @@ class RawOrdered(Structure):
     _fields_ = [(it, c_uint32) for it in ("bank", "place", "source", "index", "issued", "served", "answered")]
 
 
+class RawHappened(Structure):
+    _fields_ = [("number", c_uint32), ("what", c_uint32), ("operation", RawOrdered)]
+
+
 class RawSpin(Structure):
     _fields_ = [(it, c_uint32) for it in ("processor", "address", "loads")] + [
         (it, c_uint64) for it in ("line", "sought")
@@ -77,6 +83,19 @@ class RawEvent(Structure):
     _fields_ = [(it, c_uint32) for it in ("kind", "processor", "operation", "address", "index", "has_old")] + [
         (it, c_uint64) for it in ("first", "second", "old")
     ]
+
+
+class RawLogEntry(Structure):
+    _fields_ = [
+        (it, c_uint32)
+        for it in ("kind", "processor", "index", "operation", "address", "from_processor", "from_index", "has_old")
+    ] + [(it, c_uint64) for it in ("first", "second", "old")]
+
+
+class RawModels(Structure):
+    """Which memory models a log obeys."""
+
+    _fields_ = [(it, c_uint32) for it in ("code", "models")] + [(it, c_uint64) for it in ("value", "word", "writer")]
 
 
 class Explanation(Structure):
@@ -93,6 +112,10 @@ CALLS = {
     "load": (Outcome, [_M, c_char_p, c_size_t, c_char_p, c_size_t]),
     "open": (Outcome, [_M, POINTER(RawShape), POINTER(c_uint64), c_size_t]),
     "reopen": (Outcome, [_M, _M]),
+    "load_recorded": (Outcome, [_M, c_char_p, c_size_t, c_char_p, c_size_t]),
+    "save": (Outcome, [_M, c_void_p, c_size_t]),
+    "restore": (Outcome, [_M, c_char_p, c_size_t]),
+    "clone": (Outcome, [_M, _M]),
     "explain": (Explanation, [c_char_p, c_size_t, c_char_p, c_size_t, c_void_p, c_size_t]),
     "free": (None, [_M]),
     "step": (Outcome, [_M, c_uint32, c_uint32, c_uint32]),
@@ -100,6 +123,8 @@ CALLS = {
     "enabled": (Outcome, [_M, c_uint32, c_uint32, c_uint32]),
     "round": (Outcome, [_M]),
     "finish": (Outcome, [_M]),
+    "clocked_round": (Outcome, [_M, c_uint64]),
+    "finish_clocked": (Outcome, [_M]),
     "append": (Outcome, [_M, c_uint32, c_uint32, c_uint32, c_uint64, c_uint64, c_uint32]),
     "ask": (Outcome, [_M, c_uint32, c_uint32, c_uint32, c_uint64, c_uint64, c_uint32]),
     "finished": (Outcome, [_M]),
@@ -116,6 +141,7 @@ CALLS = {
     "entries": (Outcome, [_M, c_uint32]),
     "entry_at": (RawEntry, [_M, c_uint32, c_uint32]),
     "order": (Outcome, [_M, c_uint32, POINTER(RawOrdered), c_size_t]),
+    "events": (Outcome, [_M, c_uint32, POINTER(RawHappened), c_size_t]),
     "spins_out": (Outcome, [_M, c_char_p, c_size_t, c_char_p, c_size_t, POINTER(RawSpin), c_size_t]),
     "report": (Outcome, [_M, c_void_p, c_size_t]),
     "check": (Outcome, [c_char_p, c_size_t]),
@@ -126,6 +152,7 @@ CALLS = {
         Outcome,
         [POINTER(c_uint64), c_size_t, POINTER(RawEvent), c_size_t, c_uint64, POINTER(c_uint64), c_size_t],
     ),
+    "model": (RawModels, [c_uint64, POINTER(RawLogEntry), c_size_t, c_uint32, c_void_p, c_size_t]),
     "watch_begin": (Outcome, [_M, POINTER(c_uint64), c_size_t]),
     "watch_issue": (Outcome, [_M, c_uint64, c_uint32, c_uint32, c_uint64, c_uint64]),
     "watch_answer": (Outcome, [_M, c_uint64, c_uint32, c_uint64, c_uint64]),

@@ -9,7 +9,7 @@ from . import _library
 from ._faults import REASONS, Closed, fault_of
 from ._kept import Kept, alone
 from ._records import Answer, Channel, Entry, Happened, Kind, Line, Operation, Ordered, Shape, Spin, Text
-from ._records import answer_from, bytes_of, number_of, values_of
+from ._records import answer_from, bytes_of, number_of, ordered_from, values_of
 
 
 class Looks(Kept):
@@ -145,27 +145,25 @@ class Looks(Kept):
     def order(self, first: int = 0) -> Iterator[Ordered]:
         """The operations that are served, in the one legal order, which is that of the services; those from row `first` on
         that are there when the iterator begins."""
-        for it in self._rows_from(number_of(first, "first")):
-            yield Ordered(it.bank, it.place, it.source, it.index, it.issued, it.served, it.answered or None)
+        for it in self._rows_from(self._calls.order, _library.RawOrdered, number_of(first, "first")):
+            yield ordered_from(it)
 
     def events(self, first: int = 1) -> Iterator[Happened]:
         """The events of the operations that are served, in the order in which they happened; those numbered `first` or
         higher that are there when the iterator begins. The issue of an operation comes with its service: until then its
         number is left free."""
-        first, made = number_of(first, "first"), []
-        for it in self.order():
-            made += [Happened(it.issued, "issue", it), Happened(it.served, "service", it)]
-            made += [] if it.answered is None else [Happened(it.answered, "answer", it)]
-        yield from sorted((it for it in made if it.number >= first), key=lambda it: it.number)
+        kinds = ("issue", "service", "answer")
+        for it in self._rows_from(self._calls.events, _library.RawHappened, number_of(first, "first")):
+            yield Happened(it.number, kinds[it.what], ordered_from(it.operation))
 
     @alone
-    def _rows_from(self, first: int) -> List[Any]:
-        """The rows of the order as the library has them."""
-        out = (_library.RawOrdered * 1)()
-        said = self._calls.order(self._at, first, out, 0)
+    def _rows_from(self, call: Any, kind: Any, first: int) -> List[Any]:
+        """The rows of the order, or the events, as the library has them."""
+        out = (kind * 1)()
+        said = call(self._at, first, out, 0)
         if said.code == _library.SHORT:
-            out = (_library.RawOrdered * said.value)()
-            said = self._calls.order(self._at, first, out, len(out))
+            out = (kind * said.value)()
+            said = call(self._at, first, out, len(out))
         return list(out[: self._value(said)])
 
     @alone

@@ -3,7 +3,7 @@
 from __future__ import annotations
 
 import os
-from ctypes import byref, c_uint64
+from ctypes import byref, c_uint64, create_string_buffer
 from operator import index as whole
 from typing import Any, Iterable, Optional, Sequence, Tuple, Union
 
@@ -14,6 +14,7 @@ from ._looks import Looks
 from ._records import MOST, Path, Shape, Steps, Text, bytes_of, number_of
 
 
+NO_RECORD = "torusmem: the machine keeps no record: load it with recorded=True"
 # What a fault of a line speaks of.
 _SUBJECTS = {6: "{loads} loads: ", 7: "address {address}: ", 8: "processor {processor}: "}
 
@@ -22,7 +23,8 @@ class Machine(Looks):
     """A machine: its tiles, with a processor, a router and a bank each, their channels, and the memory.
 
     Machine(machine_text, scripts_text) is loaded and hasn't moved yet; Machine.read(machine_file, scripts_file) reads
-    both from files. TextFault tells the first fault of the first bad text.
+    both from files. TextFault tells the first fault of the first bad text. With recorded=True the machine keeps a record of
+    what is done to it, so that it can be saved.
 
     Any thread may call it: it takes one call at a time, and others wait. `with` or close() gives its memory back, and so
     does dropping it.
@@ -30,18 +32,19 @@ class Machine(Looks):
 
     _what, _letting_go = "machine", "free"
 
-    def __init__(self, machine: Text, scripts: Text = b"") -> None:
-        self._load(bytes_of(machine, "machine"), bytes_of(scripts, "scripts"), ("machine text", "scripts text"))
+    def __init__(self, machine: Text, scripts: Text = b"", recorded: bool = False) -> None:
+        names = ("machine text", "scripts text")
+        self._load(bytes_of(machine, "machine"), bytes_of(scripts, "scripts"), names, recorded)
 
     @classmethod
-    def read(cls, machine: Path, scripts: Path) -> Machine:
+    def read(cls, machine: Path, scripts: Path, recorded: bool = False) -> Machine:
         """The machine of two files. A fault names the file."""
         texts = []
         for path in (machine, scripts):
             with open(path, "rb") as file:
                 texts.append(file.read())
         made = cls.__new__(cls)
-        made._load(texts[0], texts[1], (os.fspath(machine), os.fspath(scripts)))
+        made._load(texts[0], texts[1], (os.fspath(machine), os.fspath(scripts)), recorded)
         return made
 
     @classmethod
@@ -52,9 +55,7 @@ class Machine(Looks):
             raise ValueError(f"torusmem: {REASONS[13]} (F13)")
         raw = _library.RawShape(dims=len(shape.radices), depth=shape.depth, tags=shape.tags, words=shape.words)
         raw.radices[:], raw.datelines[:] = ([*it, 0, 0, 0][:3] for it in (shape.radices, shape.datelines))
-        made = cls.__new__(cls)
-        made._begin()
-        made._step = made._calls.step
+        made = cls._empty()
         said = made._calls.open(made._at, byref(raw), (c_uint64 * max(1, len(words)))(*words), len(words))
         if said.code in REASONS and said.code != _library.FAULT_MEMORY:
             raise ValueError(f"torusmem: {REASONS[said.code]} (F{said.code})")
@@ -65,16 +66,59 @@ class Machine(Looks):
     def reopened(self) -> Machine:
         """Finishes its scripts, and opens a machine of the same shape that goes on with its words: what is asked of that is
         answered as if this one had gone on, and its limits begin anew. This one keeps its answers."""
-        fresh = type(self).__new__(type(self))
-        fresh._begin()
-        fresh._step = fresh._calls.step
+        fresh = self._empty()
         self._value(self._calls.reopen(self._at, fresh._at))
         return fresh
 
-    def _load(self, machine: bytes, scripts: bytes, files: Tuple[str, str]) -> None:
+    @classmethod
+    def _empty(cls) -> Machine:
+        """A machine that nothing is loaded into yet."""
+        made = cls.__new__(cls)
+        made._begin()
+        made._step = made._calls.step
+        return made
+
+    @alone
+    def save(self) -> bytes:
+        """The bytes of its record: Machine.restored() makes this machine of them again. ValueError where it keeps none."""
+        said = self._calls.save(self._at, create_string_buffer(1), 0)
+        if said.code == _library.NO_RECORD:
+            raise ValueError(NO_RECORD)
+        if said.code != _library.SHORT:
+            self._refuse(said.code, "record")
+        out = create_string_buffer(said.value)
+        return out.raw[: self._value(self._calls.save(self._at, out, len(out)))]
+
+    @classmethod
+    def restored(cls, saved: bytes) -> Machine:
+        """The machine that was saved as these bytes: it shows what that showed, does what that would do, and keeps the
+        record. ValueError says where the bytes are no record of a machine."""
+        made = cls._empty()
+        said = made._calls.restore(made._at, saved, len(saved))
+        if said.code == _library.BAD_RECORD:
+            raise ValueError(f"torusmem: the bytes are no record of a machine: byte {said.value} is wrong, or missing")
+        if said.code == _library.BAD_ACTION:
+            raise ValueError(f"torusmem: action {said.value} of the record can't be done")
+        if said.code in REASONS and said.code != _library.FAULT_MEMORY:
+            raise ValueError(f"torusmem: a text of the record, line {said.value}: {REASONS[said.code]} (F{said.code})")
+        made._value(said)
+        return made
+
+    @alone
+    def clone(self) -> Machine:
+        """The same machine once more, with the same record, which is done again. ValueError where it keeps none."""
+        fresh = self._empty()
+        said = self._calls.clone(self._at, fresh._at)
+        if said.code == _library.NO_RECORD:
+            raise ValueError(NO_RECORD)
+        self._value(said)
+        return fresh
+
+    def _load(self, machine: bytes, scripts: bytes, files: Tuple[str, str], recorded: bool) -> None:
         self._begin()
         self._step = self._calls.step
-        said = self._calls.load(self._at, machine, len(machine), scripts, len(scripts))
+        load = self._calls.load_recorded if recorded else self._calls.load
+        said = load(self._at, machine, len(machine), scripts, len(scripts))
         if said.code == _library.OK:
             return
         if said.code == _library.FAULT_MEMORY:
@@ -121,6 +165,18 @@ class Machine(Looks):
     def finish(self) -> int:
         """Makes rounds until every script is finished; how many. Such a call ends, and can't be interrupted before."""
         return self._value(self._calls.finish(self._at))
+
+    @alone
+    def clocked_round(self, turn: int) -> None:
+        """Attempts each choice once that is enabled now, so that a flit goes one stage at most. The puts of each router begin
+        at input `turn` modulo the number of its inputs: give the number of rounds so far, below 2**64."""
+        self._value(self._calls.clocked_round(self._at, turn))
+
+    @alone
+    def finish_clocked(self) -> int:
+        """Makes clocked rounds, with the turns from 0 on, until every script is finished; how many. Such a call ends, and
+        can't be interrupted before."""
+        return self._value(self._calls.finish_clocked(self._at))
 
     @alone
     def append(

@@ -129,6 +129,11 @@ class Ordered:
     answered: Optional[int]
 
 
+def ordered_from(raw: Any) -> Ordered:
+    """A row of the order of the library."""
+    return Ordered(raw.bank, raw.place, raw.source, raw.index, raw.issued, raw.served, raw.answered or None)
+
+
 class Happened(NamedTuple):
     """An event of an operation that is served: its number among all events, from 1; what happened, "issue", "service" or
     "answer"; and the operation."""

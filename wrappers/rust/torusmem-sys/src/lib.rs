@@ -58,6 +58,10 @@ pub const TORUSMEM_TOO_MANY: u32 = 23;
 pub const TORUSMEM_TOO_OPEN: u32 = 24;
 pub const TORUSMEM_BEHIND_SPIN: u32 = 25;
 pub const TORUSMEM_NOT_YET: u32 = 26;
+pub const TORUSMEM_NO_RECORD: u32 = 27;
+pub const TORUSMEM_BAD_RECORD: u32 = 28;
+pub const TORUSMEM_BAD_ACTION: u32 = 29;
+pub const TORUSMEM_WRONG_REPLY: u32 = 30;
 
 pub const TORUSMEM_SEND: u32 = 0;
 pub const TORUSMEM_TAKE: u32 = 1;
@@ -95,6 +99,20 @@ pub const TORUSMEM_REPLY: u32 = 1;
 
 pub const TORUSMEM_ISSUE: u32 = 0;
 pub const TORUSMEM_ANSWER: u32 = 1;
+
+pub const TORUSMEM_LOG_INIT: u32 = 0;
+pub const TORUSMEM_LOG_MADE: u32 = 1;
+pub const TORUSMEM_LOG_WROTE: u32 = 2;
+pub const TORUSMEM_LOG_READ: u32 = 3;
+pub const TORUSMEM_LOG_READ_OPENING: u32 = 4;
+pub const TORUSMEM_LOG_SERVED: u32 = 5;
+pub const TORUSMEM_LOG_REPLIED: u32 = 6;
+
+pub const TORUSMEM_COHERENT: u32 = 1;
+pub const TORUSMEM_FENCED: u32 = 2;
+pub const TORUSMEM_PSO: u32 = 4;
+pub const TORUSMEM_TSO: u32 = 8;
+pub const TORUSMEM_SC: u32 = 16;
 
 pub const TORUSMEM_NO_TEXT: u32 = 0;
 pub const TORUSMEM_MACHINE_TEXT: u32 = 1;
@@ -166,6 +184,19 @@ pub struct torusmem_ordered {
     pub answered: u32,
 }
 
+pub const TORUSMEM_ISSUED: u32 = 0;
+pub const TORUSMEM_SERVED: u32 = 1;
+pub const TORUSMEM_ANSWERED: u32 = 2;
+
+/// An event of an operation that is served.
+#[repr(C)]
+#[derive(Clone, Copy, Debug, Default)]
+pub struct torusmem_happened {
+    pub number: u32,
+    pub what: u32,
+    pub operation: torusmem_ordered,
+}
+
 /// A channel of a route.
 #[repr(C)]
 #[derive(Clone, Copy, Debug, Default)]
@@ -215,6 +246,34 @@ pub struct torusmem_explanation {
     pub length: u64,
 }
 
+/// An entry of a log.
+#[repr(C)]
+#[derive(Clone, Copy, Debug, Default)]
+pub struct torusmem_log_entry {
+    pub kind: u32,
+    pub processor: u32,
+    pub index: u32,
+    pub operation: u32,
+    pub address: u32,
+    pub from_processor: u32,
+    pub from_index: u32,
+    pub has_old: u32,
+    pub first: u64,
+    pub second: u64,
+    pub old: u64,
+}
+
+/// Which memory models a log obeys.
+#[repr(C)]
+#[derive(Clone, Copy, Debug, PartialEq, Eq)]
+pub struct torusmem_models {
+    pub code: u32,
+    pub models: u32,
+    pub value: u64,
+    pub word: u64,
+    pub writer: u64,
+}
+
 extern "C" {
     pub fn torusmem_version() -> *const c_char;
     pub fn torusmem_code_text(code: u32) -> *const c_char;
@@ -232,6 +291,16 @@ extern "C" {
         words_length: usize,
     ) -> torusmem_outcome;
     pub fn torusmem_reopen(m: *mut torusmem_machine, fresh: *mut torusmem_machine) -> torusmem_outcome;
+    pub fn torusmem_load_recorded(
+        m: *mut torusmem_machine,
+        machine: *const u8,
+        machine_length: usize,
+        scripts: *const u8,
+        scripts_length: usize,
+    ) -> torusmem_outcome;
+    pub fn torusmem_save(m: *mut torusmem_machine, out: *mut u8, out_length: usize) -> torusmem_outcome;
+    pub fn torusmem_restore(m: *mut torusmem_machine, bytes: *const u8, bytes_length: usize) -> torusmem_outcome;
+    pub fn torusmem_clone(m: *mut torusmem_machine, fresh: *mut torusmem_machine) -> torusmem_outcome;
     pub fn torusmem_explain(
         machine: *const u8,
         machine_length: usize,
@@ -250,6 +319,8 @@ extern "C" {
     pub fn torusmem_enabled(m: *mut torusmem_machine, agent: u32, choice: u32, number: u32) -> torusmem_outcome;
     pub fn torusmem_round(m: *mut torusmem_machine) -> torusmem_outcome;
     pub fn torusmem_finish(m: *mut torusmem_machine) -> torusmem_outcome;
+    pub fn torusmem_clocked_round(m: *mut torusmem_machine, turn: u64) -> torusmem_outcome;
+    pub fn torusmem_finish_clocked(m: *mut torusmem_machine) -> torusmem_outcome;
     pub fn torusmem_append(
         m: *mut torusmem_machine,
         processor: u32,
@@ -287,6 +358,12 @@ extern "C" {
         out: *mut torusmem_ordered,
         out_length: usize,
     ) -> torusmem_outcome;
+    pub fn torusmem_events(
+        m: *mut torusmem_machine,
+        from: u32,
+        out: *mut torusmem_happened,
+        out_length: usize,
+    ) -> torusmem_outcome;
     pub fn torusmem_spins_out(
         m: *mut torusmem_machine,
         machine: *const u8,
@@ -322,6 +399,14 @@ extern "C" {
         out: *mut u64,
         out_length: usize,
     ) -> torusmem_outcome;
+    pub fn torusmem_model(
+        words: u64,
+        entries: *const torusmem_log_entry,
+        entries_length: usize,
+        order: u32,
+        out: *mut u8,
+        out_length: usize,
+    ) -> torusmem_models;
     pub fn torusmem_watch_begin(w: *mut torusmem_watch, opening: *const u64, opening_length: usize)
         -> torusmem_outcome;
     pub fn torusmem_watch_issue(

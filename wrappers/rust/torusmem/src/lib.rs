@@ -19,6 +19,7 @@
 #![deny(unsafe_code)]
 
 mod line;
+mod log;
 mod network;
 #[allow(unsafe_code)]
 mod raw;
@@ -26,6 +27,7 @@ mod trace;
 mod watch;
 
 pub use line::{Line, Refused, Value};
+pub use log::{model, LogEntry, LogFault, Obeyed};
 pub use network::{network, By, Fill, Link, Verdict, Why};
 use raw::Raw;
 use std::error::Error;
@@ -56,6 +58,29 @@ impl fmt::Display for Fault {
 }
 
 impl Error for Fault {}
+
+/// Why bytes make no machine ([`Machine::restored`]).
+#[derive(Clone, Copy, Debug, PartialEq, Eq)]
+pub enum Unrestored {
+    /// They are no record of a machine: this byte, from 0, is wrong or missing.
+    Byte(u64),
+    /// This action of the record, from 0, can't be done.
+    Action(u64),
+    /// A text of the record has this fault, or a request for memory was refused.
+    Fault(Fault),
+}
+
+impl fmt::Display for Unrestored {
+    fn fmt(&self, f: &mut fmt::Formatter) -> fmt::Result {
+        match self {
+            Unrestored::Byte(place) => write!(f, "byte {place}: {}", code_text(sys::TORUSMEM_BAD_RECORD)),
+            Unrestored::Action(number) => write!(f, "action {number}: {}", code_text(sys::TORUSMEM_BAD_ACTION)),
+            Unrestored::Fault(fault) => write!(f, "a text of the record: {fault}"),
+        }
+    }
+}
+
+impl Error for Unrestored {}
 
 /// One of the texts of a load.
 #[derive(Clone, Copy, Debug, PartialEq, Eq, Hash)]
@@ -224,6 +249,22 @@ pub struct Ordered {
     pub answered: Option<u32>,
 }
 
+/// What happens to an operation.
+#[derive(Clone, Copy, Debug, PartialEq, Eq, Hash)]
+pub enum What {
+    Issue,
+    Service,
+    Answer,
+}
+
+/// An event of an operation that is served: its number among all events, from 1, and the operation.
+#[derive(Clone, Copy, Debug, PartialEq, Eq, Hash)]
+pub struct Happened {
+    pub number: u32,
+    pub what: What,
+    pub operation: Ordered,
+}
+
 /// A spin that ran out of loads: none of them found the number that it sought.
 #[derive(Clone, Copy, Debug, PartialEq, Eq, Hash)]
 pub struct Spin {
@@ -318,22 +359,8 @@ impl Machine {
     /// tiles; 13, not one dateline for each radix; 14, a dateline; 6, the depth, the tags or the number of words; 7, more
     /// words than there are.
     pub fn open(shape: &Shape, words: &[u64]) -> Result<Machine, Fault> {
-        let dims = shape.radices.len();
-        if dims <= 3 && shape.datelines.len() != dims {
-            return Err(Fault::Text { fault: sys::TORUSMEM_FAULT_COUNT, line: 0 });
-        }
-        let three = |list: &[u32]| std::array::from_fn(|dim| list.get(dim).copied().unwrap_or(0));
-        let built = sys::torusmem_shape {
-            dims: dims.min(4) as u32,
-            radices: three(&shape.radices),
-            datelines: three(&shape.datelines),
-            depth: shape.depth,
-            tags: shape.tags,
-            words: shape.words,
-            ..Default::default()
-        };
         let mut raw = Raw::empty();
-        granted(raw.open(&built, words))?;
+        granted(raw.open(&built(shape)?, words))?;
         Ok(Machine { raw })
     }
 
@@ -343,6 +370,51 @@ impl Machine {
         let mut raw = Raw::empty();
         granted(self.raw.reopen(&mut raw))?;
         Ok(Machine { raw })
+    }
+
+    /// The same as [`Machine::load`]; and the machine keeps a record of what is done to it, so that it can be saved.
+    pub fn load_recorded(machine: &[u8], scripts: &[u8]) -> Result<Machine, Fault> {
+        let mut raw = Raw::empty();
+        granted(raw.load_recorded(machine, scripts))?;
+        Ok(Machine { raw })
+    }
+
+    /// The bytes of its record, of which [`Machine::restored`] makes this machine again; None where it keeps none. The only
+    /// fault is that memory is refused.
+    pub fn save(&mut self) -> Result<Option<Vec<u8>>, Fault> {
+        let asked = self.raw.save(&mut []);
+        if asked.code == sys::TORUSMEM_NO_RECORD {
+            return Ok(None);
+        }
+        if asked.code != sys::TORUSMEM_SHORT {
+            granted(asked)?;
+        }
+        let mut bytes = vec![0; asked.value as usize];
+        granted(self.raw.save(&mut bytes))?;
+        Ok(Some(bytes))
+    }
+
+    /// The machine that was saved as these bytes: it shows what that showed, does what that would do, and keeps the record.
+    pub fn restored(bytes: &[u8]) -> Result<Machine, Unrestored> {
+        let mut raw = Raw::empty();
+        let said = raw.restore(bytes);
+        match said.code {
+            sys::TORUSMEM_BAD_RECORD => Err(Unrestored::Byte(said.value)),
+            sys::TORUSMEM_BAD_ACTION => Err(Unrestored::Action(said.value)),
+            _ => granted(said).map(|_| Machine { raw }).map_err(Unrestored::Fault),
+        }
+    }
+
+    /// The same machine once more, with the same record, which is done again; None where it keeps none. The only fault is
+    /// that memory is refused.
+    pub fn cloned(&mut self) -> Result<Option<Machine>, Fault> {
+        let mut raw = Raw::empty();
+        let said = self.raw.clone_to(&mut raw);
+        if said.code == sys::TORUSMEM_NO_RECORD {
+            return Ok(None);
+        }
+        granted(said)?;
+        Ok(Some(Machine { raw }))
     }
 
     /// Attempts one choice of one agent, and answers whether it moved. Tile t has the agents 3t (its processor),
@@ -394,6 +466,17 @@ impl Machine {
     /// Makes rounds until every script is finished, and answers how many.
     pub fn finish(&mut self) -> u64 {
         self.raw.finish().value
+    }
+
+    /// Attempts each choice once that is enabled now, so that a flit goes one stage at most. The puts of each router
+    /// begin at input `turn` modulo the number of its inputs: give the number of rounds so far.
+    pub fn clocked_round(&mut self, turn: u64) {
+        self.raw.clocked_round(turn);
+    }
+
+    /// Makes clocked rounds, with the turns from 0 on, until every script is finished, and answers how many.
+    pub fn finish_clocked(&mut self) -> u64 {
+        self.raw.finish_clocked().value
     }
 
     /// Whether every script is finished.
@@ -481,6 +564,19 @@ impl Machine {
         Ok(room.iter().map(ordered_of).collect())
     }
 
+    /// The issues, services and answers of the operations served so far, in the order in which they happened: those
+    /// numbered `from` or higher. The issue of an operation comes with its service. The only fault is that memory is refused.
+    pub fn events(&mut self, from: u32) -> Result<Vec<Happened>, Fault> {
+        let mut room = Vec::new();
+        let mut said = self.raw.events(from, &mut room);
+        if said.code == sys::TORUSMEM_SHORT {
+            room.resize(said.value as usize, sys::torusmem_happened::default());
+            said = self.raw.events(from, &mut room);
+        }
+        granted(said)?;
+        Ok(room.iter().map(happened_of).collect())
+    }
+
     /// The spins that ran out of loads in what was run so far, by processor, and of each in the order of its script: by
     /// the texts of which the machine was loaded, which are read once more. The faults are those of the texts, and want
     /// of memory.
@@ -541,6 +637,24 @@ pub fn version() -> &'static str {
 /// Whether a text is a good report. A good one replays on one memory, whichever machine wrote it.
 pub fn check(report: &[u8]) -> Result<(), Fault> {
     granted(raw::check(report)).map(|_| ())
+}
+
+/// A shape as C has it, whose dimensions may be wrong. Fault 13: it hasn't one dateline for each radix.
+fn built(shape: &Shape) -> Result<sys::torusmem_shape, Fault> {
+    let dims = shape.radices.len();
+    if dims <= 3 && shape.datelines.len() != dims {
+        return Err(Fault::Text { fault: sys::TORUSMEM_FAULT_COUNT, line: 0 });
+    }
+    let three = |list: &[u32]| std::array::from_fn(|dim| list.get(dim).copied().unwrap_or(0));
+    Ok(sys::torusmem_shape {
+        dims: dims.min(4) as u32,
+        radices: three(&shape.radices),
+        datelines: three(&shape.datelines),
+        depth: shape.depth,
+        tags: shape.tags,
+        words: shape.words,
+        ..Default::default()
+    })
 }
 
 fn granted(said: sys::torusmem_outcome) -> Result<u64, Fault> {
@@ -611,6 +725,15 @@ fn entry_of(entry: &sys::torusmem_entry) -> Entry {
         operation: operation_of(entry.operation, entry.first, entry.second),
         reply: reply_of(entry.has_old, entry.old),
     }
+}
+
+fn happened_of(event: &sys::torusmem_happened) -> Happened {
+    let what = match event.what {
+        sys::TORUSMEM_ISSUED => What::Issue,
+        sys::TORUSMEM_SERVED => What::Service,
+        _ => What::Answer,
+    };
+    Happened { number: event.number, what, operation: ordered_of(&event.operation) }
 }
 
 fn ordered_of(row: &sys::torusmem_ordered) -> Ordered {

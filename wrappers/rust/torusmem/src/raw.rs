@@ -74,6 +74,26 @@ impl Raw {
         unsafe { torusmem_open(&mut self.0, shape, list_at(words, &0), words.len()) }
     }
 
+    pub fn load_recorded(&mut self, machine: &[u8], scripts: &[u8]) -> torusmem_outcome {
+        // SAFETY: the machine is this one's alone; each slice has as many bytes as it says, and is only read.
+        unsafe { torusmem_load_recorded(&mut self.0, text_at(machine), machine.len(), text_at(scripts), scripts.len()) }
+    }
+
+    pub fn save(&mut self, out: &mut [u8]) -> torusmem_outcome {
+        // SAFETY: the machine is this one's alone; the slice has as many bytes as it says, and nobody else has it.
+        unsafe { torusmem_save(&mut self.0, buffer_at(out, &mut 0), out.len()) }
+    }
+
+    pub fn restore(&mut self, bytes: &[u8]) -> torusmem_outcome {
+        // SAFETY: the machine is this one's alone; the slice has as many bytes as it says, and is only read.
+        unsafe { torusmem_restore(&mut self.0, text_at(bytes), bytes.len()) }
+    }
+
+    pub fn clone_to(&mut self, fresh: &mut Raw) -> torusmem_outcome {
+        // SAFETY: both machines are nobody else's, and two.
+        unsafe { torusmem_clone(&mut self.0, &mut fresh.0) }
+    }
+
     pub fn reopen(&mut self, fresh: &mut Raw) -> torusmem_outcome {
         // SAFETY: both machines are nobody else's, and two.
         unsafe { torusmem_reopen(&mut self.0, &mut fresh.0) }
@@ -84,6 +104,7 @@ impl Raw {
         enabled = torusmem_enabled(agent, choice, number) -> torusmem_outcome;
         round = torusmem_round() -> torusmem_outcome;
         finish = torusmem_finish() -> torusmem_outcome;
+        finish_clocked = torusmem_finish_clocked() -> torusmem_outcome;
         finished = torusmem_finished() -> torusmem_outcome;
         moves_left = torusmem_moves_left() -> torusmem_outcome;
         tiles = torusmem_tiles() -> torusmem_outcome;
@@ -96,6 +117,11 @@ impl Raw {
         entries = torusmem_entries(bank) -> torusmem_outcome;
         entry_at = torusmem_entry_at(bank, i) -> torusmem_entry;
         next = torusmem_next(at, input, dst) -> torusmem_outcome;
+    }
+
+    pub fn clocked_round(&mut self, turn: u64) -> torusmem_outcome {
+        // SAFETY: the machine is this one's alone, for as long as the call takes. The number may be any.
+        unsafe { torusmem_clocked_round(&mut self.0, turn) }
     }
 
     pub fn append(
@@ -142,6 +168,12 @@ impl Raw {
         let mut none = torusmem_ordered::default();
         // SAFETY: the machine is this one's alone, and so is the slice, which has as many rows as it says.
         unsafe { torusmem_order(&mut self.0, from, buffer_at(out, &mut none), out.len()) }
+    }
+
+    pub fn events(&mut self, from: u32, out: &mut [torusmem_happened]) -> torusmem_outcome {
+        let mut none = torusmem_happened::default();
+        // SAFETY: the machine is this one's alone, and so is the slice, which has as many events as it says.
+        unsafe { torusmem_events(&mut self.0, from, buffer_at(out, &mut none), out.len()) }
     }
 
     pub fn spins_out(&mut self, machine: &[u8], scripts: &[u8], out: &mut [torusmem_spin]) -> torusmem_outcome {
@@ -205,6 +237,14 @@ pub fn linearize(opening: &[u64], events: &[torusmem_event], configurations: u64
     let at = buffer_at(out, &mut no_place);
     // SAFETY: the slices have as many items as they say; what is written is nobody else's. There is no machine.
     unsafe { torusmem_linearize(opening_at, opening.len(), events_at, events.len(), configurations, at, room) }
+}
+
+pub fn model(words: u64, entries: &[torusmem_log_entry], order: u32, out: &mut [u8]) -> torusmem_models {
+    let none = torusmem_log_entry::default();
+    let (mut no_byte, room) = (0, out.len());
+    let (entries_at, at) = (list_at(entries, &none), buffer_at(out, &mut no_byte));
+    // SAFETY: the slices have as many items as they say; what is written is nobody else's. There is no machine.
+    unsafe { torusmem_model(words, entries_at, entries.len(), order, at, room) }
 }
 
 pub struct RawWatch(torusmem_watch);

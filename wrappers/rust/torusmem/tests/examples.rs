@@ -2,9 +2,10 @@
 use std::fs;
 use std::path::{Path, PathBuf};
 use std::thread;
-use torusmem::{check, explain, linearize, network, Answer, Asked, By, Channel, Choice, Class, Dir, Entry, Event, EventFault};
+use torusmem::{check, explain, linearize, model, network, Answer, Asked, By, Channel, Choice, Class, Dir, Entry};
+use torusmem::{Event, EventFault, LogEntry, LogFault};
 use torusmem::{Fault, Judged, Kind, Line, Link, Machine, NotTaken, Operation, Refused, Reply, Spin, Text, Value};
-use torusmem::{Fill, Verdict, Watch, Why};
+use torusmem::{Fill, Verdict, Watch, What, Why};
 
 fn path(name: &str) -> PathBuf {
     Path::new(env!("CARGO_MANIFEST_DIR")).join("../../..").join(name)
@@ -110,6 +111,17 @@ fn the_first_run_in_rounds() {
     assert_eq!(machine.report().unwrap(), read("crates/torusmem/stdout"));
     assert_eq!((machine.word(5), machine.word(4), machine.word(8)), (Some(17), Some(0), None));
     assert_eq!(machine.finish(), 0);
+}
+
+#[test]
+fn the_first_run_in_clocked_rounds() {
+    let (mut machine, mut by_one, mut turn) = (first(), first(), 0);
+    assert_eq!(machine.finish_clocked(), 34);
+    while !by_one.finished() {
+        by_one.clocked_round(turn);
+        turn += 1;
+    }
+    assert_eq!((turn, machine.word(5), by_one.word(5)), (34, Some(17), Some(17)));
 }
 
 #[test]
@@ -241,6 +253,21 @@ fn a_machine_of_numbers() {
 }
 
 #[test]
+fn machines_that_are_restored() {
+    let mut machine = Machine::load_recorded(&read("examples/machine.txt"), &read("examples/script.txt")).expect("a machine");
+    machine.round();
+    let bytes = machine.save().expect("memory").expect("a record");
+    let mut again = Machine::restored(&bytes).expect("the same machine");
+    let mut other = machine.cloned().expect("memory").expect("a record");
+    assert_eq!((again.report(), again.save()), (machine.report(), machine.save()));
+    assert_eq!((again.finish(), again.report()), (other.finish(), other.report()));
+    assert_eq!(Machine::restored(&bytes[..9]).err(), Some(torusmem::Unrestored::Byte(9)));
+    let no_action = [&bytes[..bytes.len() - 4], &[15, 0, 0, 0]].concat();
+    assert_eq!(Machine::restored(&no_action).err(), Some(torusmem::Unrestored::Action(0)));
+    assert_eq!((first().save(), first().cloned().map(|it| it.is_none())), (Ok(None), Ok(true)));
+}
+
+#[test]
 fn the_order() {
     let mut machine = first();
     assert_eq!(machine.order(0), Ok(vec![]));
@@ -249,6 +276,11 @@ fn the_order() {
     let told = |it: &torusmem::Ordered| (it.bank, it.place, it.source, it.index, it.issued, it.served, it.answered);
     assert_eq!(rows.iter().map(told).collect::<Vec<_>>(), [(1, 0, 0, 0, 1, 2, Some(3)), (1, 1, 0, 1, 4, 5, Some(6))]);
     assert_eq!((machine.order(1), machine.order(u32::MAX)), (Ok(rows[1..].to_vec()), Ok(vec![])));
+    let events = machine.events(1).unwrap();
+    let seen: Vec<_> = events.iter().map(|it| (it.number, it.what, it.operation)).collect();
+    let kinds = [What::Issue, What::Service, What::Answer];
+    let wanted: Vec<_> = (0..6).map(|at| (at as u32 + 1, kinds[at % 3], rows[at / 3])).collect();
+    assert_eq!((seen, machine.events(6)), (wanted, Ok(events[5..].to_vec())));
 }
 
 #[test]
@@ -460,6 +492,73 @@ fn events_that_can_not_stand() {
     let twice = [store, stored(0, 0), stored(0, 0)];
     let fault = linearize([], &twice, 1000).expect_err("a fault");
     assert_eq!((fault, fault.to_string().as_str()), (EventFault::Event { fault: 5, event: 2 }, "fault F5 at event 2"));
+}
+
+fn makes(processor: u32, address: u32, operation: Operation) -> LogEntry {
+    LogEntry::Made { processor, address, operation }
+}
+
+/// Two processors store, then load the other word, which neither finds written.
+fn store_buffering(is_fenced: bool) -> Vec<LogEntry> {
+    let mut log = Vec::new();
+    for processor in 0..2 {
+        log.push(makes(processor, processor, Operation::Store(1)));
+        if is_fenced {
+            log.push(LogEntry::Fence { processor });
+        }
+        log.push(makes(processor, 1 - processor, Operation::Load));
+    }
+    let index = 1 + u32::from(is_fenced);
+    log.extend((0..2).map(|processor| LogEntry::Wrote { processor, index: 0 }));
+    log.extend((0..2).map(|processor| LogEntry::ReadOpening { processor, index }));
+    log
+}
+
+#[test]
+fn models_are_judged() {
+    let obeyed = model(2, &store_buffering(false), true).expect("a log");
+    assert!(obeyed.coherent && obeyed.fenced && obeyed.pso && obeyed.tso && !obeyed.sc);
+    assert!(obeyed.text.starts_with("coherent yes\nfenced yes\npso yes\ntso yes\nsc no\nno order of sc:\n"));
+    assert!(obeyed.text.contains("\nan order of tso:\n"));
+    let obeyed = model(2, &store_buffering(true), false).expect("a log");
+    assert!(obeyed.coherent && !obeyed.fenced && !obeyed.pso && !obeyed.tso && !obeyed.sc);
+    let read = LogEntry::Read { processor: 1, index: 0, from: (0, 0) };
+    let replied = |old| LogEntry::Replied { processor: 1, index: 0, reply: Reply::Old(old) };
+    let first = [LogEntry::Init { address: 5, word: 7 }, makes(0, 5, Operation::Cas { expected: 7, new: 9 })];
+    let log = [&first[..], &[makes(1, 5, Operation::Load), LogEntry::Wrote { processor: 0, index: 0 }, read]].concat();
+    let obeyed = model(6, &[&log[..], &[replied(9)]].concat(), false).expect("a log");
+    assert_eq!(obeyed.text, "coherent yes\nfenced yes\npso yes\ntso yes\nsc yes\n");
+    let wrong = model(6, &[&log[..], &[replied(7)]].concat(), false).expect_err("a wrong reply");
+    assert_eq!(wrong, LogFault::WrongReply { entry: 6, word: 9, writer: 2 });
+    assert_eq!(wrong.to_string(), "the reply of entry 6 is wrong: the word is 9 (entry 2)");
+    let many: Vec<_> = (0..400).map(|processor| makes(processor, u32::MAX, Operation::Add(u64::MAX))).collect();
+    let served = (0..400).map(|processor| LogEntry::Wrote { processor, index: 0 });
+    let obeyed = model(1 << 32, &many.into_iter().chain(served).collect::<Vec<_>>(), true).expect("a log");
+    assert_eq!(obeyed.text.matches("add 4294967295 18446744073709551615").count(), 400);
+    assert!(model(1, &[], false).expect("an empty log").sc);
+}
+
+#[test]
+fn entries_that_can_not_stand() {
+    let first = [makes(0, 0, Operation::Store(1)), makes(1, 1, Operation::Load), LogEntry::Wrote { processor: 0, index: 0 }];
+    let rows = [
+        (LogEntry::Wrote { processor: 0, index: 1 }, 6),
+        (LogEntry::Wrote { processor: 0, index: 0 }, 5),
+        (LogEntry::Wrote { processor: 1, index: 0 }, 4),
+        (LogEntry::Served { processor: 0, index: 0 }, 4),
+        (LogEntry::Wrote { processor: 4096, index: 0 }, 8),
+        (LogEntry::Fence { processor: 4096 }, 8),
+        (makes(0, 2, Operation::Load), 7),
+        (LogEntry::Init { address: 0, word: 1 }, 5),
+        (LogEntry::Replied { processor: 1, index: 0, reply: Reply::Ok }, 4),
+    ];
+    for (entry, fault) in rows {
+        let log = [&first[..], &[entry]].concat();
+        assert_eq!(model(2, &log, false), Err(LogFault::Entry { fault, entry: 4 }), "{entry:?}");
+    }
+    let fault = model(2, &first, false).expect_err("a fault");
+    assert_eq!((fault, fault.to_string().as_str()), (LogFault::Entry { fault: 5, entry: 2 }, "fault F5 at entry 2"));
+    assert_eq!(model(0, &[], false), Err(LogFault::Entry { fault: 6, entry: 0 }));
 }
 
 #[test]

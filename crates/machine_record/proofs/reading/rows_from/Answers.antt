@@ -1,4 +1,4 @@
-use Rattle.std.proofs.Common.{ℕ, List, [], ◌∷◌, ◌++◌, sym, ◌∙◌, ap}
+use Rattle.std.proofs.Common.{List, [], ◌∷◌, ◌++◌, sym, ◌∙◌, ap}
 use Rattle.machine_record.specs.declared.row.LineRow.{LineRow}
 use Rattle.machine_record.specs.Reading.{rows_from}
 use Rattle.machine_record.proofs.Pieces.{rows_push}

@@ -6,7 +6,7 @@ use Rattle.torusmem_c.proofs.Asking.{numbers_of}
 use Rattle.torusmem_c.proofs.appending.numbered.Goals as goal
 
 pub returns-in-Ok : goal.returns-in-Ok
-returns-in-Ok c = inl (numbers_of c.args.processor c.args.line c.args.machine.now c.ask.new.self c.done.result c.in-Ok.index c.requires.operation
+returns-in-Ok c = inl (numbers_of c.args.processor c.args.line c.args.machine.now.asked c.ask.new.self.asked c.done.result c.in-Ok.index c.requires.operation
     c.requires.plain
     (record { taken = c.in-Ok.ensures.taken.0; state = c.in-Ok.ensures.taken.1; spins = c.in-Ok.ensures.taken.2; law = c.in-Ok.ensures.law })
     c.in-Ok.ensures.index c.in-Ok.ensures.numbered

@@ -1,5 +1,8 @@
 -- The machine is finished, and the other handle holds one with its words, or none.
-use Rattle.std.proofs.Common.{refl}
+use Rattle.std.proofs.Common.{refl, subst}
+use Rattle.core_machine.specs.Machine.{shown}
+use Rattle.machine_asked.specs.Asked.{Asked}
+use Rattle.machine_asked.specs.Opened.{IsOpened}
 use Rattle.torusmem_c.specs.declared.outcome.Code.TheVariants as code
 use Rattle.torusmem_c.specs.Outcome.{c_outcome}
 use Rattle.c_handles.specs.HeldMachine.{held}
@@ -23,7 +26,9 @@ returns-in-Ok c =
           scripts = made.scripts;
         };
       },
-      handed_on c.finish-rounds.new.self c.in-Ok.made c.finish-rounds.result (held c.kept.new.handle) c.kept.result c.in-Ok.ensures c.kept.ensures,
+      handed_on c.finish-rounds.new.self.asked c.in-Ok.made c.finish-rounds.result (held c.kept.new.handle) c.kept.result
+          (subst (λ (v : Asked). IsOpened v.core.shape v.core.depth v.core.tags (shown v.core).memory c.in-Ok.made) c.asked.ensures c.in-Ok.ensures)
+          c.kept.ensures,
     )
 
 pub returns-in-Err : goal.returns-in-Err
@@ -43,6 +48,6 @@ returns-in-Err c =
           scripts = made.scripts;
         };
       },
-      nothing_handed c.finish-rounds.new.self (c_outcome code.Done c.finish-rounds.result) (held c.args.fresh.now) c.no_memory.result c.requires
+      nothing_handed c.finish-rounds.new.self.asked (c_outcome code.Done c.finish-rounds.result) (held c.args.fresh.now) c.no_memory.result c.requires
           c.no_memory.ensures,
     )

@@ -13,20 +13,20 @@ use Rattle.torusmem_c.proofs.Runs.{falls}
 use Rattle.torusmem_c.proofs.stepping.made_all.Goals as goal
 
 -- where the attempts lead
-led : (c : goal.After-moves_left) → c.loop-it.machine.core ≡ core_after c.args.machine.now.core (steps_named c.args.attempts.now)
+led : (c : goal.After-moves_left) → c.loop-it.machine.asked.core ≡ core_after c.args.machine.now.asked.core (steps_named c.args.attempts.now)
 led c =
     let end : length c.args.attempts.now ≤ c.loop-it.it-index = c.loop-it-test.false in
-    sym (at_drop_all (λ (xs : List AttemptRecord). core_after c.loop-it.machine.core (steps_named xs)) c.args.attempts.now c.loop-it.it-index end)
+    sym (at_drop_all (λ (xs : List AttemptRecord). core_after c.loop-it.machine.asked.core (steps_named xs)) c.args.attempts.now c.loop-it.it-index end)
     ∙ c.loop-it.invariant.led
 
 -- the moves that are made and those that are left
 made : (c : goal.After-moves_left)
-    → c.moves_left.result + moves_in (step (built_to c.args.machine.now.core)) c.args.machine.now.core.state (steps_named c.args.attempts.now)
+    → c.moves_left.result + moves_in (step (built_to c.args.machine.now.asked.core)) c.args.machine.now.asked.core.state (steps_named c.args.attempts.now)
     ≡ c.moves_left-left.result
 made c =
-    let now : Core = c.args.machine.now.core in
-    let all : c.loop-it.machine.core.moves_left + moves_in (step (built_to now)) now.state (steps_named c.args.attempts.now) ≡ now.moves_left
-    = falls c.reached.ensures.load now c.loop-it.machine.core c.reached.ensures.steps (steps_named c.args.attempts.now) c.reached.ensures.after (led c) in
+    let now : Core = c.args.machine.now.asked.core in
+    let all : c.loop-it.machine.asked.core.moves_left + moves_in (step (built_to now)) now.state (steps_named c.args.attempts.now) ≡ now.moves_left
+    = falls c.reached.ensures.load now c.loop-it.machine.asked.core c.reached.ensures.steps (steps_named c.args.attempts.now) c.reached.ensures.after (led c) in
     let first = c.moves_left-left.ensures in
     let last = c.moves_left.ensures in
     omega (arith, all, first, last)
@@ -36,7 +36,7 @@ overflow_sub-result c = let all = made c in omega (arith, all)
 
 pub returns : goal.returns
 returns c =
-    let now : Core = c.args.machine.now.core in
+    let now : Core = c.args.machine.now.asked.core in
     let steps : List Step = steps_named c.args.attempts.now in
     let all = made c in
     let moves : c.moves_left-left.result - c.moves_left.result ≡ moves_in (step (built_to now)) now.state steps = omega (arith, all) in
@@ -45,7 +45,7 @@ returns c =
       core = record {
         state = led c;
         answer = ap (λ (n : ℕ). c_outcome code.Done n) moves;
-        left = falls c.reached.ensures.load now c.loop-it.machine.core c.reached.ensures.steps steps c.reached.ensures.after (led c);
+        left = falls c.reached.ensures.load now c.loop-it.machine.asked.core c.reached.ensures.steps steps c.reached.ensures.after (led c);
         runs_on = λ l before h. subst (λ (x : Core). IsAfter l x (before ++ steps)) (sym (led c)) (after_steps l now before steps h);
       };
     }

@@ -13,11 +13,11 @@ use denote.RawPtr.{Ptr, block_ptr, null_ptr, lies_at}
 use denote.Struct.Owning.{shape, fields, to}
 use denote.Struct.Struct.{exits_of}
 use Rattle.std.proofs.Crossing.{frees, crosses}
-use Rattle.machine_asked.specs.Asked.{Asked}
+use Rattle.machine_record.specs.Machine.{Recorded}
 use Rattle.std.specs.contracts.alloc.Global as global
 use Rattle.std.specs.contracts.impls.GlobalAllocator.TheImpl.{ghosts}
 use Rattle.std.proofs.alloc.Global.TheSendSync as heap_crosses
-use Rattle.machine_asked.proofs.asked.AskedMachine.TheSendSync as asked
+use Rattle.machine_record.proofs.recorded.RecordedMachine.TheSendSync as recorded
 use Rattle.c_handles.specs.Row.{machine_row, heap, slot_owns}
 use Rattle.c_handles.specs.contracts.machine_slot.Slot as Slot
 
@@ -33,12 +33,12 @@ global_send : IsSend global.the_row
 global_send = heap_crosses.the_send
 
 machine_send : IsSend machine_row
-machine_send = asked.the_send global.the_row ghosts global_send frees
+machine_send = recorded.the_send global.the_row ghosts global_send frees
 
 all : AllSend (fields Slot.the_type)
 all = (search sendable, (search sendable, tt))
 
-owned : (full : Bool) (at : Ptr) (m : Asked) → Keyless (slot_owns machine_row full at m)
+owned : (full : Bool) (at : Ptr) (m : Recorded) → Keyless (slot_owns machine_row full at m)
 owned true at m = (lies machine_row machine_send at m, frees.frees heap (raw (lone machine_row.mir)) at)
 owned false at m = tt
 

@@ -20,8 +20,8 @@ use denote.Param.Glue as glue
 use denote.Triple.Table.{widened}
 use Rattle.std.specs.Box.Ownership.{box_owns}
 use Rattle.c_handles.specs.declared.machine_slot.Slot.{Slot}
-use Rattle.c_handles.proofs.machine_asked++asked++AskedMachine+Destruct.drop.Met as drop
-use Rattle.c_handles.proofs.machine_asked++asked++AskedMachine+Destruct.drop.Symbol.{name as drop_name, as_method}
+use Rattle.c_handles.proofs.machine_record++recorded++RecordedMachine+Destruct.drop.Met as drop
+use Rattle.c_handles.proofs.machine_record++recorded++RecordedMachine+Destruct.drop.Symbol.{name as drop_name, as_method}
 use Rattle.c_handles.proofs.Destruct++none.drop.Code as no_drop_code
 use Rattle.c_handles.specs.contracts.machine_slot.Slot.put as f
 use Rattle.c_handles.proofs.machine_slot.Slot.put.Statement.{statement}
@@ -46,7 +46,7 @@ put_spec {M} 𝓤 𝓛 𝓜 𝓡 wired =
     let heap_met = passed 𝓡.env (code.calls-std_heap::GlobalAllocator::allocate 𝓡.env wired) (code.calls-std_heap::GlobalAllocator::deallocate 𝓡.env wired)
     (code.calls-std_heap::GlobalAllocator::grow 𝓡.env wired) (code.calls-std_heap::GlobalAllocator::shrink 𝓡.env wired) M 𝓤 𝓛 𝓜 𝓡 in
     let heap_glue = glues "c_handles::Destruct++none::drop" 𝓡.env (code.calls-c_handles::Destruct++none::drop 𝓡.env wired) Heap heap_laws M 𝓤 𝓛 𝓜 𝓡 in
-    let dropping = code.calls-c_handles::machine_asked++asked++AskedMachine+Destruct::drop 𝓡.env wired in
+    let dropping = code.calls-c_handles::machine_record++recorded++RecordedMachine+Destruct::drop 𝓡.env wired in
     let glued : glue.Met 𝓛 𝓜 𝓡 𝓡.env Passed drops =
     widened 𝓤 𝓛.H (triple_of 𝓛 (glue.signature Passed) (glue.spent 𝓛 Passed)) 𝓜 𝓡 𝓡.env
     (𝓡.env (drop_name (bounded (a_type ∷ []) (Heap, tt) (dcons dict (dcons no_drop dnil))))) (𝓡.env (method drops 0 no_args))
