@@ -4,7 +4,7 @@ use Rattle.std.specs.Prelude.{Option, Some, None, option_map, replicate}
 use Rattle.std.proofs.lemmas.List.{append_assoc, append-nil, replicate-append-replicate}
 use Rattle.torus.specs.Shape.{Shape}
 use Rattle.torus.specs.declared.step.Step.{Step}
-use Rattle.core_laws.specs.Core.{Load, round}
+use Rattle.core_laws.specs.Core.{round}
 use Rattle.core_machine.specs.Machine.{Core, IsAfter, RunsOn, core_after}
 use Rattle.core_machine.proofs.Machines.{after_steps}
 use Rattle.machine_asked.specs.Rounds.{rounds_of}

@@ -1,5 +1,5 @@
 -- The record that is saved.
-use Rattle.std.proofs.Common.{◌≡◌, ◌⊎◌, ⊎_elim, inl, inr, List, ℕ, [], ◌∷◌, ◌++◌, subst, sym}
+use Rattle.std.proofs.Common.{◌≡◌, ◌⊎◌, inl, inr, List, ℕ, [], ◌∷◌, ◌++◌, subst}
 use Rattle.std.specs.Prelude.{codes, Option, Some, None, option_map, Ok}
 use Rattle.hex.specs.Hex.{decode_of, encode_lower}
 use Rattle.torus.specs.declared.fault.Fault.TheVariants as fault

@@ -1,7 +1,7 @@
 -- How many rows each processor has.
 use Rattle.std.proofs.Common.{◌≡◌, ⊎_elim, ℕ, zero, suc, ◌+◌, ◌<◌, ◌≤◌, ◌==◌, Bool, true, false, List, [], ◌∷◌, ◌++◌, length}
 use Rattle.std.proofs.Common.{get_or, slice_get, refl, ap, sym, ◌∙◌, add-zero, arith}
-use Rattle.std.specs.Prelude.{cond, count_by, if◌then◌else◌, unwrap_or, Option, Some}
+use Rattle.std.specs.Prelude.{cond, if◌then◌else◌, unwrap_or, Option, Some}
 use Rattle.std.specs.Ordering.{nat_cmp}
 use Rattle.std.specs.BTreeMap.{is_at}
 use Rattle.std.proofs.lemmas.List.Sums.{count_by_more_no, count_by_more_yes}

@@ -1,6 +1,5 @@
 -- The columns of a table, which its first line names (this project's own format).
-use Rattle.std.specs.Prelude.{ℕ, Bool, false, List, [], ◌∷◌, length, Option, Some, None, Result, Ok}
-use Rattle.std.specs.Prelude.{Err}
+use Rattle.std.specs.Prelude.{ℕ, Bool, false, List, [], ◌∷◌, length, Option, Result, Ok}
 use Rattle.std.specs.Prelude.{ok_or, codes, position}
 use Rattle.std.specs.Str.{bytes_eq}
 use Rattle.lexer.specs.Words.{first_words}

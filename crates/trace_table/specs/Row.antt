@@ -8,7 +8,6 @@ use Rattle.packet.specs.Kinds.{code_of}
 use Rattle.lexer.specs.Numbers.{index_of, value_of}
 use Rattle.lexer.specs.Words.{first_words}
 use Rattle.lexer.specs.Outcome.{◌>>=◌}
-use Rattle.trace_lines.specs.declared.reason.LineReason.{LineReason}
 use Rattle.trace_lines.specs.Form.{form_operation, reply_read, spelled_form, told_of}
 use Rattle.trace_lines.specs.Form.{unwanted_reply}
 use Rattle.trace_lines.specs.Reasons.{map_err, unless_refused}

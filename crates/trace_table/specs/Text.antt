@@ -1,6 +1,6 @@
 -- The trace text of rows that stand in the order of their issues (this project's own format).
 use Rattle.std.specs.Prelude.{◌≡◌, ℕ, ◌+◌, ◌==◌, max, Bool, true, false, List, [], ◌∷◌, ◌++◌}
-use Rattle.std.specs.Prelude.{length, take}
+use Rattle.std.specs.Prelude.{take}
 use Rattle.std.specs.Prelude.{Option, Some, None, codes, count_by, decimal, slice_get, unwrap_or}
 use Rattle.std.specs.List.{flat_map}
 use Rattle.packet.specs.declared.kinds.Reply.{Reply}
