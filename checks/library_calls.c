@@ -10,77 +10,11 @@
                                                    its check
 
    REPORT is the report of the finished run. It is linked with -Wl,--wrap=malloc,--wrap=realloc,--wrap=free. */
-#include <inttypes.h>
-#include <stdio.h>
-#include <stdlib.h>
-#include <string.h>
-#include "torusmem.h"
+#include "library_memory.h"
 
-enum { MOST_BYTES = 1 << 20, MOST_ROW = 79873 + 1, DRAWS = 10000 };
+enum { MOST_ROW = 79873 + 1, DRAWS = 10000 };
 
-typedef struct text {
-  uint8_t bytes[MOST_BYTES];
-  size_t length;
-} text;
-
-static text machine_text, script_text, report_text, written;
-static int wrongs;
-
-/* Requests for memory: how many were made, which is refused (0: none; `and_later`: with all behind it), how many blocks
-   are live, and how often a block was given back. */
-static uint64_t requests, refused, given_back;
-static bool and_later;
-static int64_t live;
-
-void *__real_malloc(size_t size);
-void *__real_realloc(void *block, size_t size);
-void __real_free(void *block);
-void *__wrap_malloc(size_t size);
-void *__wrap_realloc(void *block, size_t size);
-void __wrap_free(void *block);
-
-static bool is_refused(void) {
-  requests++;
-  return refused != 0 && (requests == refused || (and_later && requests > refused));
-}
-
-void *__wrap_malloc(size_t size) {
-  void *block = is_refused() ? NULL : __real_malloc(size);
-  if (block) live++;
-  return block;
-}
-
-void *__wrap_realloc(void *block, size_t size) {
-  void *moved = is_refused() ? NULL : __real_realloc(block, size);
-  if (moved && !block) live++;
-  return moved;
-}
-
-void __wrap_free(void *block) {
-  given_back++;
-  if (block) live--;
-  __real_free(block);
-}
-
-static void must(bool is_so, const char *what, int line) {
-  if (is_so) return;
-  if (wrongs++ < 10) printf("line %d, request %" PRIu64 ": not so: %s\n", line, refused, what);
-}
-#define MUST(is_so) must(is_so, #is_so, __LINE__)
-
-static bool says(torusmem_outcome said, uint32_t code, uint64_t value) {
-  return said.code == code && said.value == value;
-}
-
-static void read_text(const char *name, text *read) {
-  FILE *file = fopen(name, "rb");
-  if (!file) {
-    fprintf(stderr, "cannot read %s\n", name);
-    exit(2);
-  }
-  read->length = fread(read->bytes, 1, MOST_BYTES, file);
-  fclose(file);
-}
+static text report_text, written;
 
 static torusmem_outcome load(torusmem_machine *m) {
   return torusmem_load(m, machine_text.bytes, machine_text.length, script_text.bytes, script_text.length);

@@ -6,70 +6,9 @@
      library_records memory MACHINE SCRIPT the same in short, with the n-th request for memory refused, for each n
 
    It is linked with -Wl,--wrap=malloc,--wrap=realloc,--wrap=free. */
-#include <inttypes.h>
-#include <stdio.h>
-#include <stdlib.h>
-#include <string.h>
-#include "torusmem.h"
+#include "library_memory.h"
 
-enum { MOST_BYTES = 1 << 16, MOST_REPORT = 1 << 20, MOST_ROW = 79873, DRAWS = 3000 };
-
-typedef struct text {
-  uint8_t bytes[MOST_REPORT];
-  size_t length;
-} text;
-
-static text machine_text, script_text;
-static int wrongs;
-static uint64_t requests, refused;
-static bool and_later;
-static int64_t live;
-
-void *__real_malloc(size_t size);
-void *__real_realloc(void *block, size_t size);
-void __real_free(void *block);
-void *__wrap_malloc(size_t size);
-void *__wrap_realloc(void *block, size_t size);
-void __wrap_free(void *block);
-
-static bool is_refused(void) {
-  requests++;
-  return refused != 0 && (requests == refused || (and_later && requests > refused));
-}
-
-void *__wrap_malloc(size_t size) {
-  void *block = is_refused() ? NULL : __real_malloc(size);
-  if (block) live++;
-  return block;
-}
-
-void *__wrap_realloc(void *block, size_t size) {
-  void *moved = is_refused() ? NULL : __real_realloc(block, size);
-  if (moved && !block) live++;
-  return moved;
-}
-
-void __wrap_free(void *block) {
-  if (block) live--;
-  __real_free(block);
-}
-
-static void must(bool is_so, const char *what, int line) {
-  if (is_so) return;
-  if (wrongs++ < 10) printf("line %d, request %" PRIu64 ": not so: %s\n", line, refused, what);
-}
-#define MUST(is_so) must(is_so, #is_so, __LINE__)
-
-static bool says(torusmem_outcome said, uint32_t code, uint64_t value) {
-  return said.code == code && said.value == value;
-}
-
-static void read_text(const char *name, text *read) {
-  FILE *file = fopen(name, "rb");
-  if (!file) exit(2);
-  read->length = fread(read->bytes, 1, MOST_REPORT, file);
-  fclose(file);
-}
+enum { MOST_RECORD = 1 << 16, MOST_ROW = 79873, DRAWS = 3000 };
 
 static torusmem_outcome load(torusmem_machine *m) {
   return torusmem_load_recorded(m, machine_text.bytes, machine_text.length, script_text.bytes, script_text.length);
@@ -84,7 +23,7 @@ static uint32_t drawn(uint64_t *state, uint32_t limit) {
 }
 
 static void read_report(torusmem_machine *m, text *read) {
-  torusmem_outcome said = torusmem_report(m, read->bytes, MOST_REPORT);
+  torusmem_outcome said = torusmem_report(m, read->bytes, MOST_BYTES);
   MUST(said.code == TORUSMEM_OK);
   read->length = (size_t)said.value;
 }
@@ -113,15 +52,15 @@ static bool do_the_same(torusmem_machine *one, torusmem_machine *other, uint64_t
 }
 
 /* The bytes of a machine's record. */
-static uint8_t bytes[MOST_BYTES], again[MOST_BYTES];
+static uint8_t bytes[MOST_RECORD], again[MOST_RECORD];
 static size_t saved(torusmem_machine *m, uint8_t *out) {
   torusmem_outcome said = torusmem_save(m, NULL, 0);
-  MUST(said.code == TORUSMEM_SHORT && said.value <= MOST_BYTES);
-  memset(out, 7, MOST_BYTES);
+  MUST(said.code == TORUSMEM_SHORT && said.value <= MOST_RECORD);
+  memset(out, 7, MOST_RECORD);
   MUST(said.value == 0 || says(torusmem_save(m, out, (size_t)said.value - 1), TORUSMEM_SHORT, said.value));
   MUST(out[0] == 7 && out[(size_t)said.value - 1] == 7);
-  MUST(says(torusmem_save(m, out, MOST_BYTES), TORUSMEM_OK, said.value));
-  MUST((size_t)said.value == MOST_BYTES || out[(size_t)said.value] == 7);
+  MUST(says(torusmem_save(m, out, MOST_RECORD), TORUSMEM_OK, said.value));
+  MUST((size_t)said.value == MOST_RECORD || out[(size_t)said.value] == 7);
   return (size_t)said.value;
 }
 
@@ -257,7 +196,7 @@ static void with_little_memory(void) {
   said = torusmem_clone(&m, &fresh);
   MUST(said.code == TORUSMEM_OK ? fresh.full : !fresh.full && (says(said, TORUSMEM_NO_RECORD, 0) || says(said, TORUSMEM_FAULT_MEMORY, 0)));
   torusmem_free(&fresh);
-  said = torusmem_save(&m, bytes, MOST_BYTES);
+  said = torusmem_save(&m, bytes, MOST_RECORD);
   if (said.code == TORUSMEM_OK) {
     size_t length = (size_t)said.value;
     said = torusmem_restore(&fresh, bytes, length);

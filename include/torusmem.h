@@ -197,7 +197,7 @@ torusmem_outcome torusmem_reopen(torusmem_machine *m, torusmem_machine *fresh) T
 /* RECORDS. A machine that keeps a record can be saved as bytes at any time, and made again of them (docs/FORMATS.md, "Record
    of a machine"). The record has the texts that were loaded; each move, each call that makes rounds and each line that
    came later, in 4 bytes; and 32 bytes more of such a line. Where memory for the record is refused, or it would have
-   268435456 lines, it ends, and the machine goes on without it: no call fails for that. */
+   268435456 lines, or a call makes as many rounds, it ends, and the machine goes on without it: no call fails for that. */
 
 /* Does what torusmem_load does, and answers as it does; and the machine keeps a record from then on. */
 torusmem_outcome torusmem_load_recorded(torusmem_machine *m, const uint8_t *machine, size_t machine_length,

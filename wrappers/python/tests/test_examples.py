@@ -219,7 +219,8 @@ class Looks(unittest.TestCase):
     def test_machines_that_are_restored(self):
         machine = Machine.read(path("flag/machine.txt"), path("flag/script.txt"), recorded=True)
         machine.round()
-        machine.ask(1, torusmem.Operation.ADD, 1, 3)
+        machine.ask(2, torusmem.Operation.ADD, 1, 3)
+        machine.clocked_round(2**64 - 1)
         for again in (Machine.restored(machine.save()), machine.clone()):
             self.assertEqual((again.report(), again.row(), again.save()), (machine.report(), machine.row(), machine.save()))
             other = machine.clone()
@@ -227,7 +228,7 @@ class Looks(unittest.TestCase):
             self.assertEqual((again.finish(), again.report()), (other.finish(), other.report()))
         for bytes_of_none, why in [
             (b"", "byte 0 "), (machine.save()[:-1], f"byte {len(machine.save()) - 1} "), (b"T" + machine.save()[1:], "byte 0 "),
-            (machine.save()[:-4] + b"\x0f\0\0\0", "action 1 "), (machine.save().replace(b"radix", b"Radix"), "line 1: .*F4"),
+            (machine.save()[:-4] + b"\x0f\0\0\0", "action 2 "), (machine.save().replace(b"radix", b"Radix"), "line 1: .*F4"),
         ]:
             with self.assertRaisesRegex(ValueError, why):
                 Machine.restored(bytes_of_none)
@@ -685,7 +686,7 @@ class Words(unittest.TestCase):
     def test_everything_public_says_what_it_is(self):
         for name in torusmem.__all__:
             it = getattr(torusmem, name)
-            names = ("EVENT_REASONS", "Event", "Judged", "NETWORK_REASONS", "REASONS", "Verdict")
+            names = ("EVENT_REASONS", "Event", "Judged", "LogEntry", "NETWORK_REASONS", "REASONS", "Verdict")
             self.assertTrue(name in names or it.__doc__, name)
         for name, it in {**vars(Machine), **vars(Watch)}.items():
             self.assertTrue(name.startswith("_") or (getattr(it, "__func__", it).__doc__), name)
@@ -697,14 +698,15 @@ class Words(unittest.TestCase):
         faults = {int(number) for name, number in numbers.items() if name.startswith("FAULT_")}
         numbers = {name: it for name, it in numbers.items() if not name.startswith("FAULT_") or name == "FAULT_MEMORY"}
         self.assertEqual(faults, set(torusmem.REASONS))
-        for names in (Choice, Operation, Kind):
+        for names in (Choice, Operation, Kind, Model):
             for it in names:
                 self.assertEqual(numbers.pop(it.name), it, it.name)
         library = torusmem._library
         names = "OK FAULT_MEMORY BAD_REPORT EMPTY FULL NONE SHORT NO_ROUTE CYCLE".split()
         names += ["NO_TEXT", "MACHINE_TEXT", "SCRIPTS_TEXT", "ISSUE", "ANSWER"]
         names += ["NOT_LINEARIZABLE", "TOO_MANY", "TOO_OPEN", "BEHIND_SPIN", "NOT_YET"]
-        names += ["NO_RECORD", "BAD_RECORD", "BAD_ACTION"]
+        names += ["NO_RECORD", "BAD_RECORD", "BAD_ACTION", "WRONG_REPLY", "ISSUED", "SERVED", "ANSWERED"]
+        names += ["LOG_INIT", "LOG_MADE", "LOG_WROTE", "LOG_READ", "LOG_READ_OPENING", "LOG_SERVED", "LOG_REPLIED"]
         names += ["FENCE", "SPIN", "FIRST_IS_LAST", "SECOND_IS_LAST"]
         codes = {name: getattr(library, name) for name in names}
         self.assertEqual(numbers, {**codes, "REQUEST": 0, "REPLY": 1})

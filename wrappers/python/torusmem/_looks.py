@@ -152,7 +152,7 @@ class Looks(Kept):
         """The events of the operations that are served, in the order in which they happened; those numbered `first` or
         higher that are there when the iterator begins. The issue of an operation comes with its service: until then its
         number is left free."""
-        kinds = ("issue", "service", "answer")
+        kinds = {_library.ISSUED: "issue", _library.SERVED: "service", _library.ANSWERED: "answer"}
         for it in self._rows_from(self._calls.events, _library.RawHappened, number_of(first, "first")):
             yield Happened(it.number, kinds[it.what], ordered_from(it.operation))
 

@@ -87,7 +87,8 @@ class Machine(Looks):
         if said.code != _library.SHORT:
             self._refuse(said.code, "record")
         out = create_string_buffer(said.value)
-        return out.raw[: self._value(self._calls.save(self._at, out, len(out)))]
+        count = self._value(self._calls.save(self._at, out, len(out)))
+        return out.raw[:count]
 
     @classmethod
     def restored(cls, saved: bytes) -> Machine:
