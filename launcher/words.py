@@ -27,6 +27,7 @@ COMMANDS: dict[str, tuple[list[str], dict[str, tuple[int, int] | None]]] = {
     "check": (["REPORT"], {"explain": None}),
     "network": (["NETWORK"], {"run": None, "replay": WORD, "depth": (1, 8), "explain": None}),
     "linearize": (["TRACE"], {"configurations": (1, 4294967295), "report": None, "explain": None}),
+    "watch": (["TRACE"], {"configurations": (1, 4294967295), "explain": None}),
     "model": (["LOG"], {"model": WORD, "order": None, "explain": None}),
 }
 REQUIRED = {"draw": ["seed"]}  # the options that have to be given

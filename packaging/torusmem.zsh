@@ -13,6 +13,7 @@ _torusmem_commands=(
   'check:whether a report is good'
   'network:whether a network can lock up'
   'linearize:an order that explains a trace'
+  'watch:whether a trace goes wrong, while it comes'
   'model:which memory models a log obeys'
   'help:the help of a command'
 )
@@ -32,6 +33,7 @@ _torusmem() {
   run) options=(--workers --turns) ;;
   route) options=(--reply) ;;
   linearize) options=(--configurations --report) ;;
+  watch) options=(--configurations) ;;
   network) options=(--run --replay --depth) ;;
   model) options=(--model --order) ;;
   esac

@@ -144,6 +144,11 @@ abbrev pub linearize_app : App
 linearize_app = with_rule (with_rule (with_rule (with_rule (new_app (codes "linearize"))
     (needed (codes "TRACE"))) configurations) (flag_option (codes "report"))) explain
 
+-- `watch TRACE [--configurations N] [--explain]`
+abbrev pub watch_app : App
+watch_app = with_rule (with_rule (with_rule (new_app (codes "watch")) (needed (codes "TRACE")))
+    configurations) explain
+
 -- `model LOG [--model NAME] [--order] [--explain]`
 abbrev pub model_app : App
 model_app = with_rule (with_rule (with_rule (with_rule (new_app (codes "model"))
@@ -179,9 +184,13 @@ checking_app = with_subcommand routing_app check_app.top
 abbrev pub judging_app : App
 judging_app = with_subcommand (with_subcommand checking_app network_app.top) linearize_app.top
 
+-- and with the one that judges a trace while it comes
+abbrev pub watching_app : App
+watching_app = with_subcommand judging_app watch_app.top
+
 -- the program with all its subcommands: last the one that judges logs by memory models
 abbrev pub torusmem_app : App
-torusmem_app = with_subcommand judging_app model_app.top
+torusmem_app = with_subcommand watching_app model_app.top
 
 -- the name of the subcommand that the words name
 abbrev pub name_by : List Text → Option Text

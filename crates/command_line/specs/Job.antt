@@ -8,7 +8,7 @@ use Rattle.command_line.specs.declared.command.Job.{Job}
 use Rattle.command_line.specs.declared.command.Job.TheVariants.{Steps, Round, Run, Live, Route}
 use Rattle.command_line.specs.declared.command.Job.TheVariants.{Channels, Check}
 use Rattle.command_line.specs.declared.command.Job.TheVariants.{Network, LockUp, Replay}
-use Rattle.command_line.specs.declared.command.Job.TheVariants.{Linearize, Report, Model}
+use Rattle.command_line.specs.declared.command.Job.TheVariants.{Linearize, Report, Watch, Model}
 use Rattle.command_line.specs.declared.command.Job.TheVariants.{Schedule, Draw, Moves}
 
 -- the values of a subcommand's arguments
@@ -45,6 +45,7 @@ name_of (LockUp network depth) = codes "network"
 name_of (Replay network run depth) = codes "network"
 name_of (Linearize trace configurations) = codes "linearize"
 name_of (Report trace configurations) = codes "linearize"
+name_of (Watch trace configurations) = codes "watch"
 name_of (Model log model order) = codes "model"
 name_of (Schedule machine script rounds clocked) = codes "schedule"
 name_of (Draw machine script seed steps) = codes "draw"
@@ -91,6 +92,8 @@ AreOf (Report trace configurations) rows =
     (first_of (codes "TRACE") rows ≡ Some trace.now)
     × (number_in (codes "configurations") rows ≡ Some configurations)
     × IsFlag (codes "report") true rows
+AreOf (Watch trace configurations) rows = (first_of (codes "TRACE") rows ≡ Some trace.now)
+    × (number_in (codes "configurations") rows ≡ Some configurations)
 AreOf (Model log model order) rows = (first_of (codes "LOG") rows ≡ Some log.now)
     × (first_of (codes "model") rows ≡ Some model.now)
     × IsFlag (codes "order") order rows
@@ -117,6 +120,7 @@ AreJobLimits (LockUp network depth) = (1 ≤ depth) × (depth ≤ 8)
 AreJobLimits (Replay network run depth) = (1 ≤ depth) × (depth ≤ 8)
 AreJobLimits (Linearize trace configurations) = 1 ≤ configurations
 AreJobLimits (Report trace configurations) = 1 ≤ configurations
+AreJobLimits (Watch trace configurations) = 1 ≤ configurations
 AreJobLimits (Schedule machine script rounds clocked) = (1 ≤ rounds) × (rounds ≤ 1000000)
 AreJobLimits _ = Unit {0}
 

@@ -4,7 +4,7 @@ ghost use Rattle.command_line.specs.Making.{IsCommand};
 
 use crate::making::{Making, program, with_subcommand};
 use crate::subcommands::{
-    draw, in_rounds, linearize, model, network, of_one_file, route, run, steps,
+    draw, in_rounds, linearize, model, network, of_one_file, route, run, steps, watch,
 };
 use std::alloc::Global;
 
@@ -47,5 +47,6 @@ pub(crate) fn command<'a>(alloc: Global) -> Making<'a>
     let command = with_subcommand(command, check);
     let command = with_subcommand(command, network(alloc));
     let command = with_subcommand(command, linearize(alloc));
+    let command = with_subcommand(command, watch(alloc));
     with_subcommand(command, model(alloc))
 }

@@ -6,7 +6,7 @@ ghost use Rattle.command_line.specs.Job.{AreOf, IsFlag, NamesJob, AreJobLimits, 
 use crate::building::command;
 use crate::jobs::{
     channels_job, check_job, draw_job, linearize_job, live_job, model_job, network_job, round_job,
-    route_job, run_job, schedule_job, steps_job,
+    route_job, run_job, schedule_job, steps_job, watch_job,
 };
 use crate::values::flag_of;
 use clap::error::ErrorKind;
@@ -82,6 +82,12 @@ pub enum Job<'a> {
     /// Find the one order of a trace, with so many configurations of a word at once at most, and
     /// print its report.
     Report {
+        trace: &'a str,
+        configurations: u32,
+    },
+    /// Judge a trace while it comes, line by line, with so many configurations of a word at once at
+    /// most.
+    Watch {
         trace: &'a str,
         configurations: u32,
     },
@@ -194,6 +200,7 @@ fn job_by<'a>(name: &str, given: &ArgMatches<'a>) -> Option<Job<'a>>
         "check" => check_job(given),
         "network" => network_job(given),
         "linearize" => linearize_job(given),
+        "watch" => watch_job(given),
         "model" => model_job(given),
         _ => None,
     }

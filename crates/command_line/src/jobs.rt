@@ -148,6 +148,15 @@ pub(crate) fn linearize_job<'a>(given: &ArgMatches<'a>) -> Option<Job<'a>>
     }
 }
 
+pub(crate) fn watch_job<'a>(given: &ArgMatches<'a>) -> Option<Job<'a>>
+    ensures { IfSome result (NamesJob (codes "watch") (rows_of (found_of given.now))) }
+{
+    Some(Job::Watch {
+        trace: word(given, "TRACE")?,
+        configurations: number_within(given, "configurations", 4294967295)?,
+    })
+}
+
 pub(crate) fn model_job<'a>(given: &ArgMatches<'a>) -> Option<Job<'a>>
     ensures { IfSome result (NamesJob (codes "model") (rows_of (found_of given.now))) }
 {

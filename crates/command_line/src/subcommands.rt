@@ -4,6 +4,7 @@ ghost use Rattle.command_line.specs.CommandLine.{channels_app, check_app, draw_a
 ghost use Rattle.command_line.specs.CommandLine.{linearize_app, model_app, needed};
 ghost use Rattle.command_line.specs.CommandLine.{network_app};
 ghost use Rattle.command_line.specs.CommandLine.{rounds_app, route_app, run_app, steps_app};
+ghost use Rattle.command_line.specs.CommandLine.{watch_app};
 ghost use Rattle.command_line.specs.Making.{IsCommand};
 
 use crate::arguments::{count, file, flag, long_number, seed, tile, word_if_given, word_option};
@@ -119,6 +120,23 @@ pub(crate) fn linearize<'a>(alloc: Global) -> Making<'a>
     );
     let help = "Prints the order as a report";
     let command = with_argument(command, flag(alloc, "report", help));
+    with_explain(alloc, command)
+}
+
+pub(crate) fn watch<'a>(alloc: Global) -> Making<'a>
+    ensures { IsCommand watch_app result }
+{
+    let about =
+        "Judges a trace while it comes, and ends at the first answer that no order explains";
+    let command = named(alloc, "watch", about);
+    let help = "The file with the trace, or - for standard input";
+    let command = with_argument(command, file(alloc, "TRACE", help));
+    let help = "At most this many configurations of a word, 1 to 4294967295";
+    let numbers = ValueParser::Signed(1, 4294967295);
+    let command = with_argument(
+        command,
+        count(alloc, "configurations", numbers, "1000000", help),
+    );
     with_explain(alloc, command)
 }
 

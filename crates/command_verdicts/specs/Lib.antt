@@ -4,3 +4,5 @@ pub mod Judging
 pub mod Modelled
 pub mod Reporting
 pub mod Told
+pub mod Watched
+pub mod Hints

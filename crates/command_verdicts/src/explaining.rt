@@ -2,6 +2,7 @@
 
 ghost use Rattle.std.specs.Prelude.{◌≤◌};
 
+use crate::hints::begins_table;
 use crate::model::is_report;
 use adaptive_text::routing_sentence;
 use error_lines::{Kind, explain, explain_by, is_of_texts, named, told};
@@ -136,6 +137,9 @@ fn explain_log<R: Eprint + AllocGlobal>(rt: &R, name: &str, log: &[u8], fault: &
             }),
         };
         explain_by(rt, fault, sentence);
+        if begins_table(log) {
+            let _ = eprintln!(rt; "tools/from_csv {name} --log makes a log of a table");
+        }
     }
 }
 

@@ -3,11 +3,13 @@
 
 pub mod command;
 pub mod explaining;
+mod hints;
 pub mod model;
 pub mod network;
 pub mod report;
 pub mod runs;
 pub mod told;
+pub mod watched;
 
 pub use command::{Judged, linearize_text};
 pub use explaining::{
@@ -20,3 +22,4 @@ pub use report::report_text;
 pub use runs::{lock_up_text, replay_network_text};
 pub use told::{model_status, status, verdict_text};
 pub use trace_answer::LineText;
+pub use watched::watched_verdict;

@@ -7,6 +7,7 @@ mod answering;
 mod running;
 mod talking;
 mod telling;
+mod watching;
 
 use answering::{Outcome, answer};
 use command_jobs::{
@@ -23,6 +24,7 @@ use std::sync::Wait;
 use std::thread::Threads;
 use talking::talk;
 use telling::{explain_fault, explain_outcome, status_told};
+use watching::watched;
 
 fn main(rt: HostRuntime) -> ExitCode {
     let is_seen = rt.stderr().is_terminal();
@@ -76,6 +78,13 @@ fn other_done<R: Files + Input + Print + Eprint + Clock + AllocGlobal + Threads 
     requires { AreJobLimits request.now.job }
 {
     let is_explained = request.explain || is_seen;
+    if let Job::Watch {
+        trace,
+        configurations,
+    } = request.job
+    {
+        return watched(rt, trace, configurations, is_explained);
+    }
     let texts = match texts_of(rt, request, is_seen) {
         Ok(texts) => texts,
         Err(status) => return status,

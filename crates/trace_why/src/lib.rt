@@ -18,7 +18,9 @@ mod wording;
 
 pub use before::earlier_line;
 pub use calls::CallAt;
+pub use printed::ReplyWord;
 pub use refused::{TraceSentence, trace_sentence};
 pub use sentence::{IssueLine, NoOrderSentence, no_order_sentence};
 pub use untold::Untold;
 pub use why::{WhyNot, why_not};
+pub use wording::passing_wording;

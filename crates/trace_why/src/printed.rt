@@ -5,8 +5,8 @@ use std::fmt;
 
 /// A reply, as a trace text has it.
 #[derive(Clone, Copy)]
-pub(crate) struct ReplyWord {
-    pub(crate) reply: Reply,
+pub struct ReplyWord {
+    pub reply: Reply,
 }
 
 impl fmt::Display for ReplyWord {

@@ -114,3 +114,38 @@ pub(crate) fn wording_of<'a>(
         name: name_of(words, refusal.reason),
     }
 }
+
+/// What is said of a reason, with gaps, where the lines before are gone: no number of one of them.
+fn passing_text(reason: TraceReason) -> &'static str {
+    match reason {
+        TraceReason::Line(LineReason::WordsTwice) => "words: it is given already",
+        TraceReason::Line(LineReason::WordsLimits) => {
+            "words B: a memory that is watched has 1 to 1048576 words"
+        }
+        TraceReason::Line(LineReason::InitLate) => "init: it comes before all issues",
+        TraceReason::Line(LineReason::InitTwice) => "address B: its opening word is given already",
+        TraceReason::Line(LineReason::OkUnwanted) => {
+            "ok: the operation is no store: a number belongs there"
+        }
+        TraceReason::Line(LineReason::NumberUnwanted) => {
+            "D: the operation is a store: ok belongs there"
+        }
+        TraceReason::OperationsLimits =>
+            "issue: a trace that is watched has fewer than 2^62 operations",
+        TraceReason::AnsweredTwice => "answer B C: the operation is answered already",
+        _ => text_of(reason),
+    }
+}
+
+/// What is said of a refusal of a line of these words, where the lines before it are gone.
+pub fn passing_wording(words: QuotedWords<'_>, reason: TraceReason) -> Filled<'_> {
+    let text = b"".as_slice();
+    Filled {
+        text: passing_text(reason),
+        words,
+        place: place_in(reason),
+        number: u128::from(number_of(text, Refusal { line: 0, reason })),
+        other: 0,
+        name: name_of(words, reason),
+    }
+}

@@ -1,0 +1,3 @@
+pub mod Stream
+pub mod Views
+pub mod Watching
