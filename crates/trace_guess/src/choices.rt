@@ -141,8 +141,11 @@ impl<A: Allocator + Copy> Search<A> {
     pub(crate) fn add_choices(&mut self, answered: Open) -> Result<(), AllocError> {
         let from = self.choices.len();
         let ending = self.ending();
-        for i in 0..self.plan.kinds.len() {
-            self.try_kind(from, ending, i, answered.answer)?;
+        self.plan.come_near(answered.answer)?;
+        for n in 0..self.plan.near.kinds.len() {
+            if let Some(i) = self.plan.near_at(n) {
+                self.try_kind(from, ending, i, answered.answer)?;
+            }
         }
         for slot in 0..self.slots.table.len() {
             self.try_slot(from, ending, slot, answered)?;

@@ -4,6 +4,7 @@
 mod choices;
 pub mod explained;
 pub mod guess;
+mod near;
 mod needs;
 mod pairs;
 mod plan;

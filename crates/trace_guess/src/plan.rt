@@ -2,6 +2,7 @@
 
 ghost use Rattle.std.specs.Prelude.{◌<◌, ◌≤◌, length};
 
+use crate::near::Near;
 use crate::pairs::{call_at, found_by, left_by, number_at, reply_at};
 use crate::slots::{Open, Slots};
 use crate::values::{Values, lost_at};
@@ -10,7 +11,7 @@ use std::alloc::{AllocError, Allocator};
 use trace_laws::Event;
 
 /// How many unlike operations without an answer are looked at.
-const KINDS: usize = 4096;
+const KINDS: usize = 1 << 14;
 
 /// An event of the word: the issue of an operation that is answered, or its answer.
 #[derive(Clone, Copy)]
@@ -28,17 +29,18 @@ pub(crate) struct Lost {
 }
 
 /// Operations that are never answered and do the same: what they ask, the place of the value that they leave, the first
-/// of them that hasn't taken effect, and the last event before which they may be of use.
+/// of them that hasn't taken effect, and the first event and the last one before which they may be of use.
 #[derive(Clone, Copy)]
 pub(crate) struct Kind {
     pub op: Op,
     pub left: Option<usize>,
     pub first: Option<usize>,
+    pub from: usize,
     pub until: usize,
 }
 
-/// The events of a word, its operations that are answered, and those that are not; how many slots there are, and how
-/// many events the trace has.
+/// The events of a word, its operations that are answered, and those that are not; how many slots there are, how many
+/// events the trace has, and the kinds that are near.
 #[derive(Drop)]
 pub(crate) struct Plan<A: Allocator> {
     pub steps: Vec<Step, A>,
@@ -46,6 +48,7 @@ pub(crate) struct Plan<A: Allocator> {
     pub lost: Vec<Lost, A>,
     pub width: usize,
     pub end: usize,
+    pub near: Near<A>,
 }
 
 /// What an operation does whose reply nobody knows: a swap is a store.
@@ -108,6 +111,7 @@ impl<A: Allocator + Copy> Plan<A> {
         {
             let next = self.kinds[i].first;
             self.kinds[i].first = Some(self.lost.len());
+            self.kinds[i].from = issue;
             self.lost.push(Lost {
                 issue,
                 kind: i,
@@ -138,6 +142,7 @@ impl<A: Allocator + Copy> Plan<A> {
                 op,
                 left,
                 first: None,
+                from: issue,
                 until,
             },
         )
@@ -230,6 +235,11 @@ pub(crate) fn plan_of<A: Allocator + Copy>(
         lost: Vec::new(alloc),
         width: 0,
         end: events.len(),
+        near: Near {
+            kinds: Vec::new(alloc),
+            from: 0,
+            to: 0,
+        },
     };
     plan.add_all_lost(values, events, partners, mine)?;
     let mut slots = Slots {

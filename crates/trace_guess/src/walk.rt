@@ -103,10 +103,10 @@ impl<A: Allocator + Copy> Search<A> {
         self.choose()
     }
 
-    /// Pays for a walk over the slots for each slot, and for one over the kinds.
+    /// Pays for a walk over the slots for each slot, and for one over the kinds that are near.
     fn pay(&mut self) {
         let slots = self.slots.table.len() as u64;
-        let kinds = self.plan.kinds.len() as u64;
+        let kinds = self.plan.near.kinds.len() as u64;
         let walk = slots.saturating_mul(slots).saturating_add(kinds);
         self.looks = self.looks.saturating_sub(walk);
     }
