@@ -5,12 +5,12 @@ use Rattle.std.specs.Prelude.{option_map, unwrap_or}
 use Rattle.std.specs.BTreeMap.{is_at}
 use Rattle.std.specs.Ordering.{nat_cmp}
 use Rattle.std.proofs.lemmas.Bool.{cases_eq}
-use Rattle.std.proofs.lemmas.Bool.Decides.{nat_tests}
 use Rattle.std.proofs.lemmas.List.{length-take}
 use Rattle.std.proofs.lemmas.List.Sums.{count_by-le-length, count_by_more_no, count_by_more_yes}
 use Rattle.std.proofs.lemmas.Option.{get_or_from_slice_get, slice_get-map, slice_get_within}
 use Rattle.report_model.specs.declared.row.ProgramStep.{ProgramStep}
 use Rattle.report_model.specs.Indexes.{made_before, name_at, processor_at}
+use Rattle.report_model.proofs.Found.{key_elsewhere, key_here}
 
 -- the processor of a step
 source_of : (steps : List ProgramStep) (j : ℕ) (step : ProgramStep) → slice_get steps j ≡ Some step → processor_at steps j ≡ step.source
@@ -35,12 +35,6 @@ counted_other steps j step q there other =
     ap (λ (x : ProgramStep). x.source == q) (get_or_from_slice_get steps j step step there) ∙ is in
     count_by_more_no (λ (x : ProgramStep). x.source == q) steps j step (slice_get_within steps j step there) at
 
-here : (q p : ℕ) → q ≡ p → is_at (nat_cmp q) p ≡ true
-here q p same = grind (arith, nat_tests)
-
-elsewhere : (q p : ℕ) → q ≢ p → is_at (nat_cmp q) p ≡ false
-elsewhere q p other = grind (arith, nat_tests)
-
 -- the counts by processor, with one step more
 pub counts_more : (steps : List ProgramStep) (j index : ℕ) (step : ProgramStep) (old new : ℕ → Option ℕ) → slice_get steps j ≡ Some step
     → ((q : ℕ) → new q ≡ cond (is_at (nat_cmp step.source) q) (Some (index + 1)) (old q))
@@ -49,11 +43,11 @@ pub counts_more : (steps : List ProgramStep) (j index : ℕ) (step : ProgramStep
     → (p : ℕ) → unwrap_or (new p) 0 ≡ made_before steps p (j + 1)
 counts_more steps j index step old new there changed counted so_far p =
     elim (cases_eq step.source p) [
-      | inl same ↦ ap (λ (o : Option ℕ). unwrap_or o 0) (changed p ∙ ap (λ (b : Bool). cond b (Some (index + 1)) (old p)) (here step.source p same))
+      | inl same ↦ ap (λ (o : Option ℕ). unwrap_or o 0) (changed p ∙ ap (λ (b : Bool). cond b (Some (index + 1)) (old p)) (key_here step.source p same))
           ∙ ap (λ (n : ℕ). n + 1) (counted ∙ so_far step.source)
           ∙ sym (counted_here steps j step there)
           ∙ ap (λ (q : ℕ). made_before steps q (j + 1)) same
-      | inr other ↦ ap (λ (o : Option ℕ). unwrap_or o 0) (changed p ∙ ap (λ (b : Bool). cond b (Some (index + 1)) (old p)) (elsewhere step.source p other))
+      | inr other ↦ ap (λ (o : Option ℕ). unwrap_or o 0) (changed p ∙ ap (λ (b : Bool). cond b (Some (index + 1)) (old p)) (key_elsewhere step.source p other))
           ∙ so_far p
           ∙ sym (counted_other steps j step p there other)
     ]

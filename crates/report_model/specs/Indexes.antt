@@ -1,11 +1,12 @@
--- The programs of a report's processors, and which step of its processor's program each operation is
--- (this project's own format).
+-- The steps of a report's processors, and which of its processor's steps each operation is (this
+-- project's own format).
 use Rattle.std.specs.Prelude.{ℕ, ◌==◌, List, map, take, length, count_by, slice_index_or, Some, None}
 use Rattle.std.specs.List.{range_with_len}
 use Rattle.model_records.specs.declared.entry.Named.{Named}
 use Rattle.model_text.specs.Traces.{place_below}
 use Rattle.report_model.specs.declared.row.ProgramStep.{ProgramStep}
 use Rattle.report_model.specs.declared.row.ReportRow.{ReportRow}
+use Rattle.report_model.specs.Rows.{event_limit}
 
 -- an operation, and the fence before one
 abbrev pub operation_step : ReportRow → ProgramStep
@@ -43,5 +44,6 @@ names_of steps = map (name_at steps) (range_with_len 0 (length steps))
 
 -- the name of the operation whose issue has a number
 abbrev pub name_issued : List ProgramStep → ℕ → Named
-name_issued steps n = slice_index_or (names_of steps) (place_below (issues_of_steps steps) 196609 n)
+name_issued steps n = slice_index_or (names_of steps)
+    (place_below (issues_of_steps steps) (event_limit (issues_of_steps steps)) n)
     (record { processor = 0; index = 0 })

@@ -9,7 +9,7 @@ ghost use Rattle.report_model.specs.Rows.{rows_of};
 ghost use Rattle.report_model.specs.Run.{run_seen};
 
 use crate::indexes::{issues_of_steps, name_issued, names_of};
-use crate::made::made_of;
+use crate::made::{event_limit, made_of};
 use crate::row::{ProgramStep, ReportRow, operation_step, row_at, step_at};
 use crate::rows::rows_of;
 use crate::run::RunLines;
@@ -83,7 +83,8 @@ fn put_services<A: Allocator + Copy>(
 {
     let names = names_of(alloc, steps)?;
     let issues = issues_of_steps(alloc, steps)?;
-    let places = places_in(alloc, &issues, 196609)?;
+    let limit = event_limit(&issues);
+    let places = places_in(alloc, &issues, limit)?;
     for k in 0..rows.len() {
         let row = row_at(rows, k);
         let name = name_issued(&names, &issues, &places, row.issued as usize);

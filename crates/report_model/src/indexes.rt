@@ -6,6 +6,7 @@ ghost use Rattle.std.specs.Ordering.{nat_cmp};
 ghost use Rattle.model_text.specs.Traces.{ArePlaces};
 ghost use Rattle.report_model.specs.declared.row.ProgramStep.{ProgramStep};
 ghost use Rattle.report_model.specs.Indexes.{issues_of_steps, name_issued, names_of};
+ghost use Rattle.report_model.specs.Rows.{event_limit};
 
 use crate::row::{ProgramStep, step_at};
 use model_records::Named;
@@ -56,9 +57,9 @@ pub(crate) fn names_of<A: Allocator + Copy>(
 /// The name of the operation whose issue has a number, by the places of the issues.
 pub(crate) fn name_issued(names: &[Named], issues: &[usize], places: &[usize], n: usize) -> Named
     requires places { ArePlaces issues.now (length places.now) places.now }
-    requires events { length places.now ≡ 196609 }
     ensures { (steps : List ProgramStep) → names.now ≡ names_of steps
-        → issues.now ≡ issues_of_steps steps → result ≡ name_issued steps n }
+        → issues.now ≡ issues_of_steps steps → length places.now ≡ event_limit issues.now
+        → result ≡ name_issued steps n }
 {
     match names.get(place_of(issues, places, n)) {
         Some(name) => *name,

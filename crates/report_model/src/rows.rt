@@ -1,42 +1,55 @@
 //! The operations of a report, by their services.
 
-ghost use Rattle.std.specs.Prelude.{◌≡◌, ◌<◌, ◌++◌, Some, IfOk, OnOk, length, map, slice_get};
+ghost use Rattle.std.specs.Prelude.{◌≡◌, ◌<◌, ◌++◌, ℕ, Some, IfOk, OnOk, length, option_map, slice_get};
+ghost use Rattle.std.specs.BTreeMap.{get};
 ghost use Rattle.std.specs.List.{filter_map};
 ghost use Rattle.std.specs.Option.{option_to_list};
-ghost use Rattle.model_text.specs.Traces.{ArePlaces};
-ghost use Rattle.report_model.specs.Rows.{entry_key, entry_ordered, row_ordered, rows_of};
+ghost use Rattle.std.specs.Ordering.{nat_cmp};
+ghost use Rattle.report_model.specs.Rows.{entry_of_key, order_key, report_row_of, row_ordered, rows_of};
 ghost use Rattle.report_model.specs.Run.{run_seen};
 
 use crate::row::{ReportRow, entry_key, order_key, row_of};
 use crate::run::{RunLines, ServedLine};
-use model_text::placing::{place_of, places_in};
 use report_lines::OrderLine;
 use std::alloc::{AllocError, Allocator};
+use std::collections::BTreeMap;
 
-/// The banks and places of entries.
-fn keys_of<A: Allocator>(alloc: A, entries: &[ServedLine]) -> Result<Vec<usize, A>, AllocError>
-    ensures { IfOk result (λ keys. keys.items ≡ map entry_key entries.now) }
+/// The entry at a place.
+fn served_at(entries: &[ServedLine], k: usize) -> ServedLine
+    requires { k < length entries.now }
+    ensures { slice_get entries.now k ≡ Some result }
 {
-    entries
-        .iter()
-        .map(|served| entry_key(*served))
-        .collect(alloc)
+    entries[k]
 }
 
-/// The operation of an order line, by the places of the entries' keys.
-fn row_ordered(
+/// Entries by their banks and places, the first of each.
+///
+/// Errors: memory.
+fn entries_by_key<A: Allocator + Copy>(
+    alloc: A,
     entries: &[ServedLine],
-    keys: &[usize],
-    places: &[usize],
+) -> Result<BTreeMap<usize, ServedLine, A>, AllocError>
+    ensures { IfOk result (λ by. (x : ℕ) → get nat_cmp by x ≡ entry_of_key entries.now x) }
+{
+    let mut place = entries.len();
+    let mut by = BTreeMap::new(alloc);
+    'back: while place > 0 {
+        place -= 1;
+        let served = served_at(entries, place);
+        by.insert(entry_key(served), served)?;
+    }
+    Ok(by)
+}
+
+/// The operation of an order line, by entries of banks and places.
+fn row_named<A: Allocator>(
+    by: &BTreeMap<usize, ServedLine, A>,
     order: OrderLine,
 ) -> Option<ReportRow>
-    requires keys { keys.now ≡ map entry_key entries.now }
-    requires places { ArePlaces keys.now (length places.now) places.now }
-    requires banks { length places.now ≡ 4194304 }
-    ensures { result ≡ row_ordered entries.now order }
+    ensures { result
+        ≡ option_map (λ s. report_row_of s order) (get nat_cmp by.now (order_key order)) }
 {
-    let place = place_of(keys, places, order_key(order));
-    match entries.get(place) {
+    match by.get(&order_key(order)) {
         Some(served) => Some(row_of(*served, order)),
         None => None,
     }
@@ -76,12 +89,11 @@ fn rows_by<A: Allocator + Copy>(
 ) -> Result<Vec<ReportRow, A>, AllocError>
     ensures { IfOk result (λ rows. rows.items ≡ filter_map (row_ordered entries.now) orders.now) }
 {
-    let keys = keys_of(alloc, entries)?;
-    let places = places_in(alloc, &keys, 4194304)?;
+    let by = entries_by_key(alloc, entries)?;
     let mut rows = Vec::new(alloc);
     for k in 0..orders.len() {
         let order = order_at(orders, k);
-        push_some(&mut rows, row_ordered(entries, &keys, &places, order))?;
+        push_some(&mut rows, row_named(&by, order))?;
     }
     Ok(rows)
 }
