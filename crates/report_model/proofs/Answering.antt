@@ -64,9 +64,12 @@ module _ (machine : MachineSpec) (scripts : ScriptsSpec) (r : RunSpec) (made : L
   }
 
   unscripted_with : (why : NoTextsAnswer) → IsUnscriptedAmong scripts.lists made tiles why → IsNoAnswerWithFences machine scripts r why
-  unscripted_with why is = subst (λ (w : NoTextsAnswer). IsNoAnswerWithFences machine scripts r w) (sym is.other.is)
-      (ordered, run, subst (λ (w : NoTextsAnswer). IsUnscriptedAmong scripts.lists (made_of (rows_of r)) (tiles_of machine.shape) w) is.other.is
-      (unscripted_run why is))
+  unscripted_with why is = subst (λ (w : NoTextsAnswer). IsNoAnswerWithFences machine scripts r w) (sym is.other.is) (
+    ordered,
+    run,
+    subst (λ (w : NoTextsAnswer). IsUnscriptedAmong scripts.lists (made_of (rows_of r)) (tiles_of machine.shape) w) is.other.is
+        (unscripted_run why is),
+  )
 
   pub unanswered_with : (why : NoTextsAnswer) → (why ≡ Report Memory) ⊎ IsUnscriptedAmong scripts.lists made tiles why
       → IsNoAnswerWithFences machine scripts r why

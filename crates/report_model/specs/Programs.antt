@@ -1,7 +1,7 @@
--- The programs of a report's processors by their scripts: each one's operations in the order of issue,
--- with a fence wherever its script has some (this project's own format).
-use Rattle.std.specs.Prelude.{◌≡◌, ◌≢◌, ℕ, ◌-◌, ◌<◌, ◌≤◌, ◌||◌, Bool, true, false, List, [], ◌∷◌, ◌++◌, length, filter, fold, take}
-use Rattle.std.specs.Prelude.{◌==◌, Some, slice_get, if◌then◌else◌}
+-- The programs of a report's processors by their scripts: each one's operations in the order of
+-- issue, with a fence wherever its script has some (this project's own format).
+use Rattle.std.specs.Prelude.{◌≡◌, ◌≢◌, ℕ, ◌-◌, ◌<◌, ◌≤◌, ◌==◌, ◌||◌, Bool, true, false, List, [], ◌∷◌, ◌++◌}
+use Rattle.std.specs.Prelude.{length, filter, fold, take, Some, slice_get, if◌then◌else◌}
 use Rattle.std.specs.List.{flat_map, range_with_len}
 use Rattle.packet.specs.declared.kinds.Reply.{Reply}
 use Rattle.script.specs.declared.line.Line.{Line}

@@ -20,7 +20,7 @@ loop-k-init g c = record {
 pub hand-requires-in-loop-k-clause-few : goal.hand-requires-in-loop-k-clause-few
 hand-requires-in-loop-k-clause-few g c =
     let one = one_issued c.loop-k.follower c.issue-index.new.self c.answer.new.self c.issue-index.result c.row_at-row.result.reply c.issue-index.ensures.state
-        c.answer.ensures in
+    c.answer.ensures in
     omega (arith, one, c.loop-k.invariant.issued, c.loop-k-test.true, c.requires.few)
 
 pub loop-k-preserved : goal.loop-k-preserved
