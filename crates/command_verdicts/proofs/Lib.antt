@@ -2,3 +2,4 @@ mod Verdicts
 mod Reports
 mod Refusals
 pub mod NoAnswers
+pub mod RunModels
