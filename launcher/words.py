@@ -13,8 +13,9 @@ from typing import NoReturn
 
 HERE = os.path.dirname(os.path.realpath(__file__))
 VERSION = "torusmem 0.2.0\n"
-# The positional words of each command, and its options: the limits of a number, WORD for any word, or None for a flag.
-WORD = (0, -1)
+# The positional words of each command, and its options: the limits of a number, WORD for any word, WORDS for two, or None
+# for a flag.
+WORD, WORDS = (0, -1), (0, -2)
 COMMANDS: dict[str, tuple[list[str], dict[str, tuple[int, int] | None]]] = {
     "steps": (["MACHINE", "SCRIPT", "STEPS"], {"moves": None, "explain": None}),
     "round": (["MACHINE", "SCRIPT"], {"rounds": (1, 1000000), "clocked": None, "explain": None}),
@@ -28,7 +29,7 @@ COMMANDS: dict[str, tuple[list[str], dict[str, tuple[int, int] | None]]] = {
     "network": (["NETWORK"], {"run": None, "replay": WORD, "depth": (1, 8), "explain": None}),
     "linearize": (["TRACE"], {"configurations": (1, 4294967295), "report": None, "explain": None}),
     "watch": (["TRACE"], {"configurations": (1, 4294967295), "explain": None}),
-    "model": (["LOG"], {"model": WORD, "order": None, "explain": None}),
+    "model": (["LOG"], {"model": WORD, "order": None, "texts": WORDS, "explain": None}),
 }
 REQUIRED = {"draw": ["seed"]}  # the options that have to be given
 APART = {"network": {"run", "replay"}}  # the options that don't stand beside each other
@@ -189,6 +190,8 @@ def command(name: str, rest: list[str]) -> Answer | Job:
                     raise Unclear
                 stray(name, word, [*options, "help"], bool(found))
             limits = options[option]
+            if limits == WORDS:
+                raise Unclear
             if limits is not None and not has_value:
                 if at == len(rest):
                     raise Wrong(f"a value is required for '--{option} <{option}>' but none was supplied")

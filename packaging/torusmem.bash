@@ -14,7 +14,7 @@ _torusmem() {
     route) words="--reply --explain --help" ;;
     linearize) words="--configurations --report --explain --help" ;;
     watch) words="--configurations --explain --help" ;;
-    model) words="--model --order --explain --help" ;;
+    model) words="--model --order --texts --explain --help" ;;
     network) words="--run --replay --depth --explain --help" ;;
     live | channels | check) words="--explain --help" ;;
     esac

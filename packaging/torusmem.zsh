@@ -35,7 +35,7 @@ _torusmem() {
   linearize) options=(--configurations --report) ;;
   watch) options=(--configurations) ;;
   network) options=(--run --replay --depth) ;;
-  model) options=(--model --order) ;;
+  model) options=(--model --order --texts) ;;
   esac
   case $words[CURRENT-1] in
   --model) compadd -- coherent fenced pso tso sc; return ;;

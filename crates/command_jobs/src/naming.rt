@@ -38,6 +38,12 @@ pub fn names<'a>(job: &Job<'a>) -> Names<'a> {
             ..
         } => (machine, Some(script), None),
         Job::Replay { network, run, .. } => (network, Some(run), None),
+        Job::RunModel {
+            log,
+            machine,
+            script,
+            ..
+        } => (log, Some(machine), Some(script)),
         Job::Watch { .. } => {
             return Names {
                 first: None,

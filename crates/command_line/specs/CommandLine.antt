@@ -79,6 +79,13 @@ word_without_usual name = record (new_rule name) { long = Some name }
 abbrev pub depth_option : Rule
 depth_option = count (codes "depth") (up_to (pos 8)) (codes "1")
 
+-- the option for the texts of a run, two words that help calls so; it has no default
+abbrev pub texts_option : Rule
+texts_option = record (new_rule (codes "texts")) {
+  long = Some (codes "texts");
+  value_names = 2;
+}
+
 -- the option to say more of what is wrong, of each subcommand
 abbrev pub explain : Rule
 explain = flag_option (codes "explain")
@@ -149,11 +156,11 @@ abbrev pub watch_app : App
 watch_app = with_rule (with_rule (with_rule (new_app (codes "watch")) (needed (codes "TRACE")))
     configurations) explain
 
--- `model LOG [--model NAME] [--order] [--explain]`
+-- `model LOG [--model NAME] [--order] [--texts MACHINE SCRIPT] [--explain]`
 abbrev pub model_app : App
-model_app = with_rule (with_rule (with_rule (with_rule (new_app (codes "model"))
+model_app = with_rule (with_rule (with_rule (with_rule (with_rule (new_app (codes "model"))
     (needed (codes "LOG"))) (word_option (codes "model") (codes "sc")))
-    (flag_option (codes "order"))) explain
+    (flag_option (codes "order"))) texts_option) explain
 
 -- the program, whose subcommand has to stand there
 abbrev pub top_app : App
@@ -180,9 +187,13 @@ routing_app = with_subcommand (with_subcommand scheduling_app route_app.top) cha
 abbrev pub checking_app : App
 checking_app = with_subcommand routing_app check_app.top
 
--- and with those that judge networks and traces
+-- and with those on networks
+abbrev pub networking_app : App
+networking_app = with_subcommand checking_app network_app.top
+
+-- and with the one that judges a trace
 abbrev pub judging_app : App
-judging_app = with_subcommand (with_subcommand checking_app network_app.top) linearize_app.top
+judging_app = with_subcommand networking_app linearize_app.top
 
 -- and with the one that judges a trace while it comes
 abbrev pub watching_app : App

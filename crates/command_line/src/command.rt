@@ -97,6 +97,15 @@ pub enum Job<'a> {
         model: &'a str,
         order: bool,
     },
+    /// Judge a report by memory models, of which this one decides the status, with the fences of the
+    /// scripts that were run; and print an order too.
+    RunModel {
+        log: &'a str,
+        model: &'a str,
+        order: bool,
+        machine: &'a str,
+        script: &'a str,
+    },
     /// Print the moves of rounds, clocked or in order, at most so many, until every script is finished.
     Schedule {
         machine: &'a str,

@@ -7,7 +7,9 @@ ghost use Rattle.command_line.specs.CommandLine.{rounds_app, route_app, run_app,
 ghost use Rattle.command_line.specs.CommandLine.{watch_app};
 ghost use Rattle.command_line.specs.Making.{IsCommand};
 
-use crate::arguments::{count, file, flag, long_number, seed, tile, word_if_given, word_option};
+use crate::arguments::{
+    count, file, flag, long_number, seed, texts, tile, word_if_given, word_option,
+};
 use crate::making::{Making, loading, named, with_argument, with_explain};
 use clap::builder::ValueParser;
 use std::alloc::Global;
@@ -154,5 +156,6 @@ pub(crate) fn model<'a>(alloc: Global) -> Making<'a>
     let command = with_argument(command, word_option(alloc, "model", "sc", help));
     let help = "Prints an order of the strongest model that holds, too";
     let command = with_argument(command, flag(alloc, "order", help));
+    let command = with_argument(command, texts(alloc));
     with_explain(alloc, command)
 }

@@ -1,3 +1,5 @@
 mod Verdicts
 mod Reports
 mod Refusals
+pub mod NoAnswers
+pub mod RunModels

@@ -2,6 +2,7 @@ pub mod Printed
 pub mod PrintedRuns
 pub mod Judging
 pub mod Modelled
+pub mod RunModelled
 pub mod Reporting
 pub mod Told
 pub mod Watched

@@ -3,7 +3,7 @@
 ghost use Rattle.std.specs.Prelude.{◌≤◌};
 
 use crate::hints::begins_table;
-use crate::model::is_report;
+use crate::model::{Modelled, is_report};
 use adaptive_text::routing_sentence;
 use error_lines::{Kind, explain, explain_by, is_of_texts, named, told};
 use model_answer::LogSentence;
@@ -11,6 +11,7 @@ use model_text::read_log;
 use network_run::{RunSentence, replay_text};
 use network_text::{NetworkSentence, network_answer, read_network};
 use program_fault::{Names, ProgramFault, Texts};
+use sentences::scripts_sentence;
 use trace_why::{no_order_sentence, trace_sentence};
 
 /// The line of a fault at which routers begin to choose, where a text is refused for that alone: another
@@ -122,6 +123,47 @@ pub fn explain_models<R: Eprint + AllocGlobal>(
         );
     } else {
         explain(rt, Kind::Report, names, texts, fault);
+    }
+}
+
+/// Says why the texts of a report, of its machine and of its scripts have the fault that the command
+/// answers, where that can be told: the report only where the others have none.
+pub fn explain_run_models<R: Eprint + AllocGlobal>(
+    rt: &R,
+    names: (&str, &str, &str),
+    of_report: &Names,
+    texts: &Texts,
+    fault: &ProgramFault,
+) {
+    let (machine, scripts) = (named(names.1, &texts.second), named(names.2, &texts.third));
+    match scripts_sentence(rt.alloc(), machine, scripts) {
+        None if !is_report(&texts.first) => {
+            let _ = eprintln!(rt; "{}: a report has texts, and this begins as none", names.0);
+        }
+        None => explain_models(rt, names.0, of_report, texts, fault),
+        Some(sentence) => explain_by(rt, fault, Some(sentence)),
+    }
+}
+
+/// Says in which way a report isn't of the texts that are said to be those of its run.
+pub fn explain_other_run<R: Eprint>(rt: &R, names: (&str, &str, &str), modelled: Modelled) {
+    let (report, machine, script) = names;
+    match modelled {
+        Modelled::OtherShape { line } => {
+            let _ = eprintln!(rt;
+                "{report}:{line}: {machine} has another shape, or another number of words"
+            );
+        }
+        Modelled::OtherOperation {
+            line,
+            processor,
+            passed,
+        } => {
+            let _ = eprintln!(rt;
+                "{report}:{line}: in {script}, what comes next of processor {processor} stands behind {passed} of its lines"
+            );
+        }
+        _ => {}
     }
 }
 

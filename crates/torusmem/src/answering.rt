@@ -6,7 +6,7 @@ use command_jobs::Ended;
 use command_line::Job;
 use command_verdicts::{
     Judged, Modelled, judged_models_text, linearize_text, lock_up_text, network_text,
-    replay_network_text, report_text,
+    replay_network_text, report_text, texts_models_text,
 };
 use model_answer::MemoryModel;
 use program_fault::{ProgramFault, Texts};
@@ -64,6 +64,13 @@ pub(crate) fn answer<R: Eprint + Clock + AllocGlobal + Threads + Wait + Sync, W:
         }
         Job::Model { model, order, .. } => {
             modelled_by(judged_models_text(alloc, first, order, out), model)
+        }
+        Job::RunModel { model, order, .. } => {
+            let (machine, scripts) = (texts.second.as_slice(), texts.third.as_slice());
+            modelled_by(
+                texts_models_text(alloc, first, machine, scripts, order, out),
+                model,
+            )
         }
         Job::Run { workers, turns, .. } => {
             let (workers, turns) = (workers as usize, u64::from(turns));

@@ -59,7 +59,7 @@ fn run<R: Env + Files + Input + Print + Eprint + Clock + AllocGlobal + Threads +
 
 /// Whether the job names a memory model that there isn't, which standard error says then.
 fn is_other_model<R: Eprint>(rt: &R, job: &Job) -> bool {
-    let Job::Model { model, .. } = *job else {
+    let (Job::Model { model, .. } | Job::RunModel { model, .. }) = *job else {
         return false;
     };
     let is_other = MemoryModel::named(model).is_none();
@@ -113,7 +113,7 @@ fn other_done<R: Files + Input + Print + Eprint + Clock + AllocGlobal + Threads 
 fn is_judged(job: &Job) -> bool {
     matches!(
         *job,
-        Job::Linearize { .. } | Job::Report { .. } | Job::Model { .. }
+        Job::Linearize { .. } | Job::Report { .. } | Job::Model { .. } | Job::RunModel { .. }
     )
 }
 

@@ -1,5 +1,5 @@
 -- Where the output failed, a beginning of the answer's text was taken.
-use Rattle.std.proofs.Common.{[], refl}
+use Rattle.std.proofs.Common.{◌∙◌, [], ap, refl}
 use Rattle.std.proofs.lemmas.Result.{err_from_is_err_and}
 use Rattle.model_answer.specs.declared.answer.NoAnswer.TheVariants.{Refused, Wrong}
 use Rattle.report_model.specs.declared.answer.NoReportAnswer.TheVariants.{Unjudged}
@@ -7,6 +7,7 @@ use Rattle.report_model.specs.Answers.{HasNoRunAnswer}
 use Rattle.program_fault.specs.Done.{output}
 use Rattle.command_verdicts.specs.Modelled.{IsReportRefusal, IsReportModelled, RefusesEntry}
 use Rattle.command_verdicts.specs.declared.model.Modelled.TheVariants.{WithoutFences}
+use Rattle.command_verdicts.proofs.NoAnswers.{none_for}
 use Rattle.command_verdicts.proofs.Refusals.{none_taken, refused_by}
 use Rattle.command_verdicts.proofs.model.report_models_text.Goals as goal
 
@@ -32,7 +33,8 @@ returns-in_ok-put_all-in-Ok g c = (
 pub returns-in-Err-Unjudged-Refused : goal.returns-in-Err-Unjudged-Refused
 returns-in-Err-Unjudged-Refused g c =
     let none : HasNoRunAnswer c.args.report.now (Unjudged (Refused c.in-Err-Unjudged-Refused.refusal)) =
-    rw c.in-Err-Unjudged-Refused.field-0-0-is at (rw c.in-Err-Unjudged-Refused.field-0-is at c.in-Err-Unjudged-Refused.ensures.none) in
+    none_for c.args.report.now _ (Unjudged (Refused c.in-Err-Unjudged-Refused.refusal))
+    (c.in-Err-Unjudged-Refused.field-0-is ∙ ap Unjudged c.in-Err-Unjudged-Refused.field-0-0-is) c.in-Err-Unjudged-Refused.ensures.none in
     refused_by (IsReportModelled g.row.A.Denot c.args.report.now c.args.order) (IsReportRefusal c.args.report.now)
     (output (g.W.Out.taken c.args.out.now) (g.W.Out.failures c.args.out.now)) c.from.result c.from-in-Err-Unjudged-Refused.result
     c.from-in-Err-Unjudged-Refused.ensures (RefusesEntry c.in-Err-Unjudged-Refused.refusal none c.from.ensures)
@@ -40,5 +42,6 @@ returns-in-Err-Unjudged-Refused g c =
 pub returns-in-Err-Unjudged-Wrong : goal.returns-in-Err-Unjudged-Wrong
 returns-in-Err-Unjudged-Wrong g c =
     let none : HasNoRunAnswer c.args.report.now (Unjudged (Wrong c.in-Err-Unjudged-Wrong.wrong)) =
-    rw c.in-Err-Unjudged-Wrong.field-0-0-is at (rw c.in-Err-Unjudged-Wrong.field-0-is at c.in-Err-Unjudged-Wrong.ensures.none) in
+    none_for c.args.report.now _ (Unjudged (Wrong c.in-Err-Unjudged-Wrong.wrong))
+    (c.in-Err-Unjudged-Wrong.field-0-is ∙ ap Unjudged c.in-Err-Unjudged-Wrong.field-0-0-is) c.in-Err-Unjudged-Wrong.ensures.none in
     ([], (none, refl), record { bytes = none_taken (g.W.Out.taken c.args.out.now); quiet = refl })
