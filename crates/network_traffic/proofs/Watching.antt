@@ -1,5 +1,5 @@
 -- Moves and rounds one more.
-use Rattle.std.proofs.Common.{◌≡◌, ℕ, ◌+◌, ◌≤◌, Bool, true, false, cond, List, [], ◌∷◌, ◌++◌, length, Option, Some, None, refl, arith, is_some}
+use Rattle.std.proofs.Common.{◌≡◌, ℕ, ◌≤◌, List, [], ◌∷◌, ◌++◌, length, Option, Some, None, refl, arith}
 use Rattle.network_judge.specs.Table.{Table}
 use Rattle.network_machine.specs.declared.moves.Move.{Move}
 use Rattle.network_rounds.specs.declared.senders.Timed.{Timed}

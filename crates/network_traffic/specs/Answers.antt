@@ -1,5 +1,5 @@
 -- What is answered to a network text and a traffic text.
-use Rattle.std.specs.Prelude.{◌≡◌, ◌⊎◌, ℕ, Bool, true, false, List, Vec, map, length, Result, Ok, Err}
+use Rattle.std.specs.Prelude.{◌≡◌, ◌⊎◌, ℕ, Bool, false, List, Vec, map, length, Result, Ok, Err}
 use Rattle.std.specs.List.{range_with_len}
 use Rattle.torus.specs.declared.fault.Fault.TheVariants as fault
 use Rattle.lexer.specs.declared.refusal.Refusal.{Refusal}

@@ -1,6 +1,6 @@
 -- What becomes of packets in a run: in which round each is begun and delivered, by the moves of the
 -- run over flits that have the number of their packet.
-use Rattle.std.specs.Prelude.{◌≡◌, ℕ, ◌+◌, ◌-◌, ◌<◌, ◌==◌, ◌&&◌, nat_lt, Bool, false, if◌then◌else◌, is_some}
+use Rattle.std.specs.Prelude.{ℕ, ◌+◌, ◌-◌, ◌==◌, ◌&&◌, nat_lt, Bool, false, if◌then◌else◌, is_some}
 use Rattle.std.specs.Prelude.{List, [], ◌∷◌, map, length, slice_index, slice_index_or, Option, Some, None}
 use Rattle.network_judge.specs.Table.{Table, channels_of}
 use Rattle.network_machine.specs.declared.moves.Move.{Move}

@@ -1,6 +1,6 @@
 -- The packets of a simulation by their numbers, and where the flits of each go.
 use Rattle.std.specs.Prelude.{◌≡◌, ℕ, ◌==◌, List, [], map, length, filter, slice_get, slice_index}
-use Rattle.std.specs.Prelude.{slice_index_or, Option, Some, None, option_map}
+use Rattle.std.specs.Prelude.{slice_index_or, Option, Some, option_map}
 use Rattle.std.specs.List.{range_with_len}
 use Rattle.network_judge.specs.declared.table.Kind.TheVariants.{Ejection}
 use Rattle.network_judge.specs.Table.{Table, kind_of, table_next}

@@ -1,8 +1,8 @@
 -- Simulations: clocked rounds that go on until one makes no move and no packet is to come.
-use Rattle.std.specs.Prelude.{◌≡◌, ℕ, ◌+◌, ◌<◌, ◌≤◌, ◌==◌, ◌&&◌, not, nat_lt, Bool, true, false, List, []}
+use Rattle.std.specs.Prelude.{◌≡◌, ℕ, ◌+◌, ◌≤◌, ◌==◌, ◌&&◌, not, nat_lt, Bool, false, List, []}
 use Rattle.std.specs.Prelude.{◌∷◌, Vec, length, slice_get, Option, Some, None, if◌then◌else◌}
 use Rattle.std.specs.List.{list_any, range_with_len}
-use Rattle.network_judge.specs.Table.{Table, channels_of}
+use Rattle.network_judge.specs.Table.{Table}
 use Rattle.network_machine.specs.declared.moves.Move.{Move}
 use Rattle.network_machine.specs.Machine.{NetworkMachineSpec}
 use Rattle.network_rounds.specs.declared.senders.Timed.{Timed}

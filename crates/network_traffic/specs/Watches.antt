@@ -1,5 +1,5 @@
 -- What a program keeps of a run that it watches.
-use Rattle.std.specs.Prelude.{◌≡◌, ℕ, ◌<◌, List, ◌∷◌, length, slice_index, slice_index_or, Option, None}
+use Rattle.std.specs.Prelude.{◌≡◌, ℕ, ◌<◌, List, length, slice_index, slice_index_or, None}
 use Rattle.network_judge.specs.Table.{Table, channels_of}
 use Rattle.network_machine.specs.declared.moves.Move.{Move}
 use Rattle.network_rounds.specs.declared.senders.Timed.{Timed}

@@ -1,4 +1,4 @@
-use Rattle.std.proofs.Common.{◌≡◌, ◌∙◌, ℕ, List, sym, ap, subst, refl, length}
+use Rattle.std.proofs.Common.{◌∙◌, ℕ, List, sym, ap, subst, refl, length}
 use Rattle.network_traffic.specs.Plans.{plan_table}
 use Rattle.network_traffic.specs.Simulated.{IsSimulated}
 use Rattle.network_traffic.proofs.Pieces.{written_back}

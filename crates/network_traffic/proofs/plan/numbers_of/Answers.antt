@@ -1,4 +1,4 @@
-use Rattle.std.proofs.Common.{◌≡◌, ℕ, sym, ap, arith}
+use Rattle.std.proofs.Common.{ℕ, sym, ap}
 use Rattle.std.specs.Prelude.{◌==◌, slice_index}
 use Rattle.std.proofs.lemmas.List.{get_or-map}
 use Rattle.network_rounds.specs.declared.senders.Timed.{Timed}

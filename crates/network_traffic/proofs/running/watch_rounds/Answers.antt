@@ -1,4 +1,4 @@
-use Rattle.std.proofs.Common.{◌≡◌, ◌+◌, ℕ, List, ◌∙◌, refl, sym, ap, subst, arith, length, take, replicate, [], true, false, None}
+use Rattle.std.proofs.Common.{◌≡◌, ◌∙◌, refl, sym, subst, arith, length, true, false, None}
 use Rattle.std.proofs.lemmas.List.{length-replicate}
 use Rattle.network_traffic.specs.Plans.{plan_table}
 use Rattle.network_traffic.specs.Labels.{LabelsSpec, HasChannels}

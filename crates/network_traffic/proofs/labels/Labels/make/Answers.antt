@@ -1,4 +1,4 @@
-use Rattle.std.proofs.Common.{◌≡◌, ap, length, subst, sym, ◌∙◌}
+use Rattle.std.proofs.Common.{ap, length, subst, sym, ◌∙◌}
 use Rattle.network_traffic.specs.Plans.{plan_table}
 use Rattle.network_traffic.specs.Labels.{labels_after, labels_spec, HasChannels}
 use Rattle.network_traffic.proofs.Pieces.{channels_kept}

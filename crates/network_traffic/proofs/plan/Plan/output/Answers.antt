@@ -1,12 +1,12 @@
-use Rattle.std.proofs.Common.{◌≡◌, ◌+◌, ◌*◌, ◌<◌, ℕ, Some, sym, ap, ◌∙◌, arith, get_or}
-use Rattle.std.specs.Prelude.{slice_get, slice_index, option_map}
+use Rattle.std.proofs.Common.{◌≡◌, ◌+◌, ◌*◌, ℕ, Some, sym, ap, ◌∙◌, arith, get_or}
+use Rattle.std.specs.Prelude.{slice_index, option_map}
 use Rattle.std.proofs.lemmas.List.{get_or_read}
 use Rattle.std.proofs.lemmas.Option.{slice_get_within, slice_get-get_or}
 use Rattle.network_judge.specs.declared.table.Kind.TheVariants.{Ejection}
 use Rattle.network_judge.specs.Table.{Table, columns_of, column_of, table_next}
 use Rattle.network_machine.proofs.Columns.{column_inside}
 use Rattle.network_rounds.specs.declared.senders.Timed.{Timed}
-use Rattle.network_traffic.specs.Plans.{plan_table, output_for}
+use Rattle.network_traffic.specs.Plans.{plan_table}
 use Rattle.network_traffic.proofs.plan.Plan.output.Goals as goal
 
 pub index-column-requires : goal.index-column-requires

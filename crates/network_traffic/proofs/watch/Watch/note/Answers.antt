@@ -1,6 +1,6 @@
-use Rattle.std.proofs.Common.{◌≡◌, ◌+◌, ◌<◌, ℕ, None, Option, List, ◌∷◌, length, ap, sym, subst, ◌∙◌, arith}
+use Rattle.std.proofs.Common.{◌+◌, ℕ, None, Option, List, length, ap, sym, subst, ◌∙◌, arith}
 use Rattle.std.specs.Prelude.{Vec, slice_index, slice_index_or}
-use Rattle.network_judge.specs.Table.{Table, channels_of}
+use Rattle.network_judge.specs.Table.{Table}
 use Rattle.network_rounds.specs.declared.senders.Timed.{Timed}
 use Rattle.network_traffic.specs.Plans.{plan_table}
 use Rattle.network_traffic.specs.Labels.{LabelsSpec}

@@ -1,4 +1,4 @@
-use Rattle.std.proofs.Common.{◌≡◌, List, take, ap, sym, subst, ◌∙◌}
+use Rattle.std.proofs.Common.{List, take, ap, sym, subst, ◌∙◌}
 use Rattle.std.proofs.lemmas.List.{take_more}
 use Rattle.network_machine.specs.declared.moves.Move.{Move}
 use Rattle.network_traffic.specs.Plans.{plan_table}
