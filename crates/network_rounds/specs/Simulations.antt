@@ -49,26 +49,3 @@ pub record IsSimulation {A B : Type 0} (queues : List (Vec Timed A)) (groups : L
   pub same : SameTables old new
   pub senders : (x : ℕ) → x < length queues → slice_index begun x ≡ begun_in x rounds
   pub channels : (x : ℕ) → x < length flits → slice_index flits x ≡ flits_in_channels x rounds
-
--- whether a packet, if any, is to come behind a round
-abbrev pub is_behind : ℕ → Option Timed → Bool
-is_behind round None = false
-is_behind round (Some timed) = nat_lt round timed.round
-
--- no packet is to come behind a round, where so many of each sender are begun
-abbrev pub NoneComes : {A : Type 0} → List (Vec Timed A) → List ℕ → ℕ → Type 0
-NoneComes queues begun round = (x : ℕ) → x < length queues
-    → is_behind round (slice_get (queue_at queues x) (slice_index begun x)) ≡ false
-
--- the last of some rounds makes no move
-abbrev pub EndsStill : List (List Move) → Type 0
-EndsStill [] = ⊥
-EndsStill (made ∷ before) = made ≡ []
-
--- rounds that go on until one makes no move and no packet is to come, or until they are so many
-pub record IsWholeRun {A B : Type 0} (queues : List (Vec Timed A)) (groups : List (Vec Move B))
-    (old new : NetworkMachineSpec) (begun flits : List ℕ) (most count : ℕ) : Type 0 where
-  pub simulation : IsSimulation queues groups old new begun flits count
-  pub few : count ≤ most
-  pub still : count < most → EndsStill simulation.rounds
-  pub none : count < most → NoneComes queues begun count

@@ -25,3 +25,4 @@ pub use reason::TrafficReason;
 pub use round::clocked_round;
 pub use senders::{Timed, due_packets, queues_of};
 pub use sentence::TrafficSentence;
+pub use simulating::simulate_round;

@@ -1,0 +1,4 @@
+pub mod Pieces
+pub mod Watching
+pub mod Simulating
+pub mod Telling

@@ -1,0 +1,86 @@
+use Rattle.std.proofs.Common.{◌≡◌, ◌∙◌, refl, sym, subst, arith, length, true, false, None}
+use Rattle.std.proofs.lemmas.List.{length-replicate}
+use Rattle.network_traffic.specs.Plans.{plan_table}
+use Rattle.network_traffic.specs.Labels.{LabelsSpec, HasChannels}
+use Rattle.network_traffic.proofs.Simulating.{watched_none, watched_more, goes_before, goes_now}
+use Rattle.network_traffic.proofs.running.watch_rounds.Goals as goal
+
+pub loop-rounds-init : goal.loop-rounds-init
+loop-rounds-init g c = record {
+  few = omega arith;
+  begun = refl;
+  flits = refl;
+  sends = refl;
+  enabled = refl;
+  made = refl;
+  channels = subst (λ (l : LabelsSpec). HasChannels l (length c.args.plan.now.kinds.now)) (sym c.requires.watch.log.labels)
+      (record { latches = length-replicate (length c.args.plan.now.kinds.now) None; begun = length-replicate (length c.args.plan.now.kinds.now) 0 });
+  stood = c.requires.watch.stood;
+  waited = c.requires.watch.waited;
+  watched = watched_none (plan_table c.args.plan.now) c.args.plan.now.packets.now c.args.queues.now c.args.groups.now c.args.machine.now
+      c.args.begun.now c.args.flits.now (length c.args.made.now) c.args.watch.now
+      (λ x here. c.requires.none_begun x (let size = c.requires.begun in omega (arith, here, size))) c.requires.none_left c.requires.watch;
+}
+
+pub loop-rounds-preserved : goal.loop-rounds-preserved
+loop-rounds-preserved g c =
+    let l = c.loop-rounds in
+    let r = c.simulate_round-count in
+    let w = watched_more (plan_table c.args.plan.now) c.args.plan.now.packets.now c.args.queues.now c.args.groups.now c.args.machine.now l.machine r.new.machine
+    l.begun l.flits r.new.begun r.new.flits l.rounds (length c.args.made.now) c.args.most r.result l.last c.last_of-last.result r.new.made l.watch c.note.new.self c.ends.result
+    l.invariant.watched c.loop-rounds-test.true c.requires.most c.requires.room r.ensures.few (r.auto.made ∙ l.invariant.made)
+    (l.invariant.begun ∙ c.requires.begun) r.auto.flits r.ensures.round r.ensures.runs r.ensures.same r.ensures.begun r.ensures.flits
+    c.note.ensures.rounds c.last_of-last.ensures c.ends.ensures in
+    record {
+      few = (let low = c.loop-rounds-test.true in omega (arith, low));
+      begun = r.auto.begun ∙ l.invariant.begun;
+      flits = r.auto.flits ∙ l.invariant.flits;
+      sends = r.auto.sends ∙ l.invariant.sends;
+      enabled = r.auto.enabled ∙ l.invariant.enabled;
+      made = r.auto.made ∙ l.invariant.made;
+      channels = c.note.ensures.channels;
+      stood = c.note.ensures.stood;
+      waited = c.note.ensures.waited;
+      watched = record { simulates = w.simulates; shows = w.shows; last = w.last; goes = w.on c.if-ends.false };
+    }
+
+pub returns-then-ends : goal.returns-then-ends
+returns-then-ends g c =
+    let l = c.loop-rounds in
+    let r = c.simulate_round-count in
+    let w = watched_more (plan_table c.args.plan.now) c.args.plan.now.packets.now c.args.queues.now c.args.groups.now c.args.machine.now l.machine r.new.machine
+    l.begun l.flits r.new.begun r.new.flits l.rounds (length c.args.made.now) c.args.most r.result l.last c.last_of-last.result r.new.made l.watch c.note.new.self c.ends.result
+    l.invariant.watched c.loop-rounds-test.true c.requires.most c.requires.room r.ensures.few (r.auto.made ∙ l.invariant.made)
+    (l.invariant.begun ∙ c.requires.begun) r.auto.flits r.ensures.round r.ensures.runs r.ensures.same r.ensures.begun r.ensures.flits
+    c.note.ensures.rounds c.last_of-last.ensures c.ends.ensures in
+    record {
+      begun = r.new.begun;
+      simulation = w.simulates.simulation;
+      shows = w.shows;
+      far = record {
+        few = (let low = c.loop-rounds-test.true in omega (arith, low));
+        goes = w.goes;
+        over = w.over ∙ c.if-ends.true;
+        cut = λ no. absurd (let wrong : true ≡ false = no in cc);
+        last = w.last;
+      };
+    }
+
+pub returns : goal.returns
+returns g c =
+    let l = c.loop-rounds in
+    let h = l.invariant.watched in
+    let end = c.loop-rounds-test.false in
+    let few = l.invariant.few in
+    record {
+      begun = l.begun;
+      simulation = h.simulates.simulation;
+      shows = h.shows;
+      far = record {
+        few = few;
+        goes = goes_before c.args.queues.now h.simulates.simulation.rounds h.goes;
+        over = goes_now c.args.queues.now h.simulates.simulation.rounds h.goes;
+        cut = λ no. omega (arith, end, few);
+        last = h.last;
+      };
+    }
