@@ -1,8 +1,9 @@
 /* torusmem: a proved shared memory over a wormhole torus, as a library for simulators (C99, C++).
 
    A machine is made from the texts that the program `torusmem` reads (docs/FORMATS.md), then stepped, looked at and
-   freed. Each call is a function with a contract, and proved (docs/PROVED.md, "torusmem_c: the library for C").
-   No call prints, ends the process or starts a thread, and each call returns.
+   freed. Each call is a function with a contract, and proved (docs/PROVED.md, "torusmem_c: the library for C"), but for
+   the three of torusmem_text.c, which say things in words. No call prints, ends the process or starts a thread, and each
+   call returns.
 
    MEMORY. torusmem_load, torusmem_load_recorded, torusmem_open, torusmem_reopen, torusmem_restore and torusmem_clone
    allocate what the machine needs, torusmem_append and torusmem_ask what a further line needs, and torusmem_free frees
