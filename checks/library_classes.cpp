@@ -58,7 +58,11 @@ void machines() {
   MUST(m.answered(1, index, got) && got.old == 17 && m.word(5) == 20);
   torusmem::check(m.report());
   MUST(thrown(TORUSMEM_NONE, [&] { m.word(8); }).find("word: there is no such") == 0);
-  MUST(thrown(TORUSMEM_FAULT_ADDRESS, [&] { m.append(0, TORUSMEM_LOAD, 8); }).find("append: an address is not below") == 0);
+  MUST(thrown(TORUSMEM_FAULT_ADDRESS, [&] { m.append(0, TORUSMEM_LOAD, 8); }) ==
+       "append: address 8: the machine has the words 0 to 7");
+  MUST(thrown(TORUSMEM_FAULT_PROCESSOR, [&] { m.ask(2, TORUSMEM_LOAD, 8); }) ==
+       "ask: processor 2: the machine has the processors 0 to 1");
+  MUST(thrown(TORUSMEM_NONE, [&] { m.ask(0, TORUSMEM_FENCE, 0); }) == std::string("ask: ") + torusmem_code_text(TORUSMEM_NONE));
   MUST(thrown(TORUSMEM_FAULT_ADDRESS, [] { torusmem::machine(shape, "0 load 8\n"); }) ==
        "scripts:1: address 8: the machine has the words 0 to 7");
   MUST(thrown(TORUSMEM_BAD_REPORT, [] { torusmem::check("torusmem 2\n"); }).find("check: a report breaks a rule") == 0);

@@ -1,8 +1,9 @@
 /* torusmem: a proved shared memory over a wormhole torus, as a library for simulators (C99, C++).
 
    A machine is made from the texts that the program `torusmem` reads (docs/FORMATS.md), then stepped, looked at and
-   freed. Each call is a function with a contract, and proved (docs/PROVED.md, "torusmem_c: the library for C").
-   No call prints, ends the process or starts a thread, and each call returns.
+   freed. Each call is a function with a contract, and proved (docs/PROVED.md, "torusmem_c: the library for C"), but for
+   the three of torusmem_text.c, which say things in words. No call prints, ends the process or starts a thread, and each
+   call returns.
 
    MEMORY. torusmem_load, torusmem_load_recorded, torusmem_open, torusmem_reopen, torusmem_restore and torusmem_clone
    allocate what the machine needs, torusmem_append and torusmem_ask what a further line needs, and torusmem_free frees
@@ -309,6 +310,15 @@ torusmem_outcome torusmem_append(torusmem_machine *m, uint32_t processor, uint32
    this number, or lasts is above 3; EMPTY; or a fault, as of torusmem_append. But for OK nothing has changed. Takes memory as it does. */
 torusmem_outcome torusmem_ask(torusmem_machine *m, uint32_t processor, uint32_t operation, uint32_t address,
                               uint64_t first, uint64_t second, uint32_t lasts) TORUSMEM_RESULT;
+
+/* Says why torusmem_append or torusmem_ask refuses this line, in the words of torusmem_explain: "address 300: the machine has
+   the words 0 to 255". code is what the call has just answered, and the numbers are those that it was given; nothing was
+   done to the machine since. For a code that no line of a text can have, it is what torusmem_code_text says.
+   The sentence is put into out as a string of ASCII, cut to out_length bytes with the zero behind it, as snprintf does.
+   Answers the length of the whole sentence, at most 255. It is plain C of torusmem_text.c, as torusmem_code_text and
+   torusmem_version are, and not proved. */
+size_t torusmem_explain_line(torusmem_machine *m, uint32_t code, uint32_t processor, uint32_t operation, uint32_t address,
+                             uint64_t first, uint64_t second, uint32_t lasts, char *out, size_t out_length);
 
 /* Whether every script is finished. OK, value 1 or 0; EMPTY. */
 torusmem_outcome torusmem_finished(torusmem_machine *m) TORUSMEM_RESULT;
@@ -910,6 +920,7 @@ static inline void torusmem_watch_end_marked(torusmem_watch *w) {
 #define torusmem_finish_clocked(m) torusmem_finish_clocked(TORUSMEM_MACHINE(m, "torusmem_finish_clocked"))
 #define torusmem_append(m, ...) torusmem_append(TORUSMEM_MACHINE(m, "torusmem_append"), __VA_ARGS__)
 #define torusmem_ask(m, ...) torusmem_ask(TORUSMEM_MACHINE(m, "torusmem_ask"), __VA_ARGS__)
+#define torusmem_explain_line(m, ...) torusmem_explain_line(TORUSMEM_MACHINE(m, "torusmem_explain_line"), __VA_ARGS__)
 #define torusmem_finished(m) torusmem_finished(TORUSMEM_MACHINE(m, "torusmem_finished"))
 #define torusmem_moves_left(m) torusmem_moves_left(TORUSMEM_MACHINE(m, "torusmem_moves_left"))
 #define torusmem_shape(m, ...) torusmem_shape(TORUSMEM_MACHINE(m, "torusmem_shape"), __VA_ARGS__)

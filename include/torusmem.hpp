@@ -145,14 +145,17 @@ class machine {
   void clocked_round(uint64_t turn) { granted("clocked_round", torusmem_clocked_round(&held_, turn)); }
   uint64_t finish_clocked() { return granted("finish_clocked", torusmem_finish_clocked(&held_)); }
 
+  // Of append and ask an error says why the line is refused, as "append: address 300: the machine has the words 0 to 255".
   void append(uint32_t processor, uint32_t line, uint32_t address = 0, uint64_t first = 0, uint64_t second = 0,
               uint32_t lasts = 0) {
-    granted("append", torusmem_append(&held_, processor, line, address, first, second, lasts));
+    taken("append", torusmem_append(&held_, processor, line, address, first, second, lasts), processor, line, address,
+          first, second, lasts);
   }
   // The index of the operation, by which answered() finds its answer.
   uint32_t ask(uint32_t processor, uint32_t operation, uint32_t address, uint64_t first = 0, uint64_t second = 0,
                uint32_t lasts = 0) {
-    return number("ask", torusmem_ask(&held_, processor, operation, address, first, second, lasts));
+    return taken("ask", torusmem_ask(&held_, processor, operation, address, first, second, lasts), processor, operation,
+                 address, first, second, lasts);
   }
 
   // Finishes its scripts, and opens a machine that goes on with its words; this one keeps its answers.
@@ -266,6 +269,14 @@ class machine {
  private:
   machine() = default;
   static uint32_t number(const char *call, torusmem_outcome said) { return static_cast<uint32_t>(granted(call, said)); }
+  // What a call answers that gives a processor a line.
+  uint32_t taken(const char *call, torusmem_outcome said, uint32_t processor, uint32_t line, uint32_t address,
+                 uint64_t first, uint64_t second, uint32_t lasts) {
+    if (said.code == TORUSMEM_OK) return static_cast<uint32_t>(said.value);
+    char why[256];
+    torusmem_explain_line(&held_, said.code, processor, line, address, first, second, lasts, why, sizeof why);
+    throw error(std::string(call) + ": " + why, said);
+  }
 
   torusmem_machine held_ = TORUSMEM_MACHINE_INIT;
 };

@@ -1,6 +1,8 @@
-/* What codes say, and the version: link it beside torusmem_heap.c. It compiles as C and as C++.
+/* What codes say, why a line is refused, and the version: link it beside torusmem_heap.c. It compiles as C and as C++.
    `packaging/codes text` writes it, of docs/FORMATS.md and of the proved crate's own words. */
 #include "torusmem.h"
+#include <inttypes.h>
+#include <stdio.h>
 
 static const char *const texts[] = {
   "the call did what it is for",
@@ -41,3 +43,49 @@ const char *torusmem_code_text(uint32_t code) {
 }
 
 const char *torusmem_version(void) { return TORUSMEM_VERSION; }
+
+/* How many operations the script of a processor makes: an index below that has an answer, or will have one. */
+static uint32_t operations_of(torusmem_machine *m, uint32_t processor) {
+  uint32_t least = 0, most = 4096;
+  while (least < most) {
+    uint32_t middle = (least + most) / 2;
+    if (torusmem_answer_of(m, processor, middle).code == TORUSMEM_NONE) most = middle;
+    else least = middle + 1;
+  }
+  return least;
+}
+
+/* The sentence on a line whose operations are too many. */
+static int say_length(torusmem_machine *m, uint32_t tiles, uint32_t processor, uint64_t more, char *out, size_t room) {
+  uint64_t own = operations_of(m, processor) + more, all = more;
+  if (own > 4096)
+    return snprintf(out, room, "%" PRIu64 " operations of processor %" PRIu32 ": a script has at most 4096", own,
+                    processor);
+  for (uint32_t it = 0; it < tiles; it++) all += operations_of(m, it);
+  return snprintf(out, room, "%" PRIu64 " operations: all scripts together have at most 65536", all);
+}
+
+/* The sentences are those of crates/sentences. The name stands in brackets, as a debug build has a macro of this name. */
+size_t (torusmem_explain_line)(torusmem_machine *m, uint32_t code, uint32_t processor, uint32_t operation, uint32_t address,
+                               uint64_t first, uint64_t second, uint32_t lasts, char *out, size_t out_length) {
+  struct torusmem_shape shape;
+  size_t room = out_length < 256 ? out_length : 256; /* all sentences are shorter */
+  int length;
+  (void)first, (void)lasts;
+  if (torusmem_shape(m, &shape).code != TORUSMEM_OK) code = TORUSMEM_EMPTY;
+  if (code == TORUSMEM_FAULT_PROCESSOR)
+    length = snprintf(out, room, "processor %" PRIu32 ": the machine has the processors 0 to %" PRIu32, processor,
+                      shape.tiles - 1);
+  else if (code == TORUSMEM_FAULT_ADDRESS)
+    length = snprintf(out, room, "address %" PRIu32 ": the machine has the words 0 to %" PRIu32, address,
+                      shape.words - 1);
+  else if (code == TORUSMEM_FAULT_RANGE)
+    length = snprintf(out, room, "%" PRIu64 " loads: a spin makes 1 to 4096", second);
+  else if (code == TORUSMEM_FAULT_LAST)
+    length = snprintf(out, room, "last: processor %" PRIu32 " has no operation before it", processor);
+  else if (code == TORUSMEM_FAULT_LENGTH)
+    length = say_length(m, shape.tiles, processor, operation == TORUSMEM_SPIN ? second : 1, out, room);
+  else
+    length = snprintf(out, room, "%s", torusmem_code_text(code));
+  return length > 0 ? (size_t)length : 0;
+}

@@ -710,7 +710,7 @@ class Words(unittest.TestCase):
         names += ["FENCE", "SPIN", "FIRST_IS_LAST", "SECOND_IS_LAST"]
         codes = {name: getattr(library, name) for name in names}
         self.assertEqual(numbers, {**codes, "REQUEST": 0, "REPLY": 1})
-        calls = set(re.findall(r"(?m)^(?:void|const char|torusmem_\w+) \*?torusmem_(\w+)\(", header))
+        calls = set(re.findall(r"(?m)^(?:void|size_t|const char|torusmem_\w+) \*?torusmem_(\w+)\(", header))
         self.assertEqual(calls, set(library.CALLS))
         version = re.findall(r'TORUSMEM_VERSION "(.*)"', header)[0]
         self.assertEqual(version, torusmem.__version__)

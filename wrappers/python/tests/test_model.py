@@ -50,8 +50,15 @@ class Appended(unittest.TestCase):
             machine.finish()
             self.assertEqual((machine.word(5), machine.word(6)), (2**64 - 1, 2**64 - 1))
             self.assertEqual([it.old for it in machine.answers(1)], [17, 17])
-            for refused in ((2, Operation.LOAD, 0), (0, Operation.LOAD, 8), (0, SPIN, 0, 0, 4097), (1, SPIN, 0, 0, 4096)):
-                self.assertRaises(ValueError, machine.append, *refused)
+            for refused, why in (
+                ((2, Operation.LOAD, 0), "processor 2: the machine has the processors 0 to 1 (F8)"),
+                ((0, Operation.LOAD, 8), "address 8: the machine has the words 0 to 7 (F7)"),
+                ((0, SPIN, 0, 0, 4097), "4097 loads: a spin makes 1 to 4096 (F6)"),
+                ((1, SPIN, 0, 0, 4096), "4098 operations of processor 1: a script has at most 4096 (F9)"),
+            ):
+                with self.assertRaises(ValueError) as caught:
+                    machine.append(*refused)
+                self.assertEqual(str(caught.exception), f"torusmem: {why}")
             self.assertRaises(ValueError, machine.append, 0, Operation.STORE, 0, 2**64)
             self.assertRaises(IndexError, machine.append, 0, 12)
             self.assertTrue(machine.finished)
@@ -75,6 +82,8 @@ class Asked(unittest.TestCase):
             self.assertEqual(machine.word(5), 16)
             for refused in ((0, Operation.LOAD, 5), (2, Operation.LOAD, 5), (1, Operation.LOAD, 8)):
                 self.assertRaises(ValueError, machine.ask, *refused)
+            with self.assertRaisesRegex(ValueError, "^torusmem: address 8: the machine has the words 0 to 7 .F7.$"):
+                machine.ask(1, Operation.LOAD, 8)
             self.assertRaises(IndexError, machine.ask, 1, FENCE)
             self.assertRaises(IndexError, machine.answer_of, 1, 3)
             self.assertRaises(IndexError, machine.answer_of, 2, 0)

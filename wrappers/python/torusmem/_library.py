@@ -128,6 +128,10 @@ CALLS = {
     "finish_clocked": (Outcome, [_M]),
     "append": (Outcome, [_M, c_uint32, c_uint32, c_uint32, c_uint64, c_uint64, c_uint32]),
     "ask": (Outcome, [_M, c_uint32, c_uint32, c_uint32, c_uint64, c_uint64, c_uint32]),
+    "explain_line": (
+        c_size_t,
+        [_M, c_uint32, c_uint32, c_uint32, c_uint32, c_uint64, c_uint64, c_uint32, c_char_p, c_size_t],
+    ),
     "finished": (Outcome, [_M]),
     "moves_left": (Outcome, [_M]),
     "shape": (Outcome, [_M, POINTER(RawShape)]),

@@ -15,8 +15,6 @@ from ._records import MOST, Path, Shape, Steps, Text, bytes_of, number_of
 
 
 NO_RECORD = "torusmem: the machine keeps no record: load it with recorded=True"
-# What a fault of a line speaks of.
-_SUBJECTS = {6: "{loads} loads: ", 7: "address {address}: ", 8: "processor {processor}: "}
 
 
 class Machine(Looks):
@@ -226,8 +224,9 @@ class Machine(Looks):
         lasts = (_library.FIRST_IS_LAST if first is None else 0) + (_library.SECOND_IS_LAST if second is None else 0)
         said = call(self._at, *words, *values, lasts)
         if said.code in REASONS and said.code != _library.FAULT_MEMORY:
-            named = _SUBJECTS.get(said.code, "").format(processor=words[0], address=words[2], loads=values[1])
-            raise ValueError(f"torusmem: {named}{REASONS[said.code]} (F{said.code})")
+            why = create_string_buffer(256)
+            self._calls.explain_line(self._at, said.code, *words, *values, lasts, why, len(why))
+            raise ValueError(f"torusmem: {why.value.decode('ascii')} (F{said.code})")
         if said.code == _library.BEHIND_SPIN:
             raise ValueError("torusmem: the script has a spin, and the index of what comes behind it isn't known")
         return self._value(said, "such line")

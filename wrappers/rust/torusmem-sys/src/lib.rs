@@ -339,6 +339,18 @@ extern "C" {
         second: u64,
         lasts: u32,
     ) -> torusmem_outcome;
+    pub fn torusmem_explain_line(
+        m: *mut torusmem_machine,
+        code: u32,
+        processor: u32,
+        operation: u32,
+        address: u32,
+        first: u64,
+        second: u64,
+        lasts: u32,
+        out: *mut c_char,
+        out_length: usize,
+    ) -> usize;
     pub fn torusmem_finished(m: *mut torusmem_machine) -> torusmem_outcome;
     pub fn torusmem_moves_left(m: *mut torusmem_machine) -> torusmem_outcome;
     pub fn torusmem_shape(m: *mut torusmem_machine, out: *mut torusmem_shape) -> torusmem_outcome;

@@ -26,7 +26,7 @@ mod raw;
 mod trace;
 mod watch;
 
-pub use line::{Line, Refused, Value};
+pub use line::{Line, Refused, RefusedLine, Value};
 pub use log::{model, LogEntry, LogFault, Obeyed};
 pub use network::{network, By, Fill, Link, Verdict, Why};
 use raw::Raw;

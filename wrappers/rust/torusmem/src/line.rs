@@ -35,7 +35,23 @@ pub enum Line {
     Spin { address: u32, sought: u64, loads: u32 },
 }
 
-/// Why a machine refuses a line; it is as it was then.
+/// A line that a machine refuses; the machine is as it was then.
+#[derive(Clone, Debug, PartialEq, Eq)]
+pub struct RefusedLine {
+    pub why: Refused,
+    /// The sentence on it, as `address 300: the machine has the words 0 to 255`.
+    pub sentence: String,
+}
+
+impl fmt::Display for RefusedLine {
+    fn fmt(&self, f: &mut fmt::Formatter) -> fmt::Result {
+        f.write_str(&self.sentence)
+    }
+}
+
+impl Error for RefusedLine {}
+
+/// Why a machine refuses a line.
 #[derive(Clone, Copy, Debug, PartialEq, Eq, Hash)]
 pub enum Refused {
     /// There is no such processor (F8).
@@ -76,36 +92,44 @@ impl Error for Refused {}
 impl Machine {
     /// Gives a processor a further line at the end of its script, at any time, before steps or after them. Where the
     /// processor has reported that its script is finished, all reports are taken back first.
-    pub fn append(&mut self, processor: u32, line: Line) -> Result<(), Refused> {
+    pub fn append(&mut self, processor: u32, line: Line) -> Result<(), RefusedLine> {
         let (operation, address, first, second) = parts(line);
         let values = (number(first), number(second));
         let said = self.raw.append(processor, operation, address, values, lasts(first, second));
-        refused(said).map(|_| ())
+        self.taken(said, processor, line).map(|_| ())
     }
 
     /// Gives a processor an operation, as `append` does, and answers its index among the processor's operations, from 0
     /// in the order of issue: the operation that the processor issues under it is the one that was asked.
-    pub fn ask(&mut self, processor: u32, line: Line) -> Result<u32, Refused> {
+    pub fn ask(&mut self, processor: u32, line: Line) -> Result<u32, RefusedLine> {
         let (operation, address, first, second) = parts(line);
         let values = (number(first), number(second));
         let said = self.raw.ask(processor, operation, address, values, lasts(first, second));
-        refused(said).map(|index| index as u32)
+        self.taken(said, processor, line).map(|index| index as u32)
     }
-}
 
-/// What is answered where a line is taken, or why it is refused.
-fn refused(said: sys::torusmem_outcome) -> Result<u64, Refused> {
-    Err(match said.code {
-        sys::TORUSMEM_OK => return Ok(said.value),
-        sys::TORUSMEM_NONE => Refused::NoOperation,
-        sys::TORUSMEM_BEHIND_SPIN => Refused::BehindSpin,
-        sys::TORUSMEM_FAULT_PROCESSOR => Refused::Processor,
-        sys::TORUSMEM_FAULT_ADDRESS => Refused::Address,
-        sys::TORUSMEM_FAULT_RANGE => Refused::Loads,
-        sys::TORUSMEM_FAULT_LAST => Refused::Last,
-        sys::TORUSMEM_FAULT_LENGTH => Refused::Length,
-        _ => Refused::Memory,
-    })
+    /// What is answered where a line is taken, or why it is refused.
+    fn taken(&mut self, said: sys::torusmem_outcome, processor: u32, line: Line) -> Result<u64, RefusedLine> {
+        let why = match said.code {
+            sys::TORUSMEM_OK => return Ok(said.value),
+            sys::TORUSMEM_NONE => Refused::NoOperation,
+            sys::TORUSMEM_BEHIND_SPIN => Refused::BehindSpin,
+            sys::TORUSMEM_FAULT_PROCESSOR => Refused::Processor,
+            sys::TORUSMEM_FAULT_ADDRESS => Refused::Address,
+            sys::TORUSMEM_FAULT_RANGE => Refused::Loads,
+            sys::TORUSMEM_FAULT_LAST => Refused::Last,
+            sys::TORUSMEM_FAULT_LENGTH => Refused::Length,
+            _ => Refused::Memory,
+        };
+        if let Refused::NoOperation = why {
+            return Err(RefusedLine { why, sentence: why.to_string() });
+        }
+        let (operation, address, first, second) = parts(line);
+        let values = (number(first), number(second));
+        let lasts = lasts(first, second);
+        let sentence = self.raw.explain_line(said.code, processor, operation, address, values, lasts);
+        Err(RefusedLine { why, sentence })
+    }
 }
 
 /// Which of two values are `last`.

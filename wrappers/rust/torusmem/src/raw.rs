@@ -148,6 +148,26 @@ impl Raw {
         unsafe { torusmem_ask(&mut self.0, processor, operation, address, values.0, values.1, lasts) }
     }
 
+    /// The sentence on a line that a call refused by this code.
+    pub fn explain_line(
+        &mut self,
+        code: u32,
+        processor: u32,
+        operation: u32,
+        address: u32,
+        values: (u64, u64),
+        lasts: u32,
+    ) -> String {
+        let mut out: [c_char; 256] = [0; 256];
+        let (machine, at, room) = (&mut self.0, out.as_mut_ptr(), out.len());
+        // SAFETY: the machine is this one's alone, and so is the room, which has as many bytes as it says. Numbers may be
+        // any. What is written ends with a zero.
+        unsafe {
+            torusmem_explain_line(machine, code, processor, operation, address, values.0, values.1, lasts, at, room);
+            CStr::from_ptr(at).to_string_lossy().into_owned()
+        }
+    }
+
     pub fn run(&mut self, attempts: &[torusmem_attempt]) -> torusmem_outcome {
         let none = torusmem_attempt::default();
         // SAFETY: the machine is this one's alone; the slice has as many attempts as it says, and is only read.

@@ -54,15 +54,21 @@ fn lines_come_later() {
     machine.finish();
     machine.round();
     let refused = [
-        (2, Line::Load(8), Refused::Processor),
-        (0, Line::Load(8), Refused::Address),
-        (0, Line::Spin { address: 5, sought: 0, loads: 0 }, Refused::Loads),
-        (0, Line::Spin { address: 5, sought: 0, loads: 4097 }, Refused::Loads),
-        (1, Line::Store(5, Value::Last), Refused::Last),
-        (0, Line::Spin { address: 5, sought: 0, loads: 4096 }, Refused::Length),
+        (2, Line::Load(8), Refused::Processor, "processor 2: the machine has the processors 0 to 1"),
+        (0, Line::Load(8), Refused::Address, "address 8: the machine has the words 0 to 7"),
+        (0, Line::Spin { address: 5, sought: 0, loads: 0 }, Refused::Loads, "0 loads: a spin makes 1 to 4096"),
+        (0, Line::Spin { address: 5, sought: 0, loads: 4097 }, Refused::Loads, "4097 loads: a spin makes 1 to 4096"),
+        (1, Line::Store(5, Value::Last), Refused::Last, "last: processor 1 has no operation before it"),
+        (
+            0,
+            Line::Spin { address: 5, sought: 0, loads: 4096 },
+            Refused::Length,
+            "4098 operations of processor 0: a script has at most 4096",
+        ),
     ];
-    for (processor, line, why) in refused {
-        assert_eq!(machine.append(processor, line), Err(why), "{line:?}");
+    for (processor, line, why, sentence) in refused {
+        let said = machine.append(processor, line).unwrap_err();
+        assert_eq!((said.why, said.to_string().as_str()), (why, sentence), "{line:?}");
     }
     assert!(machine.finished());
     assert_eq!(machine.append(1, Line::Load(5)), Ok(()));
@@ -81,10 +87,16 @@ fn lines_come_later() {
 #[test]
 fn operations_are_asked() {
     let mut machine = Machine::load(&read("examples/machine.txt"), b"0 spin 5 0 2\n").unwrap();
-    assert_eq!(machine.ask(0, Line::Load(5)), Err(Refused::BehindSpin));
-    assert_eq!(machine.ask(1, Line::Fence), Err(Refused::NoOperation));
-    assert_eq!(machine.ask(1, Line::Load(8)), Err(Refused::Address));
-    assert_eq!(machine.ask(2, Line::Load(5)), Err(Refused::Processor));
+    let refused = [
+        (0, Line::Load(5), Refused::BehindSpin, torusmem::code_text(25)),
+        (1, Line::Fence, Refused::NoOperation, "a fence or a spin is no operation that can be asked"),
+        (1, Line::Load(8), Refused::Address, "address 8: the machine has the words 0 to 7"),
+        (2, Line::Load(5), Refused::Processor, "processor 2: the machine has the processors 0 to 1"),
+    ];
+    for (processor, line, why, sentence) in refused {
+        let said = machine.ask(processor, line).unwrap_err();
+        assert_eq!((said.why, said.sentence.as_str()), (why, sentence), "{line:?}");
+    }
     assert_eq!(machine.answer_of(1, 0), None);
     assert_eq!(machine.ask(1, Line::Store(5, 17.into())), Ok(0));
     assert_eq!(machine.append(1, Line::Fence), Ok(()));
