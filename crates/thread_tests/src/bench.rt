@@ -86,6 +86,16 @@ fn last_probe(fabric: &Fabric, probes: &mut Vec<ProbeSeat>) -> Option<ProbeSeat>
     probes.pop()
 }
 
+/// Puts a worker in front of some others.
+fn put_first(fabric: &Fabric, workers: &mut Vec<Worker>, worker: Worker) -> Result<(), Fail>
+    requires workers { All (λ w. IsSeatOf fabric.now w.knows) workers.old.items }
+    requires worker { IsSeatOf fabric.now worker.knows }
+    ensures { All (λ w. IsSeatOf fabric.now w.knows) workers.new.items }
+{
+    workers.insert(0, worker)?;
+    Ok(())
+}
+
 /// Runs the workers, of which there are at most 16.
 fn run_all<R: Threads + Wait + Sync, G: Gate>(
     rt: &R,
@@ -144,7 +154,7 @@ impl Bench {
     /// The last seat becomes the first worker's.
     fn seat_worker(&mut self) -> Result<(), Fail> {
         if let Some(seat) = last_seat(&self.fabric, &mut self.seats) {
-            self.workers.insert(0, Worker::new(seat))?;
+            put_first(&self.fabric, &mut self.workers, Worker::new(seat))?;
         }
         Ok(())
     }
