@@ -1,0 +1,3 @@
+pub mod Unordered
+pub mod Known
+pub mod Answers
