@@ -16,10 +16,10 @@ as_list (Some y) = refl
 single : {X Y : Type 0} (f : X → Option Y) (x : X) → filter_map f (x ∷ []) ≡ option_to_list (f x)
 single f x = as_list (f x)
 
-next_item : {X : Type 0} (xs : List X) (k : ℕ) (x : X) → slice_get xs k ≡ Some x → take (k + 1) xs ≡ take k xs ++ x ∷ []
+pub next_item : {X : Type 0} (xs : List X) (k : ℕ) (x : X) → slice_get xs k ≡ Some x → take (k + 1) xs ≡ take k xs ++ x ∷ []
 next_item xs k x is = take_next xs k ∙ ap (λ o. take k xs ++ option_to_list o) is
 
-range_next : (n : ℕ) → range_with_len 0 (n + 1) ≡ range_with_len 0 n ++ n ∷ []
+pub range_next : (n : ℕ) → range_with_len 0 (n + 1) ≡ range_with_len 0 n ++ n ∷ []
 range_next n =
     let one : n + 1 ≡ suc n = omega arith in
     let none : 0 + n ≡ n = omega arith in

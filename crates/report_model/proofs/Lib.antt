@@ -4,3 +4,6 @@ pub mod Kept
 pub mod Reading
 pub mod Counted
 pub mod Answered
+pub mod Scripted
+pub mod Walked
+pub mod Answering

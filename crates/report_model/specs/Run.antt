@@ -1,6 +1,7 @@
 -- What the lines of a report say of its run (this project's own format).
-use Rattle.std.specs.Prelude.{ℕ, ◌+◌, List, [], ◌∷◌, ◌++◌, fold}
+use Rattle.std.specs.Prelude.{ℕ, ◌+◌, List, [], ◌∷◌, ◌++◌, fold, Option, Some, None}
 use Rattle.report_lines.specs.declared.line.OrderLine.{OrderLine}
+use Rattle.report_lines.specs.declared.line.Radices.{Radices}
 use Rattle.report_lines.specs.declared.line.ReportLine.{ReportLine}
 use Rattle.report_lines.specs.declared.line.ReportLine.TheVariants.{Header, Shape, Init, Entry}
 use Rattle.report_lines.specs.declared.line.ReportLine.TheVariants.{Answer, Word, Order}
@@ -10,10 +11,11 @@ use Rattle.model_records.specs.declared.entry.LogEntry.TheVariants as entry
 use Rattle.report_model.specs.declared.run.RunLines.{RunLines}
 use Rattle.report_model.specs.declared.run.ServedLine.{ServedLine}
 
--- how many lines there are, the number of words, the opening words, and the entries, each with its
--- line, and the order lines
+-- how many lines there are, the radices and the number of words, the opening words, and the entries,
+-- each with its line, and the order lines
 pub record RunSpec : Type 0 where
   pub count : ℕ
+  pub radices : Option Radices
   pub words : ℕ
   pub inits : List LineEntry
   pub entries : List ServedLine
@@ -21,12 +23,14 @@ pub record RunSpec : Type 0 where
 
 -- before the first line
 abbrev pub nothing_run : RunSpec
-nothing_run = record { count = 0; words = 0; inits = []; entries = []; orders = [] }
+nothing_run =
+    record { count = 0; radices = None; words = 0; inits = []; entries = []; orders = [] }
 
 -- with one more line
 abbrev pub run_after : RunSpec → ReportLine → RunSpec
 run_after r (Header version) = record r { count = r.count + 1 }
-run_after r (Shape radices words) = record r { count = r.count + 1; words = words }
+run_after r (Shape radices words) =
+    record r { count = r.count + 1; radices = Some radices; words = words }
 run_after r (Init address word) = record r {
   count = r.count + 1;
   inits = r.inits ++ (record { line = r.count + 1; entry = entry.Init address word }) ∷ [];
@@ -48,6 +52,7 @@ report_run_of lines = fold run_after nothing_run lines
 abbrev pub run_seen : {A : Type 0} → RunLines A → RunSpec
 run_seen r = record {
   count = r.count;
+  radices = r.radices;
   words = r.words;
   inits = r.inits.items;
   entries = r.entries.items;

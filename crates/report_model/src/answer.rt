@@ -26,8 +26,28 @@ pub enum NoReportAnswer {
     Memory,
 }
 
+/// Why there is no answer with the fences of scripts.
+#[derive(Clone, Copy)]
+pub enum NoTextsAnswer {
+    /// There is none on the report or its log.
+    Report(NoReportAnswer),
+    /// The report is of a machine of other radices or words, or the scripts are: the line of its shape.
+    OtherShape {
+        line: u64,
+    },
+    /// An operation of the report isn't the one that its processor's script issues there.
+    OtherOperation {
+        /// The line of its entry.
+        line: u64,
+        processor: u32,
+        /// How many lines of that script, fences too, stand before the one whose operation comes next:
+        /// its place, or how many lines the script has where none is left.
+        passed: usize,
+    },
+}
+
 /// Whether there are entries, but no order lines.
-fn lacks_order<A: Allocator>(run: &RunLines<A>) -> bool
+pub(crate) fn lacks_order<A: Allocator>(run: &RunLines<A>) -> bool
     ensures { result ≡ lacks_order (run_seen run.now) }
 {
     !run.entries.is_empty() && run.orders.is_empty()

@@ -2,12 +2,15 @@
 
 ghost use Rattle.std.specs.Prelude.{◌≡◌, ◌++◌, ◌≤◌, IfOk, OnOk, length, map};
 ghost use Rattle.std.specs.List.{flat_map};
-ghost use Rattle.report_model.specs.Entries.{entries_of, made_entry, placed_entries, service_entries, services};
+ghost use Rattle.report_model.specs.Entries.{entries_with, made_entry, placed_entry};
+ghost use Rattle.report_model.specs.Entries.{entries_of, service_entries, services};
+ghost use Rattle.report_model.specs.Indexes.{operation_step};
+ghost use Rattle.report_model.specs.Rows.{rows_of};
 ghost use Rattle.report_model.specs.Run.{run_seen};
 
-use crate::indexes::{name_issued, names_of};
-use crate::made::{issues_of, made_of};
-use crate::row::{ReportRow, row_at};
+use crate::indexes::{issues_of_steps, name_issued, names_of};
+use crate::made::made_of;
+use crate::row::{ProgramStep, ReportRow, operation_step, row_at, step_at};
 use crate::rows::rows_of;
 use crate::run::RunLines;
 use model_records::{LineEntry, LogEntry, Named};
@@ -15,19 +18,19 @@ use model_text::placing::places_in;
 use packet::Op;
 use std::alloc::{AllocError, Allocator};
 
-/// An operation is made.
-fn made_entry(row: ReportRow) -> LineEntry
-    ensures { result ≡ made_entry row }
+/// An operation or a fence is made.
+fn made_entry(step: ProgramStep) -> LineEntry
+    ensures { result ≡ made_entry step }
 {
     LineEntry {
-        line: row.line,
-        entry: LogEntry::Made(row.source, Some(row.operation)),
+        line: step.line,
+        entry: LogEntry::Made(step.source, step.operation),
     }
 }
 
 /// An operation takes its place on its word.
 fn placed(row: ReportRow, name: Named) -> LogEntry
-    ensures { result ≡ placed_entries row name }
+    ensures { result ≡ placed_entry row name }
 {
     match row.operation.op {
         Op::Load => LogEntry::Served(name),
@@ -54,32 +57,32 @@ fn put_service<A: Allocator>(
     Ok(())
 }
 
-/// Adds operations that are made.
+/// Adds steps that are made.
 fn put_made<A: Allocator>(
     entries: &mut Vec<LineEntry, A>,
-    made: &[ReportRow],
+    steps: &[ProgramStep],
 ) -> Result<(), AllocError>
-    ensures { OnOk result (entries.new.items ≡ entries.old.items ++ map made_entry made.now) }
+    ensures { OnOk result (entries.new.items ≡ entries.old.items ++ map made_entry steps.now) }
 {
-    for k in 0..made.len() {
-        entries.push(made_entry(row_at(made, k)))?;
+    for k in 0..steps.len() {
+        entries.push(made_entry(step_at(steps, k)))?;
     }
     Ok(())
 }
 
-/// Adds services, of operations of which these are all in the order of their issues.
+/// Adds services, of operations that are among some steps.
 fn put_services<A: Allocator + Copy>(
     alloc: A,
     entries: &mut Vec<LineEntry, A>,
-    made: &[ReportRow],
+    steps: &[ProgramStep],
     rows: &[ReportRow],
 ) -> Result<(), AllocError>
-    requires { length made.now ≤ 196609 }
+    requires { length steps.now ≤ 25165952 }
     ensures { OnOk result (entries.new.items
-        ≡ entries.old.items ++ flat_map (services made.now) rows.now) }
+        ≡ entries.old.items ++ flat_map (services steps.now) rows.now) }
 {
-    let names = names_of(alloc, made)?;
-    let issues = issues_of(alloc, made)?;
+    let names = names_of(alloc, steps)?;
+    let issues = issues_of_steps(alloc, steps)?;
     let places = places_in(alloc, &issues, 196609)?;
     for k in 0..rows.len() {
         let row = row_at(rows, k);
@@ -89,7 +92,33 @@ fn put_services<A: Allocator + Copy>(
     Ok(())
 }
 
-/// The entries of the log that a report is.
+/// The entries of a report as a log, where its processors' programs are these steps.
+///
+/// Errors: memory.
+pub(crate) fn entries_with<A: Allocator + Copy>(
+    alloc: A,
+    run: &RunLines<A>,
+    rows: &[ReportRow],
+    steps: &[ProgramStep],
+) -> Result<Vec<LineEntry, A>, AllocError>
+    requires rows { rows.now ≡ rows_of (run_seen run.now) }
+    requires few { length steps.now ≤ 25165952 }
+    ensures { IfOk result (λ entries. entries.items ≡ entries_with (run_seen run.now) steps.now) }
+{
+    let mut entries = Vec::from_slice(alloc, &run.inits)?;
+    put_made(&mut entries, steps)?;
+    put_services(alloc, &mut entries, steps, rows)?;
+    Ok(entries)
+}
+
+/// Operations as steps of their processors' programs.
+fn steps_of<A: Allocator>(alloc: A, rows: &[ReportRow]) -> Result<Vec<ProgramStep, A>, AllocError>
+    ensures { IfOk result (λ steps. steps.items ≡ map operation_step rows.now) }
+{
+    rows.iter().map(|row| operation_step(*row)).collect(alloc)
+}
+
+/// The entries of a report as a log without fences.
 ///
 /// Errors: memory.
 pub(crate) fn entries_of<A: Allocator + Copy>(
@@ -100,8 +129,6 @@ pub(crate) fn entries_of<A: Allocator + Copy>(
 {
     let rows = rows_of(alloc, run)?;
     let made = made_of(alloc, &rows)?;
-    let mut entries = Vec::from_slice(alloc, &run.inits)?;
-    put_made(&mut entries, &made)?;
-    put_services(alloc, &mut entries, &made, &rows)?;
-    Ok(entries)
+    let steps = steps_of(alloc, &made)?;
+    entries_with(alloc, run, &rows, &steps)
 }

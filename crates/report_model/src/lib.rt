@@ -4,13 +4,17 @@
 
 pub mod answer;
 mod entries;
+pub mod fenced;
 mod indexes;
 mod made;
+mod program;
 pub mod row;
 mod rows;
 pub mod run;
 mod running;
+mod standing;
 
-pub use answer::{NoReportAnswer, answer_to_report};
-pub use row::ReportRow;
+pub use answer::{NoReportAnswer, NoTextsAnswer, answer_to_report};
+pub use fenced::answer_to_report_of;
+pub use row::{ProgramStep, ReportRow};
 pub use run::{RunLines, ServedLine};

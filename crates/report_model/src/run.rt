@@ -4,7 +4,7 @@ ghost use Rattle.std.specs.Prelude.{◌≡◌, ◌+◌, ◌<◌, ◌^◌, OnOk};
 ghost use Rattle.report_model.specs.Run.{nothing_run, run_after, run_seen};
 
 use model_records::{LineEntry, LogEntry};
-use report_lines::{EntryLine, OrderLine, ReportLine};
+use report_lines::{EntryLine, OrderLine, Radices, ReportLine};
 use std::alloc::{AllocError, Allocator, Global};
 
 /// An entry of a report, with its line.
@@ -20,6 +20,8 @@ pub struct ServedLine {
 pub struct RunLines<A: Allocator = Global> {
     /// How many lines there are.
     pub count: u64,
+    /// The radices, once the line of the shape is taken.
+    pub radices: Option<Radices>,
     /// The number of words.
     pub words: u32,
     /// The opening words.
@@ -35,6 +37,7 @@ impl<A: Allocator + Copy> RunLines<A> {
     {
         RunLines {
             count: 0,
+            radices: None,
             words: 0,
             inits: Vec::new(alloc),
             entries: Vec::new(alloc),
@@ -50,7 +53,10 @@ impl<A: Allocator + Copy> RunLines<A> {
         self.count += 1;
         match line {
             ReportLine::Header(_) => {}
-            ReportLine::Shape(_, words) => self.words = *words,
+            ReportLine::Shape(radices, words) => {
+                self.radices = Some(*radices);
+                self.words = *words;
+            }
             ReportLine::Init(address, word) => self.inits.push(LineEntry {
                 line: self.count,
                 entry: LogEntry::Init(*address, *word),

@@ -1,19 +1,24 @@
-use Rattle.std.proofs.Common.{◌∙◌, ◌++◌, List, map, ap}
-use Rattle.std.specs.List.{flat_map}
-use Rattle.report_model.specs.declared.row.ReportRow.{ReportRow}
-use Rattle.report_model.specs.Entries.{made_entry, services}
-use Rattle.report_model.specs.Rows.{made_of}
+use Rattle.std.proofs.Common.{◌≡◌, ◌∙◌, ◌≤◌, map, length, ap, arith}
+use Rattle.std.proofs.lemmas.List.{length-map}
+use Rattle.report_model.specs.Indexes.{operation_step}
+use Rattle.report_model.specs.Rows.{made_of, rows_of}
 use Rattle.report_model.specs.Run.{run_seen}
-use Rattle.report_model.proofs.Entered.{all_entered}
+use Rattle.report_model.proofs.Entered.{of_entries}
 use Rattle.report_model.proofs.entries.entries_of.Goals as goal
+
+pub entries_with-requires-clause-rows : goal.entries_with-requires-clause-rows
+entries_with-requires-clause-rows g c = c.deref-3.ensures.value ∙ c.in_ok-rows.ensures
+
+pub entries_with-requires-clause-few : goal.entries_with-requires-clause-few
+entries_with-requires-clause-few g c =
+    let long : length c.deref-4.result.now ≡ length c.in_ok-made.made.items =
+    ap length (c.deref-4.ensures.value ∙ c.in_ok-steps.ensures ∙ ap (map operation_step) c.deref-2.ensures.value)
+    ∙ length-map c.in_ok-made.made.items operation_step in
+    let few : length c.in_ok-made.made.items ≤ 196609 = c.in_ok-made.ensures.few in omega (arith, long, few)
 
 pub returns : goal.returns
 returns g c =
-    let made : List ReportRow = c.in_ok-made.made.items in
-    all_entered (run_seen c.args.run.now) c.in_ok-rows.rows.items made c.in_ok-entries.entries.items c.put_made.new.entries.items
-    c.put_services.new.entries.items c.in_ok-rows.ensures (c.in_ok-made.ensures.rows ∙ ap made_of c.deref.ensures.value)
-    (c.in_ok-entries.ensures.items ∙ c.deref-2.ensures.value)
-    (c.in_ok-put_made.ensures ∙ ap (λ (m : List ReportRow). c.in_ok-entries.entries.items ++ map made_entry m) c.deref-3.ensures.value)
-    (c.in_ok-put_services.ensures
-    ∙ (ap (λ (m : List ReportRow). c.put_made.new.entries.items ++ flat_map (services m) c.deref-5.result.now) c.deref-4.ensures.value
-    ∙ ap (λ (x : List ReportRow). c.put_made.new.entries.items ++ flat_map (services made) x) c.deref-5.ensures.value))
+    let steps : c.deref-4.result.now ≡ map operation_step (made_of (rows_of (run_seen c.args.run.now))) =
+    c.deref-4.ensures.value ∙ c.in_ok-steps.ensures
+    ∙ ap (map operation_step) (c.deref-2.ensures.value ∙ c.in_ok-made.ensures.rows ∙ ap made_of (c.deref.ensures.value ∙ c.in_ok-rows.ensures)) in
+    of_entries (run_seen c.args.run.now) c.deref-4.result.now c.entries_with.result steps c.entries_with.ensures

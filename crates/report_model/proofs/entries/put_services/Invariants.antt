@@ -5,4 +5,4 @@ use Rattle.report_model.proofs.entries.put_services.Given as goal
 
 -- the services so far
 abbrev pub invariant-loop-k : goal.invariant-loop-k
-invariant-loop-k g l = l.entries.items ≡ l.fn.entries.items ++ flat_map (services l.made) (take l.k l.rows)
+invariant-loop-k g l = l.entries.items ≡ l.fn.entries.items ++ flat_map (services l.steps) (take l.k l.rows)

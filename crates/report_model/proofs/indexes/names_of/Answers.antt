@@ -5,7 +5,7 @@ use Rattle.std.specs.List.{range_with_len}
 use Rattle.std.specs.Map.{lookup}
 use Rattle.std.specs.Ordering.{nat_cmp}
 use Rattle.model_text.proofs.Growing.{ranged_more}
-use Rattle.report_model.specs.declared.row.ReportRow.{ReportRow}
+use Rattle.report_model.specs.declared.row.ProgramStep.{ProgramStep}
 use Rattle.report_model.specs.Indexes.{made_before, name_at}
 use Rattle.report_model.proofs.Counted.{counts_more, named}
 use Rattle.report_model.proofs.indexes.names_of.Goals as goal
@@ -18,19 +18,19 @@ loop-j-init g c = record {
 
 pub loop-j-preserved : goal.loop-j-preserved
 loop-j-preserved g c =
-    let made : List ReportRow = c.args.made.now in
+    let steps : List ProgramStep = c.args.steps.now in
     let j : ℕ = c.loop-j.j in
-    let row : ReportRow = c.row_at-processor.result in
+    let step : ProgramStep = c.step_at-processor.result in
     let index : ℕ = c.made_by-index.result in
-    let counted : index ≡ made_before made row.source j = c.made_by-index.ensures ∙ c.loop-j.invariant.counts row.source in
+    let counted : index ≡ made_before steps step.source j = c.made_by-index.ensures ∙ c.loop-j.invariant.counts step.source in
     record {
-      names = ranged_more (name_at made) j [] c.loop-j.names.items c.push.new.self.items _ (named made j index row c.row_at-processor.ensures counted)
+      names = ranged_more (name_at steps) j [] c.loop-j.names.items c.push.new.self.items _ (named steps j index step c.step_at-processor.ensures counted)
           c.in_ok-push.ensures.items c.loop-j.invariant.names;
-      counts = counts_more made j index row (get nat_cmp c.loop-j.counts) (get nat_cmp c.insert.new.self) c.row_at-processor.ensures
+      counts = counts_more steps j index step (get nat_cmp c.loop-j.counts) (get nat_cmp c.insert.new.self) c.step_at-processor.ensures
           c.in_ok-insert.ensures.updates.0 c.made_by-index.ensures c.loop-j.invariant.counts;
     }
 
 pub returns : goal.returns
 returns g c =
-    let end : c.loop-j.j ≡ length c.args.made.now = omega arith in
-    c.loop-j.invariant.names ∙ ap (λ (n : ℕ). map (name_at c.args.made.now) (range_with_len 0 n)) end
+    let end : c.loop-j.j ≡ length c.args.steps.now = omega arith in
+    c.loop-j.invariant.names ∙ ap (λ (n : ℕ). map (name_at c.args.steps.now) (range_with_len 0 n)) end

@@ -6,9 +6,9 @@ use Rattle.std.specs.Ordering.{nat_cmp}
 use Rattle.report_model.specs.Indexes.{made_before, name_at}
 use Rattle.report_model.proofs.indexes.names_of.Given as goal
 
--- the names so far, and how many operations each processor made
+-- the names so far, and how many steps each processor made
 abbrev pub invariant-loop-j : goal.invariant-loop-j
 invariant-loop-j g l = record {
-  names : l.names.items ≡ map (name_at l.made) (range_with_len 0 l.j);
-  counts : (p : ℕ) → unwrap_or (get nat_cmp l.counts p) 0 ≡ made_before l.made p l.j;
+  names : l.names.items ≡ map (name_at l.steps) (range_with_len 0 l.j);
+  counts : (p : ℕ) → unwrap_or (get nat_cmp l.counts p) 0 ≡ made_before l.steps p l.j;
 }
