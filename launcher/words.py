@@ -26,7 +26,9 @@ COMMANDS: dict[str, tuple[list[str], dict[str, tuple[int, int] | None]]] = {
     "channels": (["MACHINE"], {"explain": None}),
     "check": (["REPORT"], {"explain": None}),
     "network": (["NETWORK"], {"run": None, "replay": WORD, "depth": (1, 8), "explain": None}),
+    "simulate": (["NETWORK", "TRAFFIC"], {"depth": (1, 8), "explain": None}),
     "linearize": (["TRACE"], {"configurations": (1, 4294967295), "report": None, "explain": None}),
+    "watch": (["TRACE"], {"configurations": (1, 4294967295), "explain": None}),
     "model": (["LOG"], {"model": WORD, "order": None, "explain": None}),
 }
 REQUIRED = {"draw": ["seed"]}  # the options that have to be given
@@ -34,7 +36,7 @@ APART = {"network": {"run", "replay"}}  # the options that don't stand beside ea
 TILES = (0, 4294967295)
 # Why a file can't be read, where the program has words for it.
 WHY = {errno.ENOENT: "no such file or directory", errno.EACCES: "permission denied", errno.EISDIR: "it is a directory"}
-FILES = ("MACHINE", "SCRIPT", "STEPS", "REPORT", "NETWORK", "TRACE", "LOG")
+FILES = ("MACHINE", "SCRIPT", "STEPS", "REPORT", "NETWORK", "TRAFFIC", "TRACE", "LOG")
 TRY = "\n\nFor more information, try '--help'.\n"
 
 

@@ -3,16 +3,18 @@
 _torusmem() {
   local word=${COMP_WORDS[COMP_CWORD]} before=${COMP_WORDS[COMP_CWORD - 1]} words=""
   if [ "$COMP_CWORD" = 1 ]; then
-    words="steps round run live schedule draw route channels check network linearize model help --help --version"
+    words="steps round run live schedule draw route channels check network simulate linearize watch model help --help --version"
   else
     case ${COMP_WORDS[1]} in
-    help) words="steps round run live schedule draw route channels check network linearize model help" ;;
+    help) words="steps round run live schedule draw route channels check network simulate linearize watch model help" ;;
     steps) words="--moves --explain --help" ;;
     round | schedule) words="--rounds --clocked --explain --help" ;;
     draw) words="--seed --steps --explain --help" ;;
     run) words="--workers --turns --explain --help" ;;
     route) words="--reply --explain --help" ;;
     linearize) words="--configurations --report --explain --help" ;;
+    simulate) words="--depth --explain --help" ;;
+    watch) words="--configurations --explain --help" ;;
     model) words="--model --order --explain --help" ;;
     network) words="--run --replay --depth --explain --help" ;;
     live | channels | check) words="--explain --help" ;;

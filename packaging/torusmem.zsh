@@ -12,7 +12,9 @@ _torusmem_commands=(
   'channels:all channels with their numbers'
   'check:whether a report is good'
   'network:whether a network can lock up'
+  'simulate:when packets arrive in clocked rounds'
   'linearize:an order that explains a trace'
+  'watch:whether a trace goes wrong, while it comes'
   'model:which memory models a log obeys'
   'help:the help of a command'
 )
@@ -32,6 +34,8 @@ _torusmem() {
   run) options=(--workers --turns) ;;
   route) options=(--reply) ;;
   linearize) options=(--configurations --report) ;;
+  simulate) options=(--depth) ;;
+  watch) options=(--configurations) ;;
   network) options=(--run --replay --depth) ;;
   model) options=(--model --order) ;;
   esac

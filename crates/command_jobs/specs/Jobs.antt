@@ -11,8 +11,8 @@ use Rattle.commands.specs.Done.{PrintsRoute, PrintsChannels, PrintsVerdict}
 use Rattle.command_line.specs.declared.command.Job.{Job}
 use Rattle.command_line.specs.declared.command.Job.TheVariants.{Steps, Round, Run, Live, Route}
 use Rattle.command_line.specs.declared.command.Job.TheVariants.{Channels, Check}
-use Rattle.command_line.specs.declared.command.Job.TheVariants.{Network, LockUp, Replay}
-use Rattle.command_line.specs.declared.command.Job.TheVariants.{Linearize, Report, Model}
+use Rattle.command_line.specs.declared.command.Job.TheVariants.{Network, LockUp, Replay, Simulate}
+use Rattle.command_line.specs.declared.command.Job.TheVariants.{Linearize, Report, Watch, Model, RunModel}
 use Rattle.command_line.specs.declared.command.Job.TheVariants.{Schedule, Draw, Moves}
 use Rattle.command_jobs.specs.declared.answering.Ended.{Ended}
 
@@ -28,9 +28,12 @@ is_of_commands (Live machine) = false
 is_of_commands (Network network) = false
 is_of_commands (LockUp network depth) = false
 is_of_commands (Replay network run depth) = false
+is_of_commands (Simulate network traffic depth) = false
 is_of_commands (Linearize trace configurations) = false
 is_of_commands (Report trace configurations) = false
+is_of_commands (Watch trace configurations) = false
 is_of_commands (Model log model order) = false
+is_of_commands (RunModel log model order machine script) = false
 is_of_commands (Schedule machine script rounds clocked) = false
 is_of_commands (Draw machine script seed steps) = false
 is_of_commands (Moves machine script steps) = false

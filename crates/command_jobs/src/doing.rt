@@ -3,11 +3,12 @@ ghost use Rattle.std.specs.Prelude.{◌≡◌, ◌↔◌, None, true, false};
 ghost use Rattle.command_jobs.specs.Jobs.{is_of_commands};
 
 use crate::answering::{answer, is_of_commands};
+use crate::hints::report_hint;
 use crate::naming::{kind, names};
 use crate::printing::{fault_told, flushed, tell_end_of, writer};
 use crate::reading::texts_of;
 use crate::run_end::RunEnd;
-use command_line::Request;
+use command_line::{Job, Request};
 use error_lines::explain;
 use program_fault::{ProgramFault, Texts, status_of};
 use report_lines::Piped;
@@ -38,9 +39,19 @@ pub fn done<R: Files + Input + Print + Eprint + Clock + AllocGlobal>(
             let status = fault_told(rt, &fault);
             if request.explain || is_seen {
                 explain(rt, kind(&request.job), &names(&request.job), &texts, &fault);
+                tell_hint(rt, &request.job, &texts, &fault);
             }
             Some(status)
         }
+    }
+}
+
+/// Says what all of a bad report has that none may have, where it has it.
+fn tell_hint<R: Eprint>(rt: &R, job: &Job, texts: &Texts, fault: &ProgramFault) {
+    if let (Job::Check { report }, ProgramFault::Bad(_)) = (*job, *fault)
+        && let Some(hint) = report_hint(&texts.first)
+    {
+        let _ = eprintln!(rt; "{report}: {hint}");
     }
 }
 

@@ -4,6 +4,7 @@
 
 pub mod answering;
 pub mod doing;
+mod hints;
 pub mod naming;
 pub mod printing;
 pub mod progress_line;

@@ -4,7 +4,7 @@ use command_line::Job;
 use error_lines::Kind;
 use program_fault::Names;
 
-/// The names of the texts of a job.
+/// The names of the texts of a job that are read before it begins.
 pub fn names<'a>(job: &Job<'a>) -> Names<'a> {
     let (first, second, third) = match *job {
         Job::Steps {
@@ -38,6 +38,24 @@ pub fn names<'a>(job: &Job<'a>) -> Names<'a> {
             ..
         } => (machine, Some(script), None),
         Job::Replay { network, run, .. } => (network, Some(run), None),
+        Job::Simulate {
+            network,
+            traffic,
+            ..
+        } => (network, Some(traffic), None),
+        Job::RunModel {
+            log,
+            machine,
+            script,
+            ..
+        } => (log, Some(machine), Some(script)),
+        Job::Watch { .. } => {
+            return Names {
+                first: None,
+                second: None,
+                third: None,
+            };
+        }
         Job::Live { machine: name }
         | Job::Route { machine: name, .. }
         | Job::Channels { machine: name }

@@ -1,17 +1,23 @@
 -- What clap says of a parse, said of its rows.
-use Rattle.std.specs.Prelude.{◌≡◌, ℕ, Bool, true, false, IfSome, Option, Some, None, Result, is_some, option_map}
+use Rattle.std.specs.Prelude.{◌≡◌, ◌<◌, ◌≤◌, ℕ, Bool, true, false, IfSome, Option, Some, None, Result, is_some, option_map}
+use Rattle.std.specs.Prelude.{List, [], ◌∷◌, length, map}
+use Rattle.std.specs.List.{slice_index_or}
 use Rattle.std.specs.Prelude.{option_and_then, slice_get}
 use Rattle.std.specs.Str.Parse.{ParsesBool, ParsesUnsigned, digits_value, without_leading_plus}
-use Rattle.std.proofs.Common.{refl, ap, sym, ◌∙◌}
-use Rattle.clap.specs.Words.{ReadsOne, Text, first_of, first_value, matched_of, one_of, one_text, read_as, rows_of}
+use Rattle.std.proofs.Common.{refl, ap, sym, ◌∙◌, arith}
+use Rattle.clap.specs.Words.{ReadsOne, Text, all_of, first_of, first_value, matched_of, one_of, one_text, raw_values, read_as, rows_of}
 use Rattle.clap.specs.declared.parser.matches.Found.{Found}
 use Rattle.clap.specs.declared.parser.matches.MatchedArg.{MatchedArg}
-use Rattle.clap.proofs.WalkLemmas.{first_value-rows, one_text-rows}
+use Rattle.clap.proofs.WalkLemmas.{first_value-rows, one_text-rows, raw_values-rows}
 use Rattle.command_line.specs.Job.{flag_text, number_in}
 
 -- the first value of an argument
 pub first_value_rows : (f : Found) (id : Text) → first_value f id ≡ first_of id (rows_of f)
 first_value_rows f id = first_value-rows f id
+
+-- all values of an argument
+pub all_values_rows : (f : Found) (id : Text) → option_map raw_values (matched_of f id) ≡ all_of id (rows_of f)
+all_values_rows f id = raw_values-rows f id
 
 -- a number that was read is the one that is written
 pub number_of_text : {E : Type 0} (bits : ℕ) (more other : Text → Result ℕ E → Type 0) (given : Option Text) (n : ℕ)
@@ -54,3 +60,11 @@ pub flag_is_read : (E : Type 0) (f : Found) (id : Text) (result : Option Bool)
 flag_is_read E f id None none value = tt
 flag_is_read E f id (Some b) none value =
     sym (one_text-rows f id) ∙ flag_of_text E (one_text f id) b none value
+
+-- the images of two items
+pub two_images : {X Y : Type 0} (f : X → Y) (xs : List X) (d : X) → 2 ≤ length xs → length xs < 3
+    → map f xs ≡ f (slice_index_or xs 0 d) ∷ f (slice_index_or xs 1 d) ∷ []
+two_images f [] d least most = absurd (omega (arith, least))
+two_images f (x ∷ []) d least most = absurd (omega (arith, least))
+two_images f (x ∷ y ∷ []) d least most = refl
+two_images f (x ∷ y ∷ z ∷ zs) d least most = absurd (omega (arith, most))

@@ -79,6 +79,13 @@ word_without_usual name = record (new_rule name) { long = Some name }
 abbrev pub depth_option : Rule
 depth_option = count (codes "depth") (up_to (pos 8)) (codes "1")
 
+-- the option for the texts of a run, two words that help calls so; it has no default
+abbrev pub texts_option : Rule
+texts_option = record (new_rule (codes "texts")) {
+  long = Some (codes "texts");
+  value_names = 2;
+}
+
 -- the option to say more of what is wrong, of each subcommand
 abbrev pub explain : Rule
 explain = flag_option (codes "explain")
@@ -139,16 +146,26 @@ network_app = with_rule (with_rule (with_rule (with_rule (with_rule (new_app (co
     (needed (codes "NETWORK"))) (flag_option (codes "run")))
     (word_without_usual (codes "replay"))) depth_option) explain
 
+-- `simulate NETWORK TRAFFIC [--depth D] [--explain]`
+abbrev pub simulate_app : App
+simulate_app = with_rule (with_rule (with_rule (with_rule (new_app (codes "simulate"))
+    (needed (codes "NETWORK"))) (needed (codes "TRAFFIC"))) depth_option) explain
+
 -- `linearize TRACE [--configurations N] [--report] [--explain]`
 abbrev pub linearize_app : App
 linearize_app = with_rule (with_rule (with_rule (with_rule (new_app (codes "linearize"))
     (needed (codes "TRACE"))) configurations) (flag_option (codes "report"))) explain
 
--- `model LOG [--model NAME] [--order] [--explain]`
+-- `watch TRACE [--configurations N] [--explain]`
+abbrev pub watch_app : App
+watch_app = with_rule (with_rule (with_rule (new_app (codes "watch")) (needed (codes "TRACE")))
+    configurations) explain
+
+-- `model LOG [--model NAME] [--order] [--texts MACHINE SCRIPT] [--explain]`
 abbrev pub model_app : App
-model_app = with_rule (with_rule (with_rule (with_rule (new_app (codes "model"))
+model_app = with_rule (with_rule (with_rule (with_rule (with_rule (new_app (codes "model"))
     (needed (codes "LOG"))) (word_option (codes "model") (codes "sc")))
-    (flag_option (codes "order"))) explain
+    (flag_option (codes "order"))) texts_option) explain
 
 -- the program, whose subcommand has to stand there
 abbrev pub top_app : App
@@ -175,13 +192,21 @@ routing_app = with_subcommand (with_subcommand scheduling_app route_app.top) cha
 abbrev pub checking_app : App
 checking_app = with_subcommand routing_app check_app.top
 
--- and with those that judge networks and traces
+-- and with those on networks
+abbrev pub networking_app : App
+networking_app = with_subcommand (with_subcommand checking_app network_app.top) simulate_app.top
+
+-- and with the one that judges a trace
 abbrev pub judging_app : App
-judging_app = with_subcommand (with_subcommand checking_app network_app.top) linearize_app.top
+judging_app = with_subcommand networking_app linearize_app.top
+
+-- and with the one that judges a trace while it comes
+abbrev pub watching_app : App
+watching_app = with_subcommand judging_app watch_app.top
 
 -- the program with all its subcommands: last the one that judges logs by memory models
 abbrev pub torusmem_app : App
-torusmem_app = with_subcommand judging_app model_app.top
+torusmem_app = with_subcommand watching_app model_app.top
 
 -- the name of the subcommand that the words name
 abbrev pub name_by : List Text → Option Text

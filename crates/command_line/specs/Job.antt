@@ -1,14 +1,14 @@
 -- What a job says of the values that the words of its subcommand give (this project's own format).
-use Rattle.std.specs.Prelude.{◌≡◌, ℕ, ◌≤◌, Bool, true, false, List, Option, Some, None, codes, option_map}
+use Rattle.std.specs.Prelude.{◌≡◌, ℕ, ◌≤◌, Bool, true, false, List, [], ◌∷◌, Option, Some, None, codes, option_map}
 use Rattle.std.specs.Str.Parse.{digits_value, without_leading_plus}
-use Rattle.clap.specs.Words.{Row, Text, first_of, one_of}
+use Rattle.clap.specs.Words.{Row, Text, all_of, first_of, one_of}
 use Rattle.torus.specs.declared.shape.Class.{Class}
 use Rattle.torus.specs.declared.shape.Class.TheVariants.{Request, Reply}
 use Rattle.command_line.specs.declared.command.Job.{Job}
 use Rattle.command_line.specs.declared.command.Job.TheVariants.{Steps, Round, Run, Live, Route}
 use Rattle.command_line.specs.declared.command.Job.TheVariants.{Channels, Check}
-use Rattle.command_line.specs.declared.command.Job.TheVariants.{Network, LockUp, Replay}
-use Rattle.command_line.specs.declared.command.Job.TheVariants.{Linearize, Report, Model}
+use Rattle.command_line.specs.declared.command.Job.TheVariants.{Network, LockUp, Replay, Simulate}
+use Rattle.command_line.specs.declared.command.Job.TheVariants.{Linearize, Report, Watch, Model, RunModel}
 use Rattle.command_line.specs.declared.command.Job.TheVariants.{Schedule, Draw, Moves}
 
 -- the values of a subcommand's arguments
@@ -31,7 +31,8 @@ class_word Request = flag_text false
 class_word Reply = flag_text true
 
 -- the subcommand of a job: `steps` both of the report of a run, and of its moves; `linearize` both
--- of the lines of an order, and of its report; `network` of a verdict, a run and a replay
+-- of the lines of an order, and of its report; `network` of a verdict, a run and a replay; `model` of a
+-- log or report, and of a report with the texts of its run
 abbrev pub name_of : Job → Text
 name_of (Steps machine script steps) = codes "steps"
 name_of (Round machine script rounds clocked) = codes "round"
@@ -43,9 +44,12 @@ name_of (Check report) = codes "check"
 name_of (Network network) = codes "network"
 name_of (LockUp network depth) = codes "network"
 name_of (Replay network run depth) = codes "network"
+name_of (Simulate network traffic depth) = codes "simulate"
 name_of (Linearize trace configurations) = codes "linearize"
 name_of (Report trace configurations) = codes "linearize"
+name_of (Watch trace configurations) = codes "watch"
 name_of (Model log model order) = codes "model"
+name_of (RunModel log model order machine script) = codes "model"
 name_of (Schedule machine script rounds clocked) = codes "schedule"
 name_of (Draw machine script seed steps) = codes "draw"
 name_of (Moves machine script steps) = codes "steps"
@@ -83,6 +87,10 @@ AreOf (LockUp network depth) rows = (first_of (codes "NETWORK") rows ≡ Some ne
 AreOf (Replay network run depth) rows = (first_of (codes "NETWORK") rows ≡ Some network.now)
     × IsFlag (codes "run") false rows × (first_of (codes "replay") rows ≡ Some run.now)
     × (number_in (codes "depth") rows ≡ Some depth)
+AreOf (Simulate network traffic depth) rows =
+    (first_of (codes "NETWORK") rows ≡ Some network.now)
+    × (first_of (codes "TRAFFIC") rows ≡ Some traffic.now)
+    × (number_in (codes "depth") rows ≡ Some depth)
 AreOf (Linearize trace configurations) rows =
     (first_of (codes "TRACE") rows ≡ Some trace.now)
     × (number_in (codes "configurations") rows ≡ Some configurations)
@@ -91,9 +99,16 @@ AreOf (Report trace configurations) rows =
     (first_of (codes "TRACE") rows ≡ Some trace.now)
     × (number_in (codes "configurations") rows ≡ Some configurations)
     × IsFlag (codes "report") true rows
+AreOf (Watch trace configurations) rows = (first_of (codes "TRACE") rows ≡ Some trace.now)
+    × (number_in (codes "configurations") rows ≡ Some configurations)
 AreOf (Model log model order) rows = (first_of (codes "LOG") rows ≡ Some log.now)
     × (first_of (codes "model") rows ≡ Some model.now)
+    × IsFlag (codes "order") order rows × (all_of (codes "texts") rows ≡ None)
+AreOf (RunModel log model order machine script) rows =
+    (first_of (codes "LOG") rows ≡ Some log.now)
+    × (first_of (codes "model") rows ≡ Some model.now)
     × IsFlag (codes "order") order rows
+    × (all_of (codes "texts") rows ≡ Some (machine.now ∷ script.now ∷ []))
 AreOf (Schedule machine script rounds clocked) rows =
     (first_of (codes "MACHINE") rows ≡ Some machine.now)
     × (first_of (codes "SCRIPT") rows ≡ Some script.now)
@@ -117,6 +132,8 @@ AreJobLimits (LockUp network depth) = (1 ≤ depth) × (depth ≤ 8)
 AreJobLimits (Replay network run depth) = (1 ≤ depth) × (depth ≤ 8)
 AreJobLimits (Linearize trace configurations) = 1 ≤ configurations
 AreJobLimits (Report trace configurations) = 1 ≤ configurations
+AreJobLimits (Simulate network traffic depth) = (1 ≤ depth) × (depth ≤ 8)
+AreJobLimits (Watch trace configurations) = 1 ≤ configurations
 AreJobLimits (Schedule machine script rounds clocked) = (1 ≤ rounds) × (rounds ≤ 1000000)
 AreJobLimits _ = Unit {0}
 

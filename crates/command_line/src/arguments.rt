@@ -2,7 +2,7 @@
 ghost use Rattle.std.specs.Prelude.{◌≡◌, false};
 ghost use Rattle.clap.specs.Words.{rule_of};
 ghost use Rattle.command_line.specs.CommandLine.{count, flag_option, long_number, needed, seed, tile};
-ghost use Rattle.command_line.specs.CommandLine.{word_option, word_without_usual};
+ghost use Rattle.command_line.specs.CommandLine.{texts_option, word_option, word_without_usual};
 
 use clap::builder::ValueParser;
 use clap::{Arg, ArgAction};
@@ -89,6 +89,20 @@ pub(crate) fn word_if_given<'a>(alloc: Global, name: &'a str, help: &'a str) -> 
     ensures local { result.global ≡ false }
 {
     Arg::new(alloc, name).long(name).help(help)
+}
+
+/// What the words of the option for the texts of a run are called.
+static TEXT_NAMES: [&str; 2] = ["MACHINE", "SCRIPT"];
+
+/// The option for the texts of a run, two words.
+pub(crate) fn texts<'a>(alloc: Global) -> Arg<'a>
+    ensures rule { rule_of result ≡ texts_option }
+    ensures local { result.global ≡ false }
+{
+    Arg::new(alloc, "texts")
+        .long("texts")
+        .value_names(&TEXT_NAMES)
+        .help("The texts that a report is the run of, so that its fences count")
 }
 
 /// The option for the seed of a drawn schedule, which has to be given.

@@ -1,10 +1,10 @@
 //! The whole command line.
-ghost use Rattle.command_line.specs.CommandLine.{routing_app, running_app, torusmem_app};
+ghost use Rattle.command_line.specs.CommandLine.{networking_app, routing_app, running_app, torusmem_app};
 ghost use Rattle.command_line.specs.Making.{IsCommand};
 
 use crate::making::{Making, program, with_subcommand};
 use crate::subcommands::{
-    draw, in_rounds, linearize, model, network, of_one_file, route, run, steps,
+    draw, in_rounds, linearize, model, network, of_one_file, route, run, simulate, steps, watch,
 };
 use std::alloc::Global;
 
@@ -37,15 +37,24 @@ fn routing<'a>(alloc: Global) -> Making<'a>
     with_subcommand(command, channels)
 }
 
-/// The program with all its subcommands.
-pub(crate) fn command<'a>(alloc: Global) -> Making<'a>
-    ensures { IsCommand torusmem_app result }
+/// The same, and those on reports and networks.
+fn checking<'a>(alloc: Global) -> Making<'a>
+    ensures { IsCommand networking_app result }
 {
     let command = routing(alloc);
     let about = "Checks a report";
     let check = of_one_file(alloc, "check", about, "REPORT", "The file with the report");
     let command = with_subcommand(command, check);
     let command = with_subcommand(command, network(alloc));
+    with_subcommand(command, simulate(alloc))
+}
+
+/// The program with all its subcommands.
+pub(crate) fn command<'a>(alloc: Global) -> Making<'a>
+    ensures { IsCommand torusmem_app result }
+{
+    let command = checking(alloc);
     let command = with_subcommand(command, linearize(alloc));
+    let command = with_subcommand(command, watch(alloc));
     with_subcommand(command, model(alloc))
 }

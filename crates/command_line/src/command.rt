@@ -6,7 +6,7 @@ ghost use Rattle.command_line.specs.Job.{AreOf, IsFlag, NamesJob, AreJobLimits, 
 use crate::building::command;
 use crate::jobs::{
     channels_job, check_job, draw_job, linearize_job, live_job, model_job, network_job, round_job,
-    route_job, run_job, schedule_job, steps_job,
+    route_job, run_job, schedule_job, simulate_job, steps_job, watch_job,
 };
 use crate::values::flag_of;
 use clap::error::ErrorKind;
@@ -73,6 +73,12 @@ pub enum Job<'a> {
         run: &'a str,
         depth: u32,
     },
+    /// Send the packets of a traffic text through a network whose channels hold so many flits.
+    Simulate {
+        network: &'a str,
+        traffic: &'a str,
+        depth: u32,
+    },
     /// Find the one order of a trace, with so many configurations of a word at once at most, and
     /// print it.
     Linearize {
@@ -85,11 +91,26 @@ pub enum Job<'a> {
         trace: &'a str,
         configurations: u32,
     },
+    /// Judge a trace while it comes, line by line, with so many configurations of a word at once at
+    /// most.
+    Watch {
+        trace: &'a str,
+        configurations: u32,
+    },
     /// Judge a log by memory models, of which this one decides the status; and print an order too.
     Model {
         log: &'a str,
         model: &'a str,
         order: bool,
+    },
+    /// Judge a report by memory models, of which this one decides the status, with the fences of the
+    /// scripts that were run; and print an order too.
+    RunModel {
+        log: &'a str,
+        model: &'a str,
+        order: bool,
+        machine: &'a str,
+        script: &'a str,
     },
     /// Print the moves of rounds, clocked or in order, at most so many, until every script is finished.
     Schedule {
@@ -193,7 +214,9 @@ fn job_by<'a>(name: &str, given: &ArgMatches<'a>) -> Option<Job<'a>>
         "channels" => channels_job(given),
         "check" => check_job(given),
         "network" => network_job(given),
+        "simulate" => simulate_job(given),
         "linearize" => linearize_job(given),
+        "watch" => watch_job(given),
         "model" => model_job(given),
         _ => None,
     }

@@ -5,7 +5,7 @@ ghost use Rattle.command_line.specs.Job.{NamesJob};
 
 use crate::command::Job;
 use crate::values::{
-    class, flag_of, long_number, long_number_if_given, number, number_within, word,
+    class, flag_of, long_number, long_number_if_given, number, number_within, two_words, word,
 };
 use clap::ArgMatches;
 
@@ -129,6 +129,16 @@ pub(crate) fn network_job<'a>(given: &ArgMatches<'a>) -> Option<Job<'a>>
     }
 }
 
+pub(crate) fn simulate_job<'a>(given: &ArgMatches<'a>) -> Option<Job<'a>>
+    ensures { IfSome result (NamesJob (codes "simulate") (rows_of (found_of given.now))) }
+{
+    Some(Job::Simulate {
+        network: word(given, "NETWORK")?,
+        traffic: word(given, "TRAFFIC")?,
+        depth: number_within(given, "depth", 8)?,
+    })
+}
+
 /// The trace of `linearize`, of which the lines of an order or its report are asked for.
 pub(crate) fn linearize_job<'a>(given: &ArgMatches<'a>) -> Option<Job<'a>>
     ensures { IfSome result (NamesJob (codes "linearize") (rows_of (found_of given.now))) }
@@ -148,12 +158,30 @@ pub(crate) fn linearize_job<'a>(given: &ArgMatches<'a>) -> Option<Job<'a>>
     }
 }
 
+pub(crate) fn watch_job<'a>(given: &ArgMatches<'a>) -> Option<Job<'a>>
+    ensures { IfSome result (NamesJob (codes "watch") (rows_of (found_of given.now))) }
+{
+    Some(Job::Watch {
+        trace: word(given, "TRACE")?,
+        configurations: number_within(given, "configurations", 4294967295)?,
+    })
+}
+
+/// The log of `model`, or a report with the texts of its run.
 pub(crate) fn model_job<'a>(given: &ArgMatches<'a>) -> Option<Job<'a>>
     ensures { IfSome result (NamesJob (codes "model") (rows_of (found_of given.now))) }
 {
-    Some(Job::Model {
-        log: word(given, "LOG")?,
-        model: word(given, "model")?,
-        order: flag_of(given, "order")?,
-    })
+    let log = word(given, "LOG")?;
+    let model = word(given, "model")?;
+    let order = flag_of(given, "order")?;
+    match two_words(given, "texts")? {
+        None => Some(Job::Model { log, model, order }),
+        Some((machine, script)) => Some(Job::RunModel {
+            log,
+            model,
+            order,
+            machine,
+            script,
+        }),
+    }
 }

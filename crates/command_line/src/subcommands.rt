@@ -4,9 +4,12 @@ ghost use Rattle.command_line.specs.CommandLine.{channels_app, check_app, draw_a
 ghost use Rattle.command_line.specs.CommandLine.{linearize_app, model_app, needed};
 ghost use Rattle.command_line.specs.CommandLine.{network_app};
 ghost use Rattle.command_line.specs.CommandLine.{rounds_app, route_app, run_app, steps_app};
+ghost use Rattle.command_line.specs.CommandLine.{simulate_app, watch_app};
 ghost use Rattle.command_line.specs.Making.{IsCommand};
 
-use crate::arguments::{count, file, flag, long_number, seed, tile, word_if_given, word_option};
+use crate::arguments::{
+    count, file, flag, long_number, seed, texts, tile, word_if_given, word_option,
+};
 use crate::making::{Making, loading, named, with_argument, with_explain};
 use clap::builder::ValueParser;
 use std::alloc::Global;
@@ -105,6 +108,19 @@ pub(crate) fn network<'a>(alloc: Global) -> Making<'a>
     with_explain(alloc, command)
 }
 
+pub(crate) fn simulate<'a>(alloc: Global) -> Making<'a>
+    ensures { IsCommand simulate_app result }
+{
+    let about = "Sends packets through a network in clocked rounds, and prints when each arrives";
+    let command = named(alloc, "simulate", about);
+    let command = with_argument(command, file(alloc, "NETWORK", "The file with the network"));
+    let command = with_argument(command, file(alloc, "TRAFFIC", "The file with the packets"));
+    let help = "How many flits a channel holds, 1 to 8";
+    let numbers = ValueParser::Signed(1, 8);
+    let command = with_argument(command, count(alloc, "depth", numbers, "1", help));
+    with_explain(alloc, command)
+}
+
 pub(crate) fn linearize<'a>(alloc: Global) -> Making<'a>
     ensures { IsCommand linearize_app result }
 {
@@ -122,6 +138,23 @@ pub(crate) fn linearize<'a>(alloc: Global) -> Making<'a>
     with_explain(alloc, command)
 }
 
+pub(crate) fn watch<'a>(alloc: Global) -> Making<'a>
+    ensures { IsCommand watch_app result }
+{
+    let about =
+        "Judges a trace while it comes, and ends at the first answer that no order explains";
+    let command = named(alloc, "watch", about);
+    let help = "The file with the trace, or - for standard input";
+    let command = with_argument(command, file(alloc, "TRACE", help));
+    let help = "At most this many configurations of a word, 1 to 4294967295";
+    let numbers = ValueParser::Signed(1, 4294967295);
+    let command = with_argument(
+        command,
+        count(alloc, "configurations", numbers, "1000000", help),
+    );
+    with_explain(alloc, command)
+}
+
 pub(crate) fn model<'a>(alloc: Global) -> Making<'a>
     ensures { IsCommand model_app result }
 {
@@ -136,5 +169,6 @@ pub(crate) fn model<'a>(alloc: Global) -> Making<'a>
     let command = with_argument(command, word_option(alloc, "model", "sc", help));
     let help = "Prints an order of the strongest model that holds, too";
     let command = with_argument(command, flag(alloc, "order", help));
+    let command = with_argument(command, texts(alloc));
     with_explain(alloc, command)
 }

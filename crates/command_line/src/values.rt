@@ -1,6 +1,6 @@
 //! What was given for the arguments of a subcommand.
-ghost use Rattle.std.specs.Prelude.{◌≡◌, ◌≤◌, IfSome, Some, codes, option_map};
-ghost use Rattle.clap.specs.Words.{found_of, first_of, one_of, rows_of};
+ghost use Rattle.std.specs.Prelude.{◌≡◌, ◌≤◌, ◌∷◌, [], IfSome, Some, codes, option_map};
+ghost use Rattle.clap.specs.Words.{all_of, found_of, first_of, one_of, rows_of};
 ghost use Rattle.command_line.specs.Job.{IsFlag, class_word, number_in};
 
 use clap::ArgMatches;
@@ -11,6 +11,19 @@ pub(crate) fn word<'a>(given: &ArgMatches<'a>, id: &str) -> Option<&'a str>
     ensures { option_map (λ s. s.now) result ≡ first_of id.now (rows_of (found_of given.now)) }
 {
     given.get_str(id)
+}
+
+/// The two words that were given for an option, where it is given; `None` where it has not two.
+#[tactic(auto, using(crate::proofs::Rows::all_values_rows))]
+pub(crate) fn two_words<'a>(given: &ArgMatches<'a>, id: &str) -> Option<Option<(&'a str, &'a str)>>
+    ensures { IfSome result (λ pair. all_of id.now (rows_of (found_of given.now))
+        ≡ option_map (λ p. p.0.now ∷ p.1.now ∷ []) pair) }
+{
+    match given.get_strs(id) {
+        None => Some(None),
+        Some([first, second]) => Some(Some((*first, *second))),
+        Some(_) => None,
+    }
 }
 
 /// The number that was given for an argument.

@@ -1,3 +1,4 @@
 mod Verdicts
 mod Reports
 mod Refusals
+pub mod RunModels

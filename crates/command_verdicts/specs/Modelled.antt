@@ -20,6 +20,7 @@ use Rattle.program_fault.specs.declared.fault.ProgramFault.TheVariants as progra
 use Rattle.program_fault.specs.Done.{Does, Output}
 use Rattle.command_verdicts.specs.declared.model.Modelled.{Modelled}
 use Rattle.command_verdicts.specs.declared.model.Modelled.TheVariants.{Obeys, WithoutFences, Wrong}
+use Rattle.command_verdicts.specs.declared.model.Modelled.TheVariants.{OtherShape, OtherOperation}
 
 -- what is printed of what a log is judged to be: the answer of these models, or, where a reply isn't
 -- due, nothing
@@ -28,6 +29,8 @@ IsModelled A lines options (Obeys obeys) text =
     (answer : Answer A) × IsAnswerTo lines options answer × (obeys ≡ answer.obeys)
     × (text ≡ answer.text.items)
 IsModelled A lines options (WithoutFences obeys) text = ⊥
+IsModelled A lines options (OtherShape line) text = ⊥
+IsModelled A lines options (OtherOperation line p passed) text = ⊥
 IsModelled A lines options (Wrong wrong) text = IsWrongIn lines wrong × (text ≡ [])
 
 -- the log text has this as its first fault
@@ -51,6 +54,8 @@ IsReportModelled A report order (Obeys obeys) text = ⊥
 IsReportModelled A report order (WithoutFences obeys) text =
     (answer : Answer A) × IsAnswerToReport report (record { order = order; fences = false }) answer
     × (obeys ≡ answer.obeys) × (text ≡ answer.text.items)
+IsReportModelled A report order (OtherShape line) text = ⊥
+IsReportModelled A report order (OtherOperation line p passed) text = ⊥
 IsReportModelled A report order (Wrong wrong) text =
     HasNoRunAnswer report (Unjudged (WrongAnswer wrong)) × (text ≡ [])
 

@@ -6,6 +6,7 @@ use Rattle.model_answer.specs.declared.model.MemoryModel.{MemoryModel}
 use Rattle.model_answer.specs.declared.model.MemoryModel.TheVariants.{Coherent, Fenced, Pso, Tso, Sc}
 use Rattle.command_verdicts.specs.declared.model.Modelled.{Modelled}
 use Rattle.command_verdicts.specs.declared.model.Modelled.TheVariants.{Obeys as ObeysModels, WithoutFences, Wrong}
+use Rattle.command_verdicts.specs.declared.model.Modelled.TheVariants.{OtherShape, OtherOperation}
 use Rattle.program_fault.specs.declared.fault.ProgramFault.{ProgramFault}
 use Rattle.program_fault.specs.Outcome.{fault_status}
 use Rattle.command_verdicts.specs.declared.command.Judged.{Judged}
@@ -63,3 +64,5 @@ modelled_status (ObeysModels obeys) model = if is_obeyed obeys model then 0 else
 modelled_status (WithoutFences obeys) Fenced = 5
 modelled_status (WithoutFences obeys) model = if is_obeyed obeys model then 0 else 1
 modelled_status (Wrong wrong) model = 1
+modelled_status (OtherShape line) model = 1
+modelled_status (OtherOperation line p passed) model = 1

@@ -2,14 +2,18 @@
 
 ghost use Rattle.std.specs.Prelude.{◌≤◌};
 
-use crate::model::is_report;
+use crate::hints::{begins_anynet, begins_table};
+use crate::model::{Modelled, is_report};
 use adaptive_text::routing_sentence;
 use error_lines::{Kind, explain, explain_by, is_of_texts, named, told};
 use model_answer::LogSentence;
 use model_text::read_log;
+use network_rounds::TrafficSentence;
 use network_run::{RunSentence, replay_text};
 use network_text::{NetworkSentence, network_answer, read_network};
+use network_traffic::read_packets;
 use program_fault::{Names, ProgramFault, Texts};
+use sentences::scripts_sentence;
 use trace_why::{no_order_sentence, trace_sentence};
 
 /// The line of a fault at which routers begin to choose, where a text is refused for that alone: another
@@ -40,7 +44,14 @@ pub fn explain_network<R: Eprint + AllocGlobal>(
     if is_of_texts(fault) {
         let sentence = routing_sentence(rt.alloc(), named(name, network));
         match choosing_line(fault, &sentence) {
-            None => explain_by(rt, fault, sentence),
+            None => {
+                explain_by(rt, fault, sentence);
+                if begins_anynet(network) {
+                    let _ = eprintln!(rt;
+                        "tools/network from-booksim {name} makes a network text of it"
+                    );
+                }
+            }
             Some(line) => {
                 let _ = eprintln!(rt;
                     "{name}:{line}: routers choose among channels here; runs and replays take fixed routes alone"
@@ -71,6 +82,33 @@ pub fn explain_replay<R: Eprint + AllocGlobal>(
                     Err(refusal) => Some(RunSentence {
                         name: names.1,
                         text: run,
+                        refusal,
+                    }),
+                };
+                explain_by(rt, fault, sentence);
+            }
+        }
+    }
+}
+
+/// Says why the texts of a network and of its traffic have the fault that the command answers, where that
+/// can be told: the traffic only where the network has none.
+pub fn explain_simulation<R: Eprint + AllocGlobal>(
+    rt: &R,
+    names: (&str, &str),
+    texts: &Texts,
+    fault: &ProgramFault,
+) {
+    let (network, traffic) = (texts.first.as_slice(), texts.second.as_slice());
+    match read_network(rt.alloc(), network) {
+        Err(_) => explain_network(rt, names.0, network, fault),
+        Ok(network) => {
+            if is_of_texts(fault) {
+                let sentence = match read_packets(rt.alloc(), &network, traffic) {
+                    Ok(_) => None,
+                    Err(refusal) => Some(TrafficSentence {
+                        name: names.1,
+                        text: traffic,
                         refusal,
                     }),
                 };
@@ -124,6 +162,44 @@ pub fn explain_models<R: Eprint + AllocGlobal>(
     }
 }
 
+/// Says why the texts of a report, of its machine and of its scripts have the fault that the command
+/// answers, where that can be told: the report only where the others have none.
+pub fn explain_run_models<R: Eprint + AllocGlobal>(
+    rt: &R,
+    names: (&str, &str, &str),
+    of_report: &Names,
+    texts: &Texts,
+    fault: &ProgramFault,
+) {
+    let (machine, scripts) = (named(names.1, &texts.second), named(names.2, &texts.third));
+    match scripts_sentence(rt.alloc(), machine, scripts) {
+        None => explain_models(rt, names.0, of_report, texts, fault),
+        Some(sentence) => explain_by(rt, fault, Some(sentence)),
+    }
+}
+
+/// Says in which way a report isn't of the texts that are said to be those of its run.
+pub fn explain_other_run<R: Eprint>(rt: &R, names: (&str, &str, &str), modelled: Modelled) {
+    let (report, machine, script) = names;
+    match modelled {
+        Modelled::OtherShape { line } => {
+            let _ = eprintln!(rt;
+                "{report}:{line}: {machine} has another shape, or another number of words"
+            );
+        }
+        Modelled::OtherOperation {
+            line,
+            processor,
+            passed,
+        } => {
+            let _ = eprintln!(rt;
+                "{report}:{line}: in {script}, what comes next of processor {processor} stands behind {passed} of its lines"
+            );
+        }
+        _ => {}
+    }
+}
+
 /// Says why the text of a log has the fault that the command answers, where that can be told.
 fn explain_log<R: Eprint + AllocGlobal>(rt: &R, name: &str, log: &[u8], fault: &ProgramFault) {
     if is_of_texts(fault) {
@@ -136,6 +212,9 @@ fn explain_log<R: Eprint + AllocGlobal>(rt: &R, name: &str, log: &[u8], fault: &
             }),
         };
         explain_by(rt, fault, sentence);
+        if begins_table(log) {
+            let _ = eprintln!(rt; "tools/from_csv {name} --log makes a log of a table");
+        }
     }
 }
 

@@ -24,6 +24,17 @@ pub enum Modelled {
     WithoutFences(Obeys),
     /// This reply isn't the one that is due, so no model is asked, and nothing is printed.
     Wrong(WrongReply),
+    /// The report of this line has another shape than the machine that is said to be its own.
+    OtherShape {
+        line: u64,
+    },
+    /// At this line the report has another operation than the next one of the processor's script,
+    /// behind so many of its lines.
+    OtherOperation {
+        line: u64,
+        processor: u32,
+        passed: usize,
+    },
 }
 
 /// Judges the log of a text by five memory models, and prints a line for each, the cycle of the weakest

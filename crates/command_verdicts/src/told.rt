@@ -84,5 +84,7 @@ pub fn model_status(modelled: Modelled, model: MemoryModel) -> u8
             _ => u8::from(!is_obeyed(obeys, model)),
         },
         Modelled::Wrong(_) => 1,
+        Modelled::OtherShape { .. } => 1,
+        Modelled::OtherOperation { .. } => 1,
     }
 }

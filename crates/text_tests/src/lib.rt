@@ -34,4 +34,6 @@ mod text_sentences;
 #[cfg(test)]
 mod trace_sentences;
 #[cfg(test)]
+mod watched_traces;
+#[cfg(test)]
 mod writing;

@@ -6,7 +6,7 @@ use command_jobs::Ended;
 use command_line::Job;
 use command_verdicts::{
     Judged, Modelled, judged_models_text, linearize_text, lock_up_text, network_text,
-    replay_network_text, report_text,
+    replay_network_text, report_text, simulate_text, texts_models_text,
 };
 use model_answer::MemoryModel;
 use program_fault::{ProgramFault, Texts};
@@ -54,6 +54,10 @@ pub(crate) fn answer<R: Eprint + Clock + AllocGlobal + Threads + Wait + Sync, W:
             let run = texts.second.as_slice();
             sound(replay_network_text(alloc, first, run, u64::from(depth), out))
         }
+        Job::Simulate { depth, .. } => {
+            let traffic = texts.second.as_slice();
+            sound(simulate_text(alloc, first, traffic, u64::from(depth), out))
+        }
         Job::Linearize { configurations, .. } => {
             let judged = linearize_text(alloc, first, u64::from(configurations), out);
             judged_with(judged, configurations)
@@ -64,6 +68,13 @@ pub(crate) fn answer<R: Eprint + Clock + AllocGlobal + Threads + Wait + Sync, W:
         }
         Job::Model { model, order, .. } => {
             modelled_by(judged_models_text(alloc, first, order, out), model)
+        }
+        Job::RunModel { model, order, .. } => {
+            let (machine, scripts) = (texts.second.as_slice(), texts.third.as_slice());
+            modelled_by(
+                texts_models_text(alloc, first, machine, scripts, order, out),
+                model,
+            )
         }
         Job::Run { workers, turns, .. } => {
             let (workers, turns) = (workers as usize, u64::from(turns));

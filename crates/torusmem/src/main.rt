@@ -4,15 +4,18 @@
 ghost use Rattle.command_line.specs.Job.{AreJobLimits};
 
 mod answering;
+mod judging;
 mod running;
 mod talking;
 mod telling;
+mod watching;
 
 use answering::{Outcome, answer};
 use command_jobs::{
     RunEnd, done, fault_told, flushed, tell_end_of, texts_of, version_told, writer,
 };
 use command_line::{Job, Request, asks_version, request_told, words_told};
+use judging::Judging;
 use model_answer::MemoryModel;
 use program_fault::{ProgramFault, Texts};
 use report_lines::Piped;
@@ -23,6 +26,7 @@ use std::sync::Wait;
 use std::thread::Threads;
 use talking::talk;
 use telling::{explain_fault, explain_outcome, status_told};
+use watching::watched;
 
 fn main(rt: HostRuntime) -> ExitCode {
     let is_seen = rt.stderr().is_terminal();
@@ -55,7 +59,7 @@ fn run<R: Env + Files + Input + Print + Eprint + Clock + AllocGlobal + Threads +
 
 /// Whether the job names a memory model that there isn't, which standard error says then.
 fn is_other_model<R: Eprint>(rt: &R, job: &Job) -> bool {
-    let Job::Model { model, .. } = *job else {
+    let (Job::Model { model, .. } | Job::RunModel { model, .. }) = *job else {
         return false;
     };
     let is_other = MemoryModel::named(model).is_none();
@@ -76,6 +80,13 @@ fn other_done<R: Files + Input + Print + Eprint + Clock + AllocGlobal + Threads 
     requires { AreJobLimits request.now.job }
 {
     let is_explained = request.explain || is_seen;
+    if let Job::Watch {
+        trace,
+        configurations,
+    } = request.job
+    {
+        return watched(rt, trace, configurations, is_explained);
+    }
     let texts = match texts_of(rt, request, is_seen) {
         Ok(texts) => texts,
         Err(status) => return status,
@@ -98,6 +109,14 @@ fn other_done<R: Files + Input + Print + Eprint + Clock + AllocGlobal + Threads 
     }
 }
 
+/// Whether the job judges a trace or a log.
+fn is_judged(job: &Job) -> bool {
+    matches!(
+        *job,
+        Job::Linearize { .. } | Job::Report { .. } | Job::Model { .. } | Job::RunModel { .. }
+    )
+}
+
 /// The answer of the job, whose output was written to its last byte. How a run ended is told behind
 /// its report, where that is asked for or standard error `is_seen`.
 fn printed<R: Input + Print + Eprint + Clock + AllocGlobal + Threads + Wait + Sync>(
@@ -115,8 +134,12 @@ fn printed<R: Input + Print + Eprint + Clock + AllocGlobal + Threads + Wait + Sy
     let is_told = request.explain || is_seen;
     let mut end = RunEnd::new(rt.alloc(), is_told, &texts.first, &texts.second);
     let mut writer = writer(rt)?;
-    let mut out = Piped::new(&mut writer);
-    let outcome = answer(rt, &request.job, texts, is_seen, &mut out, &mut end)?;
+    let is_wanted = is_seen && is_judged(&request.job);
+    let mut judging = Judging::begin(rt, &mut writer, &texts.first, is_wanted);
+    let mut out = Piped::new(&mut judging);
+    let outcome = answer(rt, &request.job, texts, is_seen, &mut out, &mut end);
+    judging.end();
+    let outcome = outcome?;
     flushed(&mut writer)?;
     if let Outcome::Ran(ended) = outcome {
         tell_end_of(rt, &request.job, &end, ended);

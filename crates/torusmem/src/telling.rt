@@ -7,7 +7,8 @@ use command_jobs::{kind, names};
 use command_line::Job;
 use command_verdicts::{
     Judged, Modelled, explain_lock_up, explain_models, explain_network, explain_no_order,
-    explain_replay, explain_trace, model_status, status, verdict_text,
+    explain_other_run, explain_replay, explain_run_models, explain_simulation, explain_trace,
+    model_status, status, verdict_text,
 };
 use error_lines::explain;
 use model_answer::WrongSentence;
@@ -27,12 +28,30 @@ pub(crate) fn status_told<R: Eprint>(rt: &R, outcome: &Outcome) -> u8 {
             status(&Ok(judged))
         }
         Outcome::Modelled(modelled, model) => {
-            if let Modelled::Wrong(wrong) = modelled {
-                let sentence = WrongSentence { wrong };
-                let _ = eprintln!(rt; "{sentence}");
-            }
+            tell_unmodelled(rt, modelled);
             model_status(modelled, model)
         }
+    }
+}
+
+/// Says that a reply of a log is wrong, or that a report isn't of its texts, where that is so.
+fn tell_unmodelled<R: Eprint>(rt: &R, modelled: Modelled) {
+    match modelled {
+        Modelled::Wrong(wrong) => {
+            let sentence = WrongSentence { wrong };
+            let _ = eprintln!(rt; "{sentence}");
+        }
+        Modelled::OtherShape { line } => {
+            let _ = eprintln!(rt; "another machine at line {line}");
+        }
+        Modelled::OtherOperation {
+            line,
+            processor,
+            ..
+        } => {
+            let _ = eprintln!(rt; "another operation of processor {processor} at line {line}");
+        }
+        _ => {}
     }
 }
 
@@ -54,6 +73,18 @@ pub(crate) fn explain_outcome<R: Eprint + AllocGlobal>(
     {
         explain_no_order(rt, trace, &texts.first, line, configurations);
     }
+    if let (
+        Job::RunModel {
+            log,
+            machine,
+            script,
+            ..
+        },
+        Outcome::Modelled(modelled, _),
+    ) = (*job, *outcome)
+    {
+        explain_other_run(rt, (log, machine, script), modelled);
+    }
 }
 
 /// Says why the texts of a job have the fault that it answers, where that can be told from them.
@@ -74,6 +105,17 @@ pub(crate) fn explain_fault<R: Eprint + AllocGlobal>(
             run,
             depth,
         } => explain_replay(rt, (network, run), texts, u64::from(depth), fault),
+        Job::Simulate {
+            network,
+            traffic,
+            ..
+        } => explain_simulation(rt, (network, traffic), texts, fault),
+        Job::RunModel {
+            log,
+            machine,
+            script,
+            ..
+        } => explain_run_models(rt, (log, machine, script), &names(job), texts, fault),
         Job::Model { log, .. } => explain_models(rt, log, &names(job), texts, fault),
         Job::Linearize { trace, .. } | Job::Report { trace, .. } => {
             explain_trace(rt, trace, &texts.first, fault);

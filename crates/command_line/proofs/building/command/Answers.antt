@@ -3,7 +3,6 @@ use Rattle.command_line.proofs.building.command.Goals as goal
 
 pub returns : goal.returns
 returns c =
-    let first = c.with_subcommand-command.ensures _ _ c.routing-command.ensures c.of_one_file-check.ensures in
-    let second = c.with_subcommand-command-2.ensures _ _ first c.network.ensures in
-    let third = c.with_subcommand-command-3.ensures _ _ second c.linearize.ensures in
-    c.with_subcommand.ensures _ _ third c.model.ensures
+    let first = c.with_subcommand-command.ensures _ _ c.checking-command.ensures c.linearize.ensures in
+    let second = c.with_subcommand-command-2.ensures _ _ first c.watch.ensures in
+    c.with_subcommand.ensures _ _ second c.model.ensures
