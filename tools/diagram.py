@@ -9,19 +9,20 @@ from typing import Dict, List, Set, Tuple
 import drawing
 from routers import Plan, pairs_of
 from shapes import Box, Line, Point, Taken, around, at, bent, beside, curve, from_box, length, spanned, to_box
-from strokes import END, FULL, HEAD, ROUND, THICK, THIN, VIRTUAL, answer, arrow, label_box, middle_text
+from strokes import END, FULL, HEAD, LOADED, ROUND, THICK, THIN, VIRTUAL, answer, arrow, label_box, middle_text
 from strokes import router, width_of
 
 @dataclass
 class Marks:
     """What is said in a diagram: the number of each channel that shows one, which channels are full, which replies
-    there are, which of them are waited for, and which channels are no escapes."""
+    there are, which of them are waited for, which channels are no escapes, and the inks of channels that have their own."""
 
     numbers: Dict[int, str]
     full: Set[int] = field(default_factory=set)
     replies: List[Tuple[int, int]] = field(default_factory=list)
     awaited: Set[Tuple[int, int]] = field(default_factory=set)
     loose: Set[int] = field(default_factory=set)
+    inks: Dict[int, str] = field(default_factory=dict)
 
     def all_numbered(self) -> bool:
         """Whether each channel shows its number."""
@@ -265,10 +266,10 @@ class Diagram:
         made: List[str] = []
         for it in sorted(self.hops + self.ends, key=lambda it: it.channel in self.marks.full):
             full = it.channel in self.marks.full
-            ink = FULL if full else VIRTUAL[self.plan.virtual.get(it.channel, 0) % len(VIRTUAL)]
+            ink = FULL if full else self.marks.inks.get(it.channel) or VIRTUAL[self.plan.virtual.get(it.channel, 0) % len(VIRTUAL)]
             inside = [drawing.title(net_title[it.channel])]
             for line in it.lines:
-                inside += arrow(line, ink, THICK if full else THIN, it.gaps, it.channel in self.marks.loose)
+                inside += arrow(line, ink, THICK if full else LOADED if self.marks.inks else THIN, it.gaps, it.channel in self.marks.loose)
             made.append(drawing.group(inside))
         for (x, y), line in self.replies:
             ink = FULL if (x, y) in self.marks.awaited else VIRTUAL[0]

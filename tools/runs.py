@@ -11,16 +11,32 @@ import report
 
 # The most rounds of a run that no schedule gives.
 MOST_ROUNDS = 1000000
+# What a tool takes with a written network.
+WITH_NETWORK = {"REPORT": "what `torusmem simulate` or `tools/network simulate` printed", "TRAFFIC": "a traffic text"}
 
 
-def add_words(parser: command.Parser) -> None:
-    """The words of the command line that every tool for schedules has."""
-    parser.add_argument("machine", metavar="MACHINE", help="the text of a machine")
-    parser.add_argument("script", metavar="SCRIPT", help="the text of its scripts")
+def add_words(parser: command.Parser, of_network: str) -> None:
+    """The words of the command line that every tool for schedules has, and what it takes in place of a machine where a
+    written network is given."""
+    parser.add_argument("machine", metavar=f"MACHINE|{of_network}", help=f"the text of a machine; with --network: {WITH_NETWORK[of_network]}")
+    parser.add_argument("script", metavar="SCRIPT", nargs="?", help="the text of its scripts")
     what = "the schedule of a run, as tools/schedule prints it, or any text of steps; the run in clocked rounds if not given"
     parser.add_argument("schedule", metavar="SCHEDULE", nargs="?", help=what)
     what = "without a schedule: the run in rounds as `torusmem round` makes them, not in clocked ones"
     parser.add_argument("--rounds-in-order", action="store_true", help=what)
+    parser.add_argument("--network", metavar="NETWORK", help="the text of a network, in place of a machine")
+
+
+def refuse_network_words(given: argparse.Namespace) -> None:
+    """Refuses words that are of no use with a written network, or without a script where there is none."""
+    if given.network is None:
+        if given.script is None:
+            raise command.WrongWords("the following arguments are required: SCRIPT (--help says more)")
+        return
+    for word, name in ((given.script, "a second text"), (given.rounds_in_order, "--rounds-in-order")):
+        if word:
+            raise command.WrongWords(f"{name} is of no use with --network (--help says more)")
+    command.refuse_twice(given.network, given.machine)
 
 
 def in_rounds(case: drawn.Case, most: int, is_clocked: bool) -> str:

@@ -16,7 +16,7 @@ VIRTUAL = ("#4d4d4d", palette.BLUE, palette.PURPLE, palette.SKY)
 FULL, INK = palette.VERMILLION, palette.BLACK
 # Dashes of some inks, which tell them in grey too.
 DASHES = {palette.BLUE: "5 1.3", palette.PURPLE: "2.4 1.3", palette.SKY: "6 1.3 1.3 1.3"}
-THIN, THICK = 0.8, 2.2
+THIN, LOADED, THICK = 0.8, 1.6, 2.2
 
 
 def width_of(said: str, size: float = LETTERS) -> float:
