@@ -94,7 +94,7 @@ def legend(curves: list[list[Row]], dashes: dict[str, str | None], place: Point,
     return parts, low
 
 
-def plot(rows: list[Row], paper: Paper, words: str) -> str:
+def plot(rows: list[Row], paper: Paper, words: str, axis: str) -> str:
     """Both panels with all curves, and the legend."""
     wide, letters = paper.wide, paper.letters()
     shapes = list(dict.fromkeys(it["shape"] for it in rows))
@@ -110,6 +110,6 @@ def plot(rows: list[Row], paper: Paper, words: str) -> str:
     for panel, key in ((upper, "latency"), (lower, "accepted")):
         parts += [curve(panel, of, key, dashes[of[0]["shape"]]) for of in curves]
     low = lower.top + lower.high + 3.2 * letters
-    parts.append(drawing.text(left + room / 2, low, "offered, operations per tile and round", letters, text_anchor="middle"))
+    parts.append(drawing.text(left + room / 2, low, axis, letters, text_anchor="middle"))
     more, low = legend(curves, dashes, (left, low + 2 * letters), room, letters)
     return drawing.svg(wide, low, [*parts, *more], unit=paper.unit)

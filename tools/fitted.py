@@ -9,18 +9,20 @@ from routers import Plan, pairs_of, place
 from strokes import LANE, width_of
 
 MOST_TRIES = 6
+# How long a link between neighbours is at least.
+APART = 26.0
 # How much narrower a diagram may be made where there is little room.
 NARROWER = (0.96, 0.92, 0.88, 0.84, 0.8, 0.75, 0.7, 0.65)
 
 
-def diagram(plan: Plan, marks: Marks, room: float = math.inf) -> Diagram:
-    """The diagram of a network, as small as its numbers allow."""
+def diagram(plan: Plan, marks: Marks, room: float = math.inf, apart: float = APART) -> Diagram:
+    """The diagram of a network, as small as its numbers allow, its routers at least so far apart."""
     lanes = max((len(it) for it in pairs_of(plan).values()), default=1)
     most = max((width_of(it) for it in marks.numbers.values()), default=0)
     lane = max(LANE, most / 2 + (1.2 if plan.is_placed() else 4)) if marks.all_numbered() else LANE
     across = (lanes - 1) / 2 * lane + (11.5 if plan.is_placed() else 6)
     half = max(across, max(width_of(it) for it in plan.names) / 2 + 4), across
-    pitch = 2 * max(half) + 26 + most
+    pitch = 2 * max(half) + apart + most
     places = place(plan, marks.replies, (2 * half[0], 2 * half[1]), pitch)
     found: Optional[Diagram] = None
     for k in range(MOST_TRIES):

@@ -21,12 +21,14 @@ class Fill(NamedTuple):
 
 
 class Flit(NamedTuple):
-    """Where a flit goes, whether it is its packet's first and its last one, and the number of its packet where these have one."""
+    """Where a flit goes, whether it is its packet's first and its last one, and the number of its packet where these have
+    one, with its own in the packet."""
 
     goal: int
     head: bool
     tail: bool
     packet: int = 0
+    number: int = 0
 
 
 def route(net: Network, i: int, j: int) -> List[int]:

@@ -1,7 +1,7 @@
 """Draws packets for a written network: each sender asks for one with a given probability a round, by a pattern of traffic.
 
 Senders and receivers of which some packets go to one receiver belong together, as those of one message class do. In such a
-group the n-th sender stands where the n-th receiver stands, by the numbers of their channels; their digits are those of a shape.
+group the n-th sender stands where the n-th receiver stands, by the numbers of their channels; their digits are given.
 """
 from __future__ import annotations
 
@@ -16,7 +16,7 @@ from described import sizes
 from simulated import MOST, Packet
 from walked import Network
 
-# The patterns of `tools/sweep`, which need a shape but for the first and the last.
+# The patterns of `tools/sweep`, which need digits but for the first and the last.
 PATTERNS = ("uniform", "transpose", "bit-complement", "neighbour", "tornado", "hot-spot")
 # Probabilities are drawn as parts of a million.
 MILLION = 1000000
@@ -44,8 +44,8 @@ def groups_of(net: Network) -> List[Tuple[List[int], List[int]]]:
 class Traffic:
     """Where the packets of each sender go by a pattern."""
 
-    def __init__(self, net: Network, pattern: str, shape: Optional[List[int]]) -> None:
-        self.pattern, self.shape, self.net = pattern, shape, net
+    def __init__(self, net: Network, pattern: str, digits: Optional[List[int]]) -> None:
+        self.pattern, self.digits, self.net = pattern, digits, net
         self.joined = set(net.joins)
         self.ends: Dict[int, List[int]] = {}
         for i, j in sorted(self.joined):
@@ -56,15 +56,15 @@ class Traffic:
             self.check(starts, ends)
 
     def check(self, starts: List[int], ends: List[int]) -> None:
-        """Refuses senders and receivers that the pattern or the shape doesn't fit."""
+        """Refuses senders and receivers that the pattern or the digits don't fit."""
         if self.pattern in ("uniform", "hot-spot"):
             return
         if len(starts) != len(ends):
             raise command.Refusal(f"{len(starts)} senders have {len(ends)} receivers, and {self.pattern} needs as many")
-        if self.shape is None:
-            raise command.WrongWords(f"{self.pattern} needs the shape of the senders: --shape, as 4x4 (--help says more)")
-        if report.product(self.shape) != len(starts):
-            raise command.Refusal(f"{len(starts)} senders belong together, and the shape has {report.product(self.shape)} places")
+        if self.digits is None:
+            raise command.WrongWords(f"{self.pattern} needs the digits of the senders: --digits, as 4x4 (--help says more)")
+        if report.product(self.digits) != len(starts):
+            raise command.Refusal(f"{len(starts)} senders belong together, and --digits has {report.product(self.digits)} places")
 
     def end(self, numbers: drawn.Numbers, x: int) -> Optional[int]:
         """The receiver of the next packet of a sender; none where the network has no such pair."""
@@ -74,7 +74,7 @@ class Traffic:
         if self.pattern in ("uniform", "hot-spot"):
             return self.ends[x][numbers.below(len(self.ends[x]))]
         named = "complement" if self.pattern == "bit-complement" else self.pattern
-        j = ends[drawn.bank(numbers, named, place, self.shape or [], 0)]
+        j = ends[drawn.bank(numbers, named, place, self.digits or [], 0)]
         return j if (x, j) in self.joined else None
 
     def pairs(self) -> List[Tuple[float, int, int]]:
@@ -121,13 +121,13 @@ def add_words(words: ArgumentParser) -> None:
     add("--rate", metavar="R", type=fraction, help="of traffic: with which probability a sender asks for one in a round; 0.05 if not given")
     add("--length", metavar="L", type=command.whole(1, MOST), help="of traffic: how many flits a packet has; 4 if not given")
     add("--pattern", choices=PATTERNS, metavar="P", help=f"of traffic: {', '.join(PATTERNS)}; uniform if not given")
-    add("--shape", metavar="RADIX[xRADIX..]", type=partial(sizes, most=3), help="of traffic: the digits of the senders, as 4x4")
+    add("--digits", metavar="RADIX[xRADIX..]", type=partial(sizes, most=3), help="of traffic: the digits of the senders, as 4x4")
     add("--seed", metavar="S", type=command.whole(0, 2**64 - 1), help="of traffic: the seed; 1 if not given")
 
 
 def written(net: Network, given: Namespace) -> str:
     """The traffic text that the command line asks for: rounds are drawn until there are so many packets."""
-    traffic = Traffic(net, given.pattern or "uniform", given.shape)
+    traffic = Traffic(net, given.pattern or "uniform", given.digits)
     if not traffic.pairs():
         raise command.Refusal("the network has no pair that packets of this pattern go between")
     numbers, rate, most = drawn.Numbers(1 if given.seed is None else given.seed), given.rate or 0.05, given.packets or 100

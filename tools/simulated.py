@@ -143,9 +143,9 @@ class Simulation:
         self.tag(it.start, packet)
 
     def tag(self, x: int, packet: int) -> None:
-        """Notes on the last flit of a channel which packet it is of."""
-        flits = self.replay.channels[x].flits
-        flits[-1] = flits[-1]._replace(packet=packet)
+        """Notes on the last flit of a sender's channel which packet it is of, and which flit there."""
+        at = self.replay.channels[x]
+        at.flits[-1] = at.flits[-1]._replace(packet=packet, number=self.courses[packet].packet.size - at.rest - 1)
 
     def move(self, word: str, x: int, number: int) -> None:
         """Makes a move in a round."""
@@ -174,8 +174,11 @@ class Simulation:
         return f"not over after round {MOST_ROUNDS}"
 
     def report(self) -> List[str]:
-        """The report: the packets, the channels and how the simulation ends."""
-        end = self.run()
+        """The report: the packets, the channels and how the whole simulation ends."""
+        return self.lines(self.run())
+
+    def lines(self, end: str) -> List[str]:
+        """The lines of a report that ends so."""
         channels = [f"channel {x} flits {a} waited {b}" for x, (a, b) in enumerate(zip(self.left, self.waited))]
         return [*(it.line() for it in self.courses), *channels, end]
 

@@ -84,13 +84,13 @@ def built_driver(folder: str) -> str:
     return made
 
 
-def can_draw(torusmem: str) -> bool:
-    """Whether the program has the command `draw`: it then prints its help, with the status 2 that help has."""
+def has_command(torusmem: str, name: str) -> bool:
+    """Whether the program has a command: it then prints its help, with the status 2 that help has."""
     try:
-        said = subprocess.run([torusmem, "draw", "--help"], stdin=subprocess.DEVNULL, capture_output=True, check=False)
+        said = subprocess.run([torusmem, name, "--help"], stdin=subprocess.DEVNULL, capture_output=True, check=False)
     except OSError as fault:
         raise command.Refusal(f"cannot run {torusmem}: {fault.strerror or fault}") from None
-    return b"Usage: torusmem draw" in said.stdout
+    return f"Usage: torusmem {name}".encode() in said.stdout
 
 
 def write(case: Case, folder: str) -> None:
