@@ -18,7 +18,6 @@ from paper import Paper
 from routers import plan_of
 from simulated import MOST_ROUNDS as MOST_MADE
 from simulated import Course, Packet, Simulation
-from strokes import LETTERS
 from walked import Network
 
 # Of no network with more channels a page is made.
