@@ -1,10 +1,10 @@
 //! A trace that is judged while its lines come.
 
-ghost use Rattle.std.specs.Prelude.{◌≡◌, List, ℕ, [], IfOk};
+ghost use Rattle.std.specs.Prelude.{◌≡◌, List, ℕ, [], None, IfOk};
 ghost use Rattle.lexer.specs.Words.{first_words};
 ghost use Rattle.trace_laws.specs.declared.event.Event.{Event};
 ghost use Rattle.trace_watch.specs.Follows.{Tracks};
-ghost use Rattle.watch_command.specs.Stream.{after_stream_line};
+ghost use Rattle.watch_command.specs.Stream.{after_stream_line, nothing_streamed};
 ghost use Rattle.watch_command.specs.Views.{stream_of};
 ghost use Rattle.watch_command.specs.Watching.{IsKnownBefore, JudgesEvent, JudgesLine, TakesStreamLine};
 ghost use Rattle.watch_command.specs.Watching.{opening_of_head};
@@ -58,7 +58,10 @@ fn going_on<A: Allocator + Copy>(
 
 impl<A: Allocator + Copy> Watching<A> {
     /// A watch of a text of which no line has come.
-    pub fn begin(alloc: A) -> Result<Watching<A>, AllocError> {
+    pub fn begin(alloc: A) -> Result<Watching<A>, AllocError>
+        ensures reading { IfOk result (λ begun. stream_of begun.reading ≡ nothing_streamed) }
+        ensures watch { IfOk result (λ begun. begun.watch ≡ None) }
+    {
         Ok(Watching {
             reading: StreamReading::none(alloc)?,
             watch: None,
