@@ -27,16 +27,16 @@ COMMANDS: dict[str, tuple[list[str], dict[str, tuple[int, int] | None]]] = {
     "channels": (["MACHINE"], {"explain": None}),
     "check": (["REPORT"], {"explain": None}),
     "network": (["NETWORK"], {"run": None, "replay": WORD, "depth": (1, 8), "explain": None}),
+    "simulate": (["NETWORK", "TRAFFIC"], {"depth": (1, 8), "explain": None}),
     "linearize": (["TRACE"], {"configurations": (1, 4294967295), "report": None, "explain": None}),
     "watch": (["TRACE"], {"configurations": (1, 4294967295), "explain": None}),
     "model": (["LOG"], {"model": WORD, "order": None, "texts": WORDS, "explain": None}),
 }
 REQUIRED = {"draw": ["seed"]}  # the options that have to be given
-APART = {"network": {"run", "replay"}}  # the options that don't stand beside each other
 TILES = (0, 4294967295)
 # Why a file can't be read, where the program has words for it.
 WHY = {errno.ENOENT: "no such file or directory", errno.EACCES: "permission denied", errno.EISDIR: "it is a directory"}
-FILES = ("MACHINE", "SCRIPT", "STEPS", "REPORT", "NETWORK", "TRACE", "LOG")
+FILES = ("MACHINE", "SCRIPT", "STEPS", "REPORT", "NETWORK", "TRAFFIC", "TRACE", "LOG")
 TRY = "\n\nFor more information, try '--help'.\n"
 
 
@@ -215,14 +215,25 @@ def command(name: str, rest: list[str]) -> Answer | Job:
         if needed[len(found)] not in FILES:
             number(word, f"<{needed[len(found)]}>", TILES)
         found.append(at - 1)
-    if name in APART and APART[name] <= set(given):
-        raise Unclear
     missing = [f"--{it} <{it}>" for it in REQUIRED.get(name, []) if it not in given]
     missing += [f"<{it}>" for it in needed[len(found) :]]
     if missing:
         lines = "".join(f"\n  {it}" for it in missing)
         raise Wrong(f"the following required arguments were not provided:{lines}{usage_with(name, given)}")
+    text = misuse(given) if name == "network" else ""
+    if text:
+        return Answer(text, 2)
     return Job([name, *rest], [1 + place for place, it in zip(found, needed) if it in FILES], "explain" in given)
+
+
+def misuse(given: list[str]) -> str:
+    """What is wrong with options of `network` beside each other, or nothing."""
+    runs = {"run", "replay"} & set(given)
+    if len(runs) == 2:
+        return "network takes --run or --replay, not both\n"
+    if "depth" in given and not runs:
+        return "--depth goes with --run or --replay: a verdict is that of every depth\n"
+    return ""
 
 
 def usage_with(name: str, used: list[str]) -> str:

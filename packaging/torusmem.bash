@@ -3,10 +3,10 @@
 _torusmem() {
   local word=${COMP_WORDS[COMP_CWORD]} before=${COMP_WORDS[COMP_CWORD - 1]} words=""
   if [ "$COMP_CWORD" = 1 ]; then
-    words="steps round run live schedule draw route channels check network linearize watch model help --help --version"
+    words="steps round run live schedule draw route channels check network simulate linearize watch model help --help --version"
   else
     case ${COMP_WORDS[1]} in
-    help) words="steps round run live schedule draw route channels check network linearize watch model help" ;;
+    help) words="steps round run live schedule draw route channels check network simulate linearize watch model help" ;;
     steps) words="--moves --explain --help" ;;
     round | schedule) words="--rounds --clocked --explain --help" ;;
     draw) words="--seed --steps --explain --help" ;;
@@ -16,6 +16,7 @@ _torusmem() {
     watch) words="--configurations --explain --help" ;;
     model) words="--model --order --texts --explain --help" ;;
     network) words="--run --replay --depth --explain --help" ;;
+    simulate) words="--depth --explain --help" ;;
     live | channels | check) words="--explain --help" ;;
     esac
     case "${COMP_WORDS[1]} $before" in "model --model") COMPREPLY=($(compgen -W "coherent fenced pso tso sc" -- "$word")) && return ;; esac

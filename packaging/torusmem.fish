@@ -1,6 +1,6 @@
 # Completions of fish for torusmem and torusmem-tools.
 
-set -l commands steps round run live schedule draw route channels check network linearize watch model help
+set -l commands steps round run live schedule draw route channels check network simulate linearize watch model help
 
 complete -c torusmem -n "not __fish_seen_subcommand_from $commands" -f -a "$commands"
 complete -c torusmem -n "not __fish_seen_subcommand_from $commands" -f -l version -d "the version"
@@ -17,7 +17,7 @@ complete -c torusmem -n "__fish_seen_subcommand_from run" -x -l turns -d "the mo
 complete -c torusmem -n "__fish_seen_subcommand_from route" -l reply -d "the route of a reply"
 complete -c torusmem -n "__fish_seen_subcommand_from network" -l run -d "the run by which it locks up"
 complete -c torusmem -n "__fish_seen_subcommand_from network" -r -l replay -d "replay a run"
-complete -c torusmem -n "__fish_seen_subcommand_from network" -x -l depth -d "how many flits a channel holds"
+complete -c torusmem -n "__fish_seen_subcommand_from network simulate" -x -l depth -d "how many flits a channel holds"
 complete -c torusmem -n "__fish_seen_subcommand_from linearize watch" -x -l configurations -d "the most configurations of a word"
 complete -c torusmem -n "__fish_seen_subcommand_from linearize" -l report -d "print a report"
 complete -c torusmem -n "__fish_seen_subcommand_from model" -x -l model -a "coherent fenced pso tso sc" -d "the model of the status"

@@ -12,6 +12,7 @@ _torusmem_commands=(
   'channels:all channels with their numbers'
   'check:whether a report is good'
   'network:whether a network can lock up'
+  'simulate:when packets arrive in clocked rounds'
   'linearize:an order that explains a trace'
   'watch:whether a trace goes wrong, while it comes'
   'model:which memory models a log obeys'
@@ -35,6 +36,7 @@ _torusmem() {
   linearize) options=(--configurations --report) ;;
   watch) options=(--configurations) ;;
   network) options=(--run --replay --depth) ;;
+  simulate) options=(--depth) ;;
   model) options=(--model --order --texts) ;;
   esac
   case $words[CURRENT-1] in

@@ -11,7 +11,7 @@ use Rattle.commands.specs.Done.{PrintsRoute, PrintsChannels, PrintsVerdict}
 use Rattle.command_line.specs.declared.command.Job.{Job}
 use Rattle.command_line.specs.declared.command.Job.TheVariants.{Steps, Round, Run, Live, Route}
 use Rattle.command_line.specs.declared.command.Job.TheVariants.{Channels, Check}
-use Rattle.command_line.specs.declared.command.Job.TheVariants.{Network, LockUp, Replay}
+use Rattle.command_line.specs.declared.command.Job.TheVariants.{Network, LockUp, Replay, Simulate}
 use Rattle.command_line.specs.declared.command.Job.TheVariants.{Linearize, Report, Watch, Model, RunModel}
 use Rattle.command_line.specs.declared.command.Job.TheVariants.{Schedule, Draw, Moves}
 use Rattle.command_jobs.specs.declared.answering.Ended.{Ended}
@@ -28,6 +28,7 @@ is_of_commands (Live machine) = false
 is_of_commands (Network network) = false
 is_of_commands (LockUp network depth) = false
 is_of_commands (Replay network run depth) = false
+is_of_commands (Simulate network traffic depth) = false
 is_of_commands (Linearize trace configurations) = false
 is_of_commands (Report trace configurations) = false
 is_of_commands (Watch trace configurations) = false

@@ -38,6 +38,11 @@ pub fn names<'a>(job: &Job<'a>) -> Names<'a> {
             ..
         } => (machine, Some(script), None),
         Job::Replay { network, run, .. } => (network, Some(run), None),
+        Job::Simulate {
+            network,
+            traffic,
+            ..
+        } => (network, Some(traffic), None),
         Job::RunModel {
             log,
             machine,

@@ -1,5 +1,5 @@
 -- The command line is one of which clap says all.
-use Rattle.std.specs.Prelude.{◌≡◌, true, List, Option, Some, None, IfSome, option_map}
+use Rattle.std.specs.Prelude.{◌≡◌, true, List, Option, Some, None, IfSome, codes, option_map}
 use Rattle.std.proofs.Common.{refl, ap, sym, subst, ◌∙◌}
 use Rattle.clap.specs.Simple.{App, HasMatchesOf, is_simple, subcommand_of, subcommand_rows_of}
 use Rattle.clap.specs.Matches.{subcommand_name_of}
@@ -8,6 +8,9 @@ use Rattle.clap.specs.declared.parser.matches.ArgMatches.{ArgMatches}
 use Rattle.clap.specs.declared.parser.matches.ArgMatches.TheViews.{out-ArgMatches}
 use Rattle.command_line.specs.CommandLine.{name_by, rows_by, torusmem_app}
 use Rattle.command_line.specs.Job.{rows_in}
+use Rattle.command_line.specs.Refused.{IsMisuse, TellsNoRequest}
+use Rattle.command_line.specs.declared.refused.NoRequest.{NoRequest}
+use Rattle.command_line.specs.declared.refused.NoRequest.TheVariants.{Parser, Options, Missing}
 
 pub torusmem_is_simple : is_simple torusmem_app ≡ true
 torusmem_is_simple = refl
@@ -32,3 +35,13 @@ name_is a words m name e has named = ap (option_map (λ f. f.0)) (sym (found_row
 pub rows_are : (a : App) (words : List Text) (m : ArgMatches) (P : List Row → Type 0) → a ≡ torusmem_app → HasMatchesOf a words m
     → IfSome (rows_in (subcommand_rows_of m)) P → IfSome (rows_by words) P
 rows_are a words m P e has given = subst (λ o. IfSome (rows_in o) P) (found_rows a words m e has) given
+
+-- what is wrong with the options that the matches have is wrong with those of the command line
+pub refused_is : (words : List Text) (m : ArgMatches) (e : NoRequest) → HasMatchesOf torusmem_app words m
+    → TellsNoRequest (subcommand_name_of m) (rows_in (subcommand_rows_of m)) e → TellsNoRequest (name_by words) (rows_by words) e
+refused_is words m (Options misuse) has tells = (
+  name_is torusmem_app words m (codes "network") refl has tells.0,
+  rows_are torusmem_app words m (IsMisuse misuse) refl has tells.1,
+)
+refused_is words m (Parser error) has tells = tt
+refused_is words m Missing has tells = tt

@@ -51,12 +51,13 @@ turns = count (codes "turns") (up_to (pos 1000000000)) (codes "1000000000")
 abbrev pub configurations : Rule
 configurations = count (codes "configurations") (up_to (pos 4294967295)) (codes "1000000")
 
+-- the option of this name, one of these numbers; it has no default
+abbrev pub count_if_given : Text → ValueParser → Rule
+count_if_given name numbers = record (new_rule name) { long = Some name; parser = Some numbers }
+
 -- the option of this name, any number of 64 bits; it has no default
 abbrev pub long_number : Text → Rule
-long_number name = record (new_rule name) {
-  long = Some name;
-  parser = Some (vp.Unsigned 0 18446744073709551615);
-}
+long_number name = count_if_given name (vp.Unsigned 0 18446744073709551615)
 
 -- the option for the seed of a drawn schedule, a number of 64 bits that has to be given
 abbrev pub seed : Rule
@@ -74,8 +75,13 @@ word_option name usual = record (new_rule name) { long = Some name; defaults = u
 abbrev pub word_without_usual : Text → Rule
 word_without_usual name = record (new_rule name) { long = Some name }
 
--- the option for how many flits a channel of a run holds, a number from 1 to 8, which is 1 where it
--- isn't given
+-- the option for how many flits a channel of a run holds, a number from 1 to 8; a verdict has none, so
+-- it has no default
+abbrev pub depth_of_run : Rule
+depth_of_run = count_if_given (codes "depth") (up_to (pos 8))
+
+-- the option for how many flits a channel of a simulation holds, a number from 1 to 8, which is 1 where
+-- it isn't given
 abbrev pub depth_option : Rule
 depth_option = count (codes "depth") (up_to (pos 8)) (codes "1")
 
@@ -144,7 +150,12 @@ check_app = with_rule (with_rule (new_app (codes "check")) (needed (codes "REPOR
 abbrev pub network_app : App
 network_app = with_rule (with_rule (with_rule (with_rule (with_rule (new_app (codes "network"))
     (needed (codes "NETWORK"))) (flag_option (codes "run")))
-    (word_without_usual (codes "replay"))) depth_option) explain
+    (word_without_usual (codes "replay"))) depth_of_run) explain
+
+-- `simulate NETWORK TRAFFIC [--depth D] [--explain]`
+abbrev pub simulate_app : App
+simulate_app = with_rule (with_rule (with_rule (with_rule (new_app (codes "simulate"))
+    (needed (codes "NETWORK"))) (needed (codes "TRAFFIC"))) depth_option) explain
 
 -- `linearize TRACE [--configurations N] [--report] [--explain]`
 abbrev pub linearize_app : App
@@ -189,7 +200,7 @@ checking_app = with_subcommand routing_app check_app.top
 
 -- and with those on networks
 abbrev pub networking_app : App
-networking_app = with_subcommand checking_app network_app.top
+networking_app = with_subcommand (with_subcommand checking_app network_app.top) simulate_app.top
 
 -- and with the one that judges a trace
 abbrev pub judging_app : App

@@ -1,5 +1,6 @@
 -- What a job says of the values that the words of its subcommand give (this project's own format).
 use Rattle.std.specs.Prelude.{◌≡◌, ℕ, ◌≤◌, Bool, true, false, List, [], ◌∷◌, Option, Some, None, codes, option_map}
+use Rattle.std.specs.Option.{unwrap_or}
 use Rattle.std.specs.Str.Parse.{digits_value, without_leading_plus}
 use Rattle.clap.specs.Words.{Row, Text, all_of, first_of, one_of}
 use Rattle.torus.specs.declared.shape.Class.{Class}
@@ -7,7 +8,7 @@ use Rattle.torus.specs.declared.shape.Class.TheVariants.{Request, Reply}
 use Rattle.command_line.specs.declared.command.Job.{Job}
 use Rattle.command_line.specs.declared.command.Job.TheVariants.{Steps, Round, Run, Live, Route}
 use Rattle.command_line.specs.declared.command.Job.TheVariants.{Channels, Check}
-use Rattle.command_line.specs.declared.command.Job.TheVariants.{Network, LockUp, Replay}
+use Rattle.command_line.specs.declared.command.Job.TheVariants.{Network, LockUp, Replay, Simulate}
 use Rattle.command_line.specs.declared.command.Job.TheVariants.{Linearize, Report, Watch, Model, RunModel}
 use Rattle.command_line.specs.declared.command.Job.TheVariants.{Schedule, Draw, Moves}
 
@@ -44,6 +45,7 @@ name_of (Check report) = codes "check"
 name_of (Network network) = codes "network"
 name_of (LockUp network depth) = codes "network"
 name_of (Replay network run depth) = codes "network"
+name_of (Simulate network traffic depth) = codes "simulate"
 name_of (Linearize trace configurations) = codes "linearize"
 name_of (Report trace configurations) = codes "linearize"
 name_of (Watch trace configurations) = codes "watch"
@@ -52,6 +54,10 @@ name_of (RunModel log model order machine script) = codes "model"
 name_of (Schedule machine script rounds clocked) = codes "schedule"
 name_of (Draw machine script seed steps) = codes "draw"
 name_of (Moves machine script steps) = codes "steps"
+
+-- the depth of a run: the number that is written for it, or 1 where there is none
+abbrev pub depth_in : List Row → ℕ
+depth_in rows = unwrap_or (number_in (codes "depth") rows) 1
 
 -- whether the flag of this name is given
 abbrev pub IsFlag : Text → Bool → List Row → Type 0
@@ -80,11 +86,16 @@ AreOf (Channels machine) rows = first_of (codes "MACHINE") rows ≡ Some machine
 AreOf (Check report) rows = first_of (codes "REPORT") rows ≡ Some report.now
 AreOf (Network network) rows = (first_of (codes "NETWORK") rows ≡ Some network.now)
     × IsFlag (codes "run") false rows × (first_of (codes "replay") rows ≡ None)
+    × (number_in (codes "depth") rows ≡ None)
 AreOf (LockUp network depth) rows = (first_of (codes "NETWORK") rows ≡ Some network.now)
     × IsFlag (codes "run") true rows × (first_of (codes "replay") rows ≡ None)
-    × (number_in (codes "depth") rows ≡ Some depth)
+    × (depth_in rows ≡ depth)
 AreOf (Replay network run depth) rows = (first_of (codes "NETWORK") rows ≡ Some network.now)
     × IsFlag (codes "run") false rows × (first_of (codes "replay") rows ≡ Some run.now)
+    × (depth_in rows ≡ depth)
+AreOf (Simulate network traffic depth) rows =
+    (first_of (codes "NETWORK") rows ≡ Some network.now)
+    × (first_of (codes "TRAFFIC") rows ≡ Some traffic.now)
     × (number_in (codes "depth") rows ≡ Some depth)
 AreOf (Linearize trace configurations) rows =
     (first_of (codes "TRACE") rows ≡ Some trace.now)
@@ -125,6 +136,7 @@ AreJobLimits (Run machine script workers turns) =
     ((1 ≤ workers) × (workers ≤ 16)) × ((1 ≤ turns) × (turns ≤ 1000000000))
 AreJobLimits (LockUp network depth) = (1 ≤ depth) × (depth ≤ 8)
 AreJobLimits (Replay network run depth) = (1 ≤ depth) × (depth ≤ 8)
+AreJobLimits (Simulate network traffic depth) = (1 ≤ depth) × (depth ≤ 8)
 AreJobLimits (Linearize trace configurations) = 1 ≤ configurations
 AreJobLimits (Report trace configurations) = 1 ≤ configurations
 AreJobLimits (Watch trace configurations) = 1 ≤ configurations

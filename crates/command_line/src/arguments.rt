@@ -1,7 +1,7 @@
 //! The kinds of arguments that the subcommands have.
 ghost use Rattle.std.specs.Prelude.{◌≡◌, false};
 ghost use Rattle.clap.specs.Words.{rule_of};
-ghost use Rattle.command_line.specs.CommandLine.{count, flag_option, long_number, needed, seed, tile};
+ghost use Rattle.command_line.specs.CommandLine.{count, count_if_given, flag_option, needed, seed, tile};
 ghost use Rattle.command_line.specs.CommandLine.{texts_option, word_option, word_without_usual};
 
 use clap::builder::ValueParser;
@@ -56,14 +56,19 @@ pub(crate) fn count<'a>(
         .help(help)
 }
 
-/// An option of this name, any number of 64 bits.
-pub(crate) fn long_number<'a>(alloc: Global, name: &'a str, help: &'a str) -> Arg<'a>
-    ensures rule { rule_of result ≡ long_number name.entry.now }
+/// An option of this name, one of these numbers; it has no default.
+pub(crate) fn count_if_given<'a>(
+    alloc: Global,
+    name: &'a str,
+    numbers: ValueParser<'a>,
+    help: &'a str,
+) -> Arg<'a>
+    ensures rule { rule_of result ≡ count_if_given name.entry.now numbers.entry }
     ensures local { result.global ≡ false }
 {
     Arg::new(alloc, name)
         .long(name)
-        .value_parser(ValueParser::Unsigned(0, 18446744073709551615))
+        .value_parser(numbers)
         .help(help)
 }
 

@@ -5,6 +5,7 @@ ghost use Rattle.command_line.specs.CommandLine.{AsksVersion, name_by, rows_by};
 ghost use Rattle.command_line.specs.Job.{AreOf, IsFlag, AreJobLimits, name_of};
 
 use crate::command::{Request, read_request};
+use crate::refused::{NoRequest, misuse_text};
 use std::convert::AsStr;
 use std::rt::Env;
 use std::{env, io};
@@ -52,9 +53,25 @@ pub fn request_told<'a, R: Print + Eprint + AllocGlobal, S: AsStr>(
 {
     match read_request(rt.alloc(), words) {
         Ok(request) => Some(request),
-        Err(error) => {
-            let _ = error.print(rt);
+        Err(why) => {
+            tell_refused(rt, &why);
             None
+        }
+    }
+}
+
+/// Says why the words are no request.
+fn tell_refused<R: Print + Eprint>(rt: &R, why: &NoRequest) {
+    match why {
+        NoRequest::Parser(error) => {
+            let _ = error.print(rt);
+        }
+        NoRequest::Options(misuse) => {
+            let text = misuse_text(*misuse);
+            let _ = eprintln!(rt; "{text}");
+        }
+        NoRequest::Missing => {
+            let _ = eprintln!(rt; "a value is missing");
         }
     }
 }

@@ -4,7 +4,7 @@ ghost use Rattle.command_line.specs.Making.{IsCommand};
 
 use crate::making::{Making, program, with_subcommand};
 use crate::subcommands::{
-    draw, in_rounds, linearize, model, network, of_one_file, route, run, steps, watch,
+    draw, in_rounds, linearize, model, network, of_one_file, route, run, simulate, steps, watch,
 };
 use std::alloc::Global;
 
@@ -45,7 +45,8 @@ fn checking<'a>(alloc: Global) -> Making<'a>
     let about = "Checks a report";
     let check = of_one_file(alloc, "check", about, "REPORT", "The file with the report");
     let command = with_subcommand(command, check);
-    with_subcommand(command, network(alloc))
+    let command = with_subcommand(command, network(alloc));
+    with_subcommand(command, simulate(alloc))
 }
 
 /// The program with all its subcommands.

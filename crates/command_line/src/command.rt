@@ -1,16 +1,18 @@
-ghost use Rattle.std.specs.Prelude.{◌≡◌, IfOk, IfSome, Some, map, codes};
-ghost use Rattle.clap.specs.Words.{found_of, rows_of, subcommand_name_of, subcommand_rows_of};
-ghost use Rattle.command_line.specs.CommandLine.{name_by, rows_by};
+ghost use Rattle.std.specs.Prelude.{◌≡◌, IfErr, IfOk, IfSome, Some, map, codes};
+ghost use Rattle.clap.specs.Words.{HasMatchesOf, found_of, rows_of};
+ghost use Rattle.clap.specs.Words.{subcommand_name_of, subcommand_rows_of};
+ghost use Rattle.command_line.specs.CommandLine.{name_by, rows_by, torusmem_app};
 ghost use Rattle.command_line.specs.Job.{AreOf, IsFlag, NamesJob, AreJobLimits, name_of, rows_in};
+ghost use Rattle.command_line.specs.Refused.{TellsNoRequest};
 
 use crate::building::command;
 use crate::jobs::{
     channels_job, check_job, draw_job, linearize_job, live_job, model_job, network_job, round_job,
-    route_job, run_job, schedule_job, steps_job, watch_job,
+    route_job, run_job, schedule_job, simulate_job, steps_job, watch_job,
 };
+use crate::refused::{NoRequest, no_request};
 use crate::values::flag_of;
-use clap::error::ErrorKind;
-use clap::{ArgMatches, Command, Error};
+use clap::{ArgMatches, Error};
 use std::alloc::Global;
 use std::convert::AsStr;
 use torus::Class;
@@ -71,6 +73,12 @@ pub enum Job<'a> {
     Replay {
         network: &'a str,
         run: &'a str,
+        depth: u32,
+    },
+    /// Send the packets of a traffic text through a network whose channels hold so many flits.
+    Simulate {
+        network: &'a str,
+        traffic: &'a str,
         depth: u32,
     },
     /// Find the one order of a trace, with so many configurations of a word at once at most, and
@@ -138,11 +146,14 @@ pub struct Request<'a> {
 
 /// Reads the words of a command line, the program's own name among them.
 ///
-/// Errors: what the parser says of the words, help among it, or that memory ran out.
-pub fn read_command<'a, S: AsStr>(alloc: Global, words: &'a [S]) -> Result<Job<'a>, Error>
+/// Errors: what the parser says of the words, help among it, or that memory ran out; or that options of
+/// `network` are misused.
+pub fn read_command<'a, S: AsStr>(alloc: Global, words: &'a [S]) -> Result<Job<'a>, NoRequest>
     ensures named { IfOk result (λ job. name_by (map S.text words.entry.now) ≡ Some (name_of job)) }
     ensures given { IfOk result (λ job. IfSome (rows_by (map S.text words.entry.now)) (AreOf job)) }
     ensures limits { IfOk result AreJobLimits }
+    ensures refused { IfErr result (TellsNoRequest (name_by (map S.text words.entry.now))
+        (rows_by (map S.text words.entry.now))) }
 {
     Ok(read_request(alloc, words)?.job)
 }
@@ -150,7 +161,7 @@ pub fn read_command<'a, S: AsStr>(alloc: Global, words: &'a [S]) -> Result<Job<'
 /// Does what `read_command` does, and tells also whether the words have `--explain`.
 ///
 /// Errors: as `read_command`.
-pub fn read_request<'a, S: AsStr>(alloc: Global, words: &'a [S]) -> Result<Request<'a>, Error>
+pub fn read_request<'a, S: AsStr>(alloc: Global, words: &'a [S]) -> Result<Request<'a>, NoRequest>
     ensures named { IfOk result
         (λ r. name_by (map S.text words.entry.now) ≡ Some (name_of r.job)) }
     ensures given { IfOk result
@@ -158,23 +169,27 @@ pub fn read_request<'a, S: AsStr>(alloc: Global, words: &'a [S]) -> Result<Reque
     ensures explain { IfOk result
         (λ r. IfSome (rows_by (map S.text words.entry.now)) (IsFlag (codes "explain") r.explain)) }
     ensures limits { IfOk result (λ r. AreJobLimits r.job) }
+    ensures refused { IfErr result (TellsNoRequest (name_by (map S.text words.entry.now))
+        (rows_by (map S.text words.entry.now))) }
 {
-    let mut command = command(alloc)?;
-    let matches = command.try_get_matches_from_mut(words)?;
-    match request_of(&matches) {
-        Some(request) => Ok(request),
-        None => Err(missing(&mut command)),
+    match parsed(alloc, words) {
+        Ok(matches) => match request_of(&matches) {
+            Some(request) => Ok(request),
+            None => Err(no_request(&matches)),
+        },
+        Err(error) => Err(NoRequest::Parser(error)),
     }
 }
 
-/// The error of options that exclude one another, or of a value that is missing; or that memory ran
-/// out.
-fn missing(command: &mut Command<'_>) -> Error {
-    let text = "--run stands beside --replay, or a value is missing";
-    match command.error(ErrorKind::InvalidValue, text) {
-        Ok(error) => error,
-        Err(refused) => Error::from(refused),
-    }
+/// What the parser makes of the words.
+///
+/// Errors: what it says of them, or that memory ran out.
+fn parsed<'a, S: AsStr>(alloc: Global, words: &'a [S]) -> Result<ArgMatches<'a>, Error>
+    ensures { IfOk result (HasMatchesOf torusmem_app (map S.text words.entry.now)) }
+{
+    let mut command = command(alloc)?;
+    let matches = command.try_get_matches_from_mut(words)?;
+    Ok(matches)
 }
 
 /// The job that the matches name, and whether they have `--explain`.
@@ -208,6 +223,7 @@ fn job_by<'a>(name: &str, given: &ArgMatches<'a>) -> Option<Job<'a>>
         "channels" => channels_job(given),
         "check" => check_job(given),
         "network" => network_job(given),
+        "simulate" => simulate_job(given),
         "linearize" => linearize_job(given),
         "watch" => watch_job(given),
         "model" => model_job(given),

@@ -5,7 +5,8 @@ ghost use Rattle.command_line.specs.Job.{NamesJob};
 
 use crate::command::Job;
 use crate::values::{
-    class, flag_of, long_number, long_number_if_given, number, number_within, two_words, word,
+    class, flag_of, long_number, long_number_if_given, number, number_if_given, number_within,
+    two_words, word,
 };
 use clap::ArgMatches;
 
@@ -111,12 +112,13 @@ pub(crate) fn check_job<'a>(given: &ArgMatches<'a>) -> Option<Job<'a>>
 }
 
 /// The network of `network`, of which the verdict or a run is asked for, or over which a run is
-/// replayed; none where both are asked for.
+/// replayed; none where both are asked for, or a depth is given and neither is.
 pub(crate) fn network_job<'a>(given: &ArgMatches<'a>) -> Option<Job<'a>>
     ensures { IfSome result (NamesJob (codes "network") (rows_of (found_of given.now))) }
 {
     let network = word(given, "NETWORK")?;
-    let depth = number_within(given, "depth", 8)?;
+    let given_depth = number_if_given(given, "depth", 8)?;
+    let depth = given_depth.unwrap_or(1);
     match (flag_of(given, "run")?, word(given, "replay")) {
         (true, Some(_)) => None,
         (true, None) => Some(Job::LockUp { network, depth }),
@@ -125,8 +127,21 @@ pub(crate) fn network_job<'a>(given: &ArgMatches<'a>) -> Option<Job<'a>>
             run,
             depth,
         }),
-        (false, None) => Some(Job::Network { network }),
+        (false, None) => match given_depth {
+            Some(_) => None,
+            None => Some(Job::Network { network }),
+        },
     }
+}
+
+pub(crate) fn simulate_job<'a>(given: &ArgMatches<'a>) -> Option<Job<'a>>
+    ensures { IfSome result (NamesJob (codes "simulate") (rows_of (found_of given.now))) }
+{
+    Some(Job::Simulate {
+        network: word(given, "NETWORK")?,
+        traffic: word(given, "TRAFFIC")?,
+        depth: number_within(given, "depth", 8)?,
+    })
 }
 
 /// The trace of `linearize`, of which the lines of an order or its report are asked for.

@@ -7,8 +7,10 @@ mod building;
 pub mod command;
 mod jobs;
 mod making;
+pub mod refused;
 mod subcommands;
 mod values;
 
 pub use asking::{asks_version, request_told, words_told};
 pub use command::{Job, Request, read_command, read_request};
+pub use refused::{Misuse, NoRequest, misuse_text};

@@ -4,11 +4,11 @@ ghost use Rattle.command_line.specs.CommandLine.{channels_app, check_app, draw_a
 ghost use Rattle.command_line.specs.CommandLine.{linearize_app, model_app, needed};
 ghost use Rattle.command_line.specs.CommandLine.{network_app};
 ghost use Rattle.command_line.specs.CommandLine.{rounds_app, route_app, run_app, steps_app};
-ghost use Rattle.command_line.specs.CommandLine.{watch_app};
+ghost use Rattle.command_line.specs.CommandLine.{simulate_app, watch_app};
 ghost use Rattle.command_line.specs.Making.{IsCommand};
 
 use crate::arguments::{
-    count, file, flag, long_number, seed, texts, tile, word_if_given, word_option,
+    count, count_if_given, file, flag, seed, texts, tile, word_if_given, word_option,
 };
 use crate::making::{Making, loading, named, with_argument, with_explain};
 use clap::builder::ValueParser;
@@ -59,7 +59,8 @@ pub(crate) fn draw<'a>(alloc: Global) -> Making<'a>
     let command = loading(alloc, "draw", about);
     let command = with_argument(command, seed(alloc));
     let help = "At most this many moves, 0 to 18446744073709551615; no limit by default";
-    let command = with_argument(command, long_number(alloc, "steps", help));
+    let numbers = ValueParser::Unsigned(0, 18446744073709551615);
+    let command = with_argument(command, count_if_given(alloc, "steps", numbers, help));
     with_explain(alloc, command)
 }
 
@@ -102,7 +103,20 @@ pub(crate) fn network<'a>(alloc: Global) -> Making<'a>
     let command = with_argument(command, flag(alloc, "run", help));
     let help = "Replays the run of this file, and prints how it ends";
     let command = with_argument(command, word_if_given(alloc, "replay", help));
-    let help = "How many flits a channel of a run holds, 1 to 8";
+    let help = "How many flits a channel of a run holds, 1 to 8; 1 by default";
+    let numbers = ValueParser::Signed(1, 8);
+    let command = with_argument(command, count_if_given(alloc, "depth", numbers, help));
+    with_explain(alloc, command)
+}
+
+pub(crate) fn simulate<'a>(alloc: Global) -> Making<'a>
+    ensures { IsCommand simulate_app result }
+{
+    let about = "Sends packets through a network in clocked rounds, and prints when each arrives";
+    let command = named(alloc, "simulate", about);
+    let command = with_argument(command, file(alloc, "NETWORK", "The file with the network"));
+    let command = with_argument(command, file(alloc, "TRAFFIC", "The file with the packets"));
+    let help = "How many flits a channel holds, 1 to 8";
     let numbers = ValueParser::Signed(1, 8);
     let command = with_argument(command, count(alloc, "depth", numbers, "1", help));
     with_explain(alloc, command)

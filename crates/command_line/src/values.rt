@@ -64,6 +64,18 @@ pub(crate) fn number_within(given: &ArgMatches<'_>, id: &str, most: u32) -> Opti
     Some(number)
 }
 
+/// The number that was given for an option, from 1 to the most that is allowed, where there is one.
+pub(crate) fn number_if_given(given: &ArgMatches<'_>, id: &str, most: u32) -> Option<Option<u32>>
+    ensures given { IfSome result (λ n. number_in id.now (rows_of (found_of given.now)) ≡ n) }
+    ensures within { IfSome result (λ n. IfSome n (λ n. (1 ≤ n) × (n ≤ most))) }
+{
+    if given.contains_id(id) {
+        Some(Some(number_within(given, id, most)?))
+    } else {
+        Some(None)
+    }
+}
+
 /// Whether the flag of this name is given.
 pub(crate) fn flag_of(given: &ArgMatches<'_>, id: &str) -> Option<bool>
     ensures { IfSome result (λ is. IsFlag id.now is (rows_of (found_of given.now))) }

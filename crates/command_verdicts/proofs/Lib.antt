@@ -3,3 +3,4 @@ mod Reports
 mod Refusals
 pub mod NoAnswers
 pub mod RunModels
+mod Tables

@@ -4,6 +4,7 @@ pub mod Judging
 pub mod Modelled
 pub mod RunModelled
 pub mod Reporting
+pub mod Tables
 pub mod Told
 pub mod Watched
 pub mod Hints

@@ -22,7 +22,7 @@ use Rattle.program_fault.specs.Outcome.{of_line}
 use Rattle.command_verdicts.specs.declared.model.Modelled.{Modelled}
 use Rattle.command_verdicts.specs.declared.model.Modelled.TheVariants.{Obeys, Wrong, OtherShape, OtherOperation}
 
--- what is told where there is no answer
+-- what the command answers where the models give no answer
 abbrev pub unanswered : NoTextsAnswer → Result Modelled ProgramFault
 unanswered (texts.Report (Bad line)) = Err (program.Bad line)
 unanswered (texts.Report (NoOrder line)) =
@@ -35,7 +35,7 @@ unanswered (texts.Report Memory) = Err (program.Fault fault.Memory)
 unanswered (texts.OtherShape line) = Ok (OtherShape line)
 unanswered (texts.OtherOperation line p passed) = Ok (OtherOperation line p passed)
 
--- there is no answer for a reason of which this is told
+-- the models give no answer, for a reason to which the command answers this
 pub record IsUnanswered (m : MachineSpec) (s : ScriptsSpec) (report : List ℕ) (modelled : Modelled)
     : Type 0 where
   pub why : NoTextsAnswer

@@ -2,14 +2,17 @@
 
 ghost use Rattle.std.specs.Prelude.{◌≤◌};
 
-use crate::hints::begins_table;
+use crate::explaining_table::{explain_no_order_of_table, explain_table};
+use crate::hints::{begins_anynet, begins_table};
 use crate::model::{Modelled, is_report};
 use adaptive_text::routing_sentence;
 use error_lines::{Kind, explain, explain_by, is_of_texts, named, told};
 use model_answer::LogSentence;
 use model_text::read_log;
+use network_rounds::TrafficSentence;
 use network_run::{RunSentence, replay_text};
 use network_text::{NetworkSentence, network_answer, read_network};
+use network_traffic::read_packets;
 use program_fault::{Names, ProgramFault, Texts};
 use sentences::scripts_sentence;
 use trace_why::{no_order_sentence, trace_sentence};
@@ -42,10 +45,17 @@ pub fn explain_network<R: Eprint + AllocGlobal>(
     if is_of_texts(fault) {
         let sentence = routing_sentence(rt.alloc(), named(name, network));
         match choosing_line(fault, &sentence) {
-            None => explain_by(rt, fault, sentence),
+            None => {
+                explain_by(rt, fault, sentence);
+                if begins_anynet(network) {
+                    let _ = eprintln!(rt;
+                        "tools/network from-booksim {name} makes a network text of it"
+                    );
+                }
+            }
             Some(line) => {
                 let _ = eprintln!(rt;
-                    "{name}:{line}: routers choose among channels here; runs and replays take fixed routes alone"
+                    "{name}:{line}: routers choose among channels here; runs and simulations take fixed routes alone"
                 );
             }
         }
@@ -82,6 +92,33 @@ pub fn explain_replay<R: Eprint + AllocGlobal>(
     }
 }
 
+/// Says why the texts of a network and of its traffic have the fault that the command answers, where that
+/// can be told: the traffic only where the network has none.
+pub fn explain_simulation<R: Eprint + AllocGlobal>(
+    rt: &R,
+    names: (&str, &str),
+    texts: &Texts,
+    fault: &ProgramFault,
+) {
+    let (network, traffic) = (texts.first.as_slice(), texts.second.as_slice());
+    match read_network(rt.alloc(), network) {
+        Err(_) => explain_network(rt, names.0, network, fault),
+        Ok(network) => {
+            if is_of_texts(fault) {
+                let sentence = match read_packets(rt.alloc(), &network, traffic) {
+                    Ok(_) => None,
+                    Err(refusal) => Some(TrafficSentence {
+                        name: names.1,
+                        text: traffic,
+                        refusal,
+                    }),
+                };
+                explain_by(rt, fault, sentence);
+            }
+        }
+    }
+}
+
 /// Says what the run uses by which a network locks up, where its verdict is that it does.
 pub fn explain_lock_up<R: Eprint + AllocGlobal>(rt: &R, network: &[u8]) {
     if let Ok(answer) = network_answer(rt.alloc(), network)
@@ -93,14 +130,17 @@ pub fn explain_lock_up<R: Eprint + AllocGlobal>(rt: &R, network: &[u8]) {
     }
 }
 
-/// Says why the text of a trace has the fault that the command answers, where that can be told.
+/// Says why the text of a trace, or a table, has the fault that the command answers, where that can be
+/// told.
 pub fn explain_trace<R: Eprint + AllocGlobal>(
     rt: &R,
     name: &str,
     trace: &[u8],
     fault: &ProgramFault,
 ) {
-    if is_of_texts(fault) {
+    if begins_table(trace) {
+        explain_table(rt, name, trace, fault);
+    } else if is_of_texts(fault) {
         explain_by(rt, fault, trace_sentence(rt.alloc(), named(name, trace)));
     }
 }
@@ -159,9 +199,17 @@ pub fn explain_other_run<R: Eprint>(rt: &R, names: (&str, &str, &str), modelled:
             processor,
             passed,
         } => {
-            let _ = eprintln!(rt;
-                "{report}:{line}: in {script}, what comes next of processor {processor} stands behind {passed} of its lines"
-            );
+            let _ = match passed {
+                0 => eprintln!(rt;
+                    "{report}:{line}: in {script}, processor {processor} begins with another operation, or has none"
+                ),
+                1 => eprintln!(rt;
+                    "{report}:{line}: in {script}, processor {processor} goes on otherwise behind its first line"
+                ),
+                _ => eprintln!(rt;
+                    "{report}:{line}: in {script}, processor {processor} goes on otherwise behind its first {passed} lines"
+                ),
+            };
         }
         _ => {}
     }
@@ -185,8 +233,8 @@ fn explain_log<R: Eprint + AllocGlobal>(rt: &R, name: &str, log: &[u8], fault: &
     }
 }
 
-/// Says why no order explains a trace from a line on, where that can be told with at most so many
-/// configurations of a word at once.
+/// Says why no order explains a trace, or the trace of a table, from a line on, where that can be told
+/// with at most so many configurations of a word at once.
 pub fn explain_no_order<R: Eprint + AllocGlobal>(
     rt: &R,
     name: &str,
@@ -194,7 +242,13 @@ pub fn explain_no_order<R: Eprint + AllocGlobal>(
     line: u64,
     configurations: u32,
 ) {
-    let trace = named(name, trace);
-    let sentence = no_order_sentence(rt.alloc(), trace, line, u64::from(configurations));
-    let _ = told(rt, sentence);
+    let bound = u64::from(configurations);
+    if begins_table(trace) {
+        explain_no_order_of_table(rt, name, trace, line, bound);
+    } else {
+        let _ = told(
+            rt,
+            no_order_sentence(rt.alloc(), named(name, trace), line, bound),
+        );
+    }
 }

@@ -3,25 +3,28 @@
 
 pub mod command;
 pub mod explaining;
-mod hints;
+mod explaining_table;
+pub mod hints;
 pub mod model;
 pub mod network;
 pub mod report;
 pub mod run_model;
 pub mod runs;
+pub mod table;
 pub mod told;
 pub mod watched;
 
 pub use command::{Judged, linearize_text};
 pub use explaining::{
     explain_lock_up, explain_models, explain_network, explain_no_order, explain_other_run,
-    explain_replay, explain_run_models, explain_trace,
+    explain_replay, explain_run_models, explain_simulation, explain_trace,
 };
 pub use model::{Modelled, is_report, judged_models_text, model_text, report_models_text};
 pub use network::network_text;
 pub use report::report_text;
 pub use run_model::{run_models_text, texts_models_text};
-pub use runs::{lock_up_text, replay_network_text};
+pub use runs::{lock_up_text, replay_network_text, simulate_text};
+pub use table::{judged_order_text, judged_report_text, linearize_table, report_table};
 pub use told::{model_status, status, verdict_text};
 pub use trace_answer::LineText;
 pub use watched::watched_verdict;

@@ -63,14 +63,14 @@ TellsKept v (Some r) said = TellsRecord v r said
 abbrev pub SavesKept : {A : Type 0} → Recorded → Said A → Type 0
 SavesKept v said = TellsKept v v.kept said ⊎ (said ≡ Told (reply.Refused fault.Memory))
 
--- how it is told that so many digits spell no bytes: the place of the first byte that they don't spell
+-- the answer to so many digits that spell no bytes: the place of the first byte that they don't spell
 abbrev pub told_unspelled : ℕ → FromHexError → ToldLine
 told_unspelled count (InvalidHexCharacter digit place) = reply.BadByte (place / 2)
 told_unspelled count OddLength = reply.BadByte (count / 2)
 told_unspelled count InvalidStringLength = reply.BadByte (count / 2)
 told_unspelled count OutOfMemory = reply.Refused fault.Memory
 
--- how it is told that bytes make no machine
+-- the answer to bytes that make no machine
 abbrev pub told_unrestored : Unrestored → ToldLine
 told_unrestored why.Memory = reply.Refused fault.Memory
 told_unrestored (why.At place) = reply.BadByte place

@@ -5,8 +5,8 @@ use crate::running::by_workers;
 use command_jobs::Ended;
 use command_line::Job;
 use command_verdicts::{
-    Judged, Modelled, judged_models_text, linearize_text, lock_up_text, network_text,
-    replay_network_text, report_text, texts_models_text,
+    Judged, Modelled, judged_models_text, judged_order_text, judged_report_text, lock_up_text,
+    network_text, replay_network_text, simulate_text, texts_models_text,
 };
 use model_answer::MemoryModel;
 use program_fault::{ProgramFault, Texts};
@@ -26,7 +26,7 @@ pub(crate) enum Outcome {
     /// What became of a job with scripts.
     Ran(Ended),
     /// Whether nothing is wrong with a network: the numbers of its channels rise, or a run that is
-    /// replayed doesn't end locked.
+    /// replayed doesn't end locked, or a simulation ends empty.
     Sound(bool),
     /// What a trace is judged to be, with so many configurations at most.
     Judged(Judged, u32),
@@ -54,12 +54,16 @@ pub(crate) fn answer<R: Eprint + Clock + AllocGlobal + Threads + Wait + Sync, W:
             let run = texts.second.as_slice();
             sound(replay_network_text(alloc, first, run, u64::from(depth), out))
         }
+        Job::Simulate { depth, .. } => {
+            let traffic = texts.second.as_slice();
+            sound(simulate_text(alloc, first, traffic, u64::from(depth), out))
+        }
         Job::Linearize { configurations, .. } => {
-            let judged = linearize_text(alloc, first, u64::from(configurations), out);
+            let judged = judged_order_text(alloc, first, u64::from(configurations), out);
             judged_with(judged, configurations)
         }
         Job::Report { configurations, .. } => {
-            let judged = report_text(alloc, first, u64::from(configurations), out);
+            let judged = judged_report_text(alloc, first, u64::from(configurations), out);
             judged_with(judged, configurations)
         }
         Job::Model { model, order, .. } => {
@@ -80,7 +84,7 @@ pub(crate) fn answer<R: Eprint + Clock + AllocGlobal + Threads + Wait + Sync, W:
     }
 }
 
-/// The answer of a job that judges a network, or replays a run over one.
+/// The answer of a job that judges a network, or replays a run or sends packets over one.
 fn sound(is_sound: Result<bool, ProgramFault>) -> Result<Outcome, ProgramFault> {
     Ok(Outcome::Sound(is_sound?))
 }

@@ -1,9 +1,29 @@
-//! A line that says that a long text is judged, until there is an answer.
+//! A line that says that a long text is judged, or that packets are sent, until there is an answer.
 
+use command_line::Job;
+use program_fault::Texts;
 use std::io::{self, Write};
 
 /// From how many bytes on a text is a long one.
 const LONG_TEXT: usize = 65536;
+
+/// Writes the line of a job whose first text has so many bytes, and answers whether it has one.
+fn begin_line<R: Eprint>(rt: &R, job: &Job, bytes: usize) -> bool {
+    match *job {
+        Job::Linearize { .. } | Job::Report { .. } | Job::Model { .. } | Job::RunModel { .. } => {
+            if bytes < LONG_TEXT {
+                return false;
+            }
+            let _ = eprint!(rt; "judging {bytes} bytes");
+            true
+        }
+        Job::Simulate { .. } => {
+            let _ = eprint!(rt; "sending packets");
+            true
+        }
+        _ => false,
+    }
+}
 
 /// An output behind a line on standard error, which the first byte of the answer erases.
 #[derive(Drop)]
@@ -14,12 +34,9 @@ pub(crate) struct Judging<'a, R, W> {
 }
 
 impl<'a, R: Eprint, W: Write> Judging<'a, R, W> {
-    /// Says that a text is judged, if it is a long one and that is wanted.
-    pub(crate) fn begin(rt: &'a R, writer: W, text: &[u8], is_wanted: bool) -> Self {
-        let is_shown = is_wanted && text.len() >= LONG_TEXT;
-        if is_shown {
-            let _ = eprint!(rt; "judging {} bytes", text.len());
-        }
+    /// Says that a job judges a text, if it is a long one, or sends packets; where that is wanted.
+    pub(crate) fn begin(rt: &'a R, writer: W, job: &Job, texts: &Texts, is_wanted: bool) -> Self {
+        let is_shown = is_wanted && begin_line(rt, job, texts.first.len());
         Judging {
             rt,
             writer,

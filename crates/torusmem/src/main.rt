@@ -109,14 +109,6 @@ fn other_done<R: Files + Input + Print + Eprint + Clock + AllocGlobal + Threads 
     }
 }
 
-/// Whether the job judges a trace or a log.
-fn is_judged(job: &Job) -> bool {
-    matches!(
-        *job,
-        Job::Linearize { .. } | Job::Report { .. } | Job::Model { .. } | Job::RunModel { .. }
-    )
-}
-
 /// The answer of the job, whose output was written to its last byte. How a run ended is told behind
 /// its report, where that is asked for or standard error `is_seen`.
 fn printed<R: Input + Print + Eprint + Clock + AllocGlobal + Threads + Wait + Sync>(
@@ -134,8 +126,7 @@ fn printed<R: Input + Print + Eprint + Clock + AllocGlobal + Threads + Wait + Sy
     let is_told = request.explain || is_seen;
     let mut end = RunEnd::new(rt.alloc(), is_told, &texts.first, &texts.second);
     let mut writer = writer(rt)?;
-    let is_wanted = is_seen && is_judged(&request.job);
-    let mut judging = Judging::begin(rt, &mut writer, &texts.first, is_wanted);
+    let mut judging = Judging::begin(rt, &mut writer, &request.job, texts, is_seen);
     let mut out = Piped::new(&mut judging);
     let outcome = answer(rt, &request.job, texts, is_seen, &mut out, &mut end);
     judging.end();

@@ -7,8 +7,8 @@ use command_jobs::{kind, names};
 use command_line::Job;
 use command_verdicts::{
     Judged, Modelled, explain_lock_up, explain_models, explain_network, explain_no_order,
-    explain_other_run, explain_replay, explain_run_models, explain_trace, model_status, status,
-    verdict_text,
+    explain_other_run, explain_replay, explain_run_models, explain_simulation, explain_trace,
+    model_status, status, verdict_text,
 };
 use error_lines::explain;
 use model_answer::WrongSentence;
@@ -105,6 +105,11 @@ pub(crate) fn explain_fault<R: Eprint + AllocGlobal>(
             run,
             depth,
         } => explain_replay(rt, (network, run), texts, u64::from(depth), fault),
+        Job::Simulate {
+            network,
+            traffic,
+            ..
+        } => explain_simulation(rt, (network, traffic), texts, fault),
         Job::RunModel {
             log,
             machine,

@@ -6,3 +6,4 @@ pub mod Rows
 pub mod Moments
 pub mod Text
 pub mod Tables
+pub mod Told

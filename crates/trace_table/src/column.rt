@@ -56,7 +56,7 @@ impl Column {
 }
 
 /// Whether a cell is this word.
-fn is_named_so(name: &[u8], cell: &[u8]) -> bool
+pub(crate) fn is_named_so(name: &[u8], cell: &[u8]) -> bool
     ensures { result ≡ is_named_so name.now cell.now }
 {
     let (words, count) = first_words(cell);

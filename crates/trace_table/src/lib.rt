@@ -8,6 +8,7 @@ pub mod moment;
 pub mod reason;
 pub mod row;
 pub mod rows;
+pub mod sentence;
 pub mod table;
 mod text;
 
@@ -16,4 +17,5 @@ pub use moment::Moment;
 pub use reason::TableReason;
 pub use row::{TableRow, TimedReply};
 pub use rows::read_rows;
+pub use sentence::{TableSentence, table_sentence};
 pub use table::{TableTrace, read_table};

@@ -1,4 +1,4 @@
--- What is told of a trace while it comes, line by line.
+-- What a watch says of a trace while it comes, line by line.
 use Rattle.std.specs.Prelude.{◌≡◌, ◌⊎◌, ℕ, List, [], ◌∷◌, ◌++◌, Option, Some, None, Result, Ok, Err, OnOk, IfErr, length}
 use Rattle.std.specs.List.{range_with_len}
 use Rattle.trace_laws.specs.declared.event.Event.{Event}
@@ -54,7 +54,7 @@ TellsOutcome opening trace event bound watch (Ok u) = IsTracked watch opening (t
     × IsLinearizable opening (trace ++ event ∷ [])
 TellsOutcome opening trace event bound watch (Err stop) = TellsStop opening trace event bound stop
 
--- whatever was known before an event, this is told with it
+-- whatever was known before an event, the watch says this with it
 abbrev pub JudgesEvent : {A U : Type 0} → HeadSpec → Event → ℕ → Option (Watch A) → Option (Watch A)
     → Result U Stop → Type 0
 JudgesEvent head event bound old new result = (opening : List ℕ) (trace : List Event)

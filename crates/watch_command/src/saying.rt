@@ -11,7 +11,7 @@ use trace_lines::LineReason;
 use trace_text::TraceReason;
 use trace_why::{IssueLine, ReplyWord, passing_wording};
 
-/// Why a watch ended at a line, as a reader is told: `-:6: answer 1 0 0: no order gives 0 on word 5`, and
+/// Why a watch ended at a line, as a reader sees it: `-:6: answer 1 0 0: no order gives 0 on word 5`, and
 /// a line for each operation that is open on the word there; or why the line is refused.
 #[derive(Clone, Copy)]
 pub struct EndSentence<'a, A: Allocator = Global> {

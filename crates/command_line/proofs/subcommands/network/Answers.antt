@@ -10,4 +10,4 @@ returns c = c.with_explain.ensures _
     c.file.ensures.rule c.file.ensures.local)
     c.flag.ensures.rule c.flag.ensures.local)
     c.word_if_given.ensures.rule c.word_if_given.ensures.local)
-    c.count.ensures.rule c.count.ensures.local)
+    c.count_if_given.ensures.rule c.count_if_given.ensures.local)
