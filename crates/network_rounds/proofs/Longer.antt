@@ -13,7 +13,6 @@ use Rattle.network_judge.specs.Table.{Table}
 use Rattle.network_machine.specs.declared.moves.Move.{Move}
 use Rattle.network_machine.specs.Machine.{NetworkMachineSpec, plain_network, SameTables}
 use Rattle.network_machine.specs.Runs.{Runs, RunsTo}
-use Rattle.network_machine.proofs.Running.{no_move}
 use Rattle.network_rounds.specs.declared.senders.Timed.{Timed}
 use Rattle.network_rounds.specs.Counts.{one_at, channel_left, begun_by, flits_gone, packets_begun}
 use Rattle.network_rounds.specs.Rounds.{turned_groups, IsRound}
@@ -69,23 +68,6 @@ pub record Simulates {A B : Type 0} (queues : List (Vec Timed A)) (groups : List
   pub simulation : IsSimulation queues groups old new begun flits count
   pub begun_few : (x : ℕ) → begun_in x simulation.rounds ≤ room * count
   pub flits_few : (x : ℕ) → flits_in_channels x simulation.rounds ≤ room * count
-
-pub simulates_none : {A B : Type 0} (queues : List (Vec Timed A)) (groups : List (Vec Move B)) (m : NetworkMachineSpec) (begun flits : List ℕ) (room : ℕ)
-    → ((x : ℕ) → x < length queues → slice_index begun x ≡ 0) → ((x : ℕ) → x < length flits → slice_index flits x ≡ 0)
-    → Simulates queues groups m m begun flits 0 room
-simulates_none queues groups m begun flits room b f = record {
-  simulation = record {
-    rounds = [];
-    number = refl;
-    are = refl;
-    runs = no_move m;
-    same = record { table = refl; replies = refl };
-    senders = b;
-    channels = f;
-  };
-  begun_few = λ x. omega arith;
-  flits_few = λ x. omega arith;
-}
 
 -- a count of a round more is below 2 ^ 64
 fits : (room count old more : ℕ) → count < 2 ^ 32 → room < 2 ^ 31 → old ≤ room * count → more ≤ room → old + more < 2 ^ 64
