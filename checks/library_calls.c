@@ -145,8 +145,10 @@ static void machines_of_numbers(torusmem_machine *m) {
   torusmem_machine fresh = TORUSMEM_MACHINE_INIT;
   struct torusmem_shape told;
   for (size_t at = 0; at < sizeof rows / sizeof *rows; at++)
-    MUST(says(torusmem_open(m, &rows[at].shape, words, rows[at].given), rows[at].fault, 0) && !m->full && live == 0);
+    MUST(says(torusmem_open(m, &rows[at].shape, words, rows[at].given), rows[at].fault, 0) && !m->full && live == 0 &&
+         says(torusmem_open_recorded(m, &rows[at].shape, words, rows[at].given), rows[at].fault, 0) && !m->full && live == 0);
   MUST(says(torusmem_open(m, &right, words, 3), TORUSMEM_OK, 0) && says(torusmem_finished(m), TORUSMEM_OK, 1));
+  MUST(says(torusmem_save(m, written.bytes, MOST_BYTES), TORUSMEM_NO_RECORD, 0));
   MUST(says(torusmem_open(m, &right, words, 3), TORUSMEM_FULL, 0) && says(torusmem_shape(m, &told), TORUSMEM_OK, 0));
   MUST(told.dims == 2 && told.radices[0] == 3 && told.radices[1] == 4 && told.radices[2] == 0 && told.datelines[0] == 2);
   MUST(told.datelines[1] == 0 && told.datelines[2] == 0 && told.depth == 8 && told.tags == 16 && told.words == 5);
@@ -168,6 +170,19 @@ static void machines_of_numbers(torusmem_machine *m) {
   torusmem_free(&fresh);
   MUST(says(torusmem_open(m, &right, NULL, 0), TORUSMEM_OK, 0) && says(torusmem_word(m, 0), TORUSMEM_OK, 0));
   torusmem_free(m);
+  MUST(!m->full && live == 0);
+  /* With a record: its bytes make the machine with what it was asked and has done. */
+  MUST(says(torusmem_open_recorded(m, &right, NULL, 0), TORUSMEM_OK, 0) && says(torusmem_word(m, 0), TORUSMEM_OK, 0));
+  torusmem_free(m);
+  MUST(says(torusmem_open_recorded(m, &right, words, 3), TORUSMEM_OK, 0));
+  MUST(says(torusmem_open_recorded(m, &right, words, 3), TORUSMEM_FULL, 0));
+  MUST(says(torusmem_ask(m, 11, TORUSMEM_ADD, 2, 3, 0, 0), TORUSMEM_OK, 0) && torusmem_finish(m).code == TORUSMEM_OK);
+  said = torusmem_save(m, written.bytes, MOST_BYTES);
+  MUST(said.code == TORUSMEM_OK && says(torusmem_restore(&fresh, written.bytes, (size_t)said.value), TORUSMEM_OK, 0));
+  MUST(says(torusmem_shape(&fresh, &same), TORUSMEM_OK, 0) && memcmp(&same, &told, sizeof same) == 0);
+  for (uint32_t at = 0; at < 5; at++) MUST(says(torusmem_word(&fresh, at), TORUSMEM_OK, at == 0 ? 1 : at == 2 ? 2 : 0));
+  MUST(torusmem_answer_of(&fresh, 11, 0).old == UINT64_MAX);
+  torusmem_free(m), torusmem_free(&fresh);
   MUST(!m->full && live == 0);
 }
 

@@ -46,9 +46,13 @@ void machines() {
   MUST(thrown(TORUSMEM_BAD_RECORD, [] { torusmem::machine::restored(std::vector<uint8_t>()); }).find("restore: bytes") == 0);
   std::vector<uint64_t> opening = {7, 8};
   MUST(torusmem::machine(m.shape(), opening).word(1) == 8 && torusmem::machine(m.shape()).word(1) == 0);
+  torusmem::machine numbered = torusmem::machine::recorded(m.shape(), opening);
+  MUST(numbered.ask(1, TORUSMEM_ADD, 1, 3) == 0 && numbered.finish() > 0);
+  MUST(torusmem::machine::restored(numbered.save()).word(1) == 11 && numbered.clone().report() == numbered.report());
   struct torusmem_shape odd = m.shape();
   odd.depth = 9;
   MUST(thrown(TORUSMEM_FAULT_RANGE, [&] { torusmem::machine none(odd); }).find("open: a number is out of its range") == 0);
+  MUST(thrown(TORUSMEM_FAULT_RANGE, [&] { torusmem::machine::recorded(odd); }).find("open_recorded: a number") == 0);
   MUST(thrown(TORUSMEM_NONE, [&] { m.step(0, TORUSMEM_SERVE); }).find("step: there is no such agent") == 0);
   MUST(m.route(0, 1).size() == 3 && m.next(0, 8, 1) < 10);
   uint32_t index = m.ask(1, TORUSMEM_ADD, 5, 3);

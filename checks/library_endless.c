@@ -3,44 +3,12 @@
    serves what was served, in the machines' order: the answers must be the same, and the words at each change. Prints how
    many machines it took and the most bytes that they held at once; it is linked with
    -Wl,--wrap=malloc,--wrap=realloc,--wrap=free. */
-#include <inttypes.h>
-#include <malloc.h>
-#include <stdio.h>
-#include <stdlib.h>
-#include "torusmem.h"
+#include "library_memory.h"
 
 enum { TILES = 16, WORDS = 64, OPEN = 8, MOST_ROWS = 65536 };
 
 static const struct torusmem_shape shape = { 2, { 4, 4, 0 }, { 3, 0, 0 }, 4, 4, WORDS, 0, 0 };
 static uint64_t plain[WORDS], state = 1;
-static size_t held, most;
-
-void *__real_malloc(size_t size);
-void *__real_realloc(void *block, size_t size);
-void __real_free(void *block);
-void *__wrap_malloc(size_t size);
-void *__wrap_realloc(void *block, size_t size);
-void __wrap_free(void *block);
-
-static void *counted(void *block) {
-  if (block) held += malloc_usable_size(block);
-  if (held > most) most = held;
-  return block;
-}
-
-void *__wrap_malloc(size_t size) { return counted(__real_malloc(size)); }
-
-void *__wrap_realloc(void *block, size_t size) {
-  size_t before = block ? malloc_usable_size(block) : 0;
-  void *moved = __real_realloc(block, size);
-  if (moved) held -= before;
-  return counted(moved);
-}
-
-void __wrap_free(void *block) {
-  if (block) held -= malloc_usable_size(block);
-  __real_free(block);
-}
 
 static void fail(const char *why, uint64_t which) {
   printf("%s: %" PRIu64 "\n", why, which);
@@ -89,7 +57,7 @@ static uint64_t serve(torusmem_machine *m) {
 
 int main(int count, char **words) {
   uint64_t wanted = count == 2 ? strtoull(words[1], NULL, 10) : 0, asked = 0, answered = 0, machines = 1, changed = 0;
-  torusmem_machine held_now = TORUSMEM_MACHINE_INIT, fresh = TORUSMEM_MACHINE_INIT, *m = &held_now, *next = &fresh;
+  torusmem_machine first = TORUSMEM_MACHINE_INIT, fresh = TORUSMEM_MACHINE_INIT, *m = &first, *next = &fresh;
   uint32_t processor = 0;
   for (uint32_t at = 0; at < WORDS; at++) plain[at] = drawn(100);
   if (torusmem_open(m, &shape, plain, WORDS).code != TORUSMEM_OK) fail("not opened", 0);
@@ -113,6 +81,6 @@ int main(int count, char **words) {
   answered += serve(m);
   torusmem_free(m);
   if (answered != wanted || held != 0 || changed + 1 != machines) fail("answered, held or changed otherwise", answered);
-  printf("%" PRIu64 " operations, %" PRIu64 " machines, at most %zu KB\n", answered, machines, most / 1024);
+  printf("%" PRIu64 " operations, %" PRIu64 " machines, at most %zu KB\n", answered, machines, most_held / 1024);
   return 0;
 }

@@ -1,10 +1,19 @@
-/* What the test programs of checks/library in C share: requests for memory that are counted and refused, a line for each thing
-   that is wrong, and texts. Such a program is linked with -Wl,--wrap=malloc,--wrap=realloc,--wrap=free. */
+/* What the test programs of checks/library in C share: requests for memory that are counted and refused, bytes that are held,
+   a line for each thing that is wrong, and texts. Such a program is linked with
+   -Wl,--wrap=malloc,--wrap=realloc,--wrap=free. */
 #include <inttypes.h>
+#include <malloc.h>
 #include <stdio.h>
 #include <stdlib.h>
 #include <string.h>
 #include "torusmem.h"
+
+/* What not each of the programs uses. */
+#if defined(__GNUC__)
+#define MAY_BE_UNUSED __attribute__((unused))
+#else
+#define MAY_BE_UNUSED
+#endif
 
 enum { MOST_BYTES = 1 << 20 };
 
@@ -13,14 +22,15 @@ typedef struct text {
   size_t length;
 } text;
 
-static text machine_text, script_text;
+MAY_BE_UNUSED static text machine_text, script_text;
 static int wrongs;
 
 /* Requests for memory: how many were made, which is refused (0: none; `and_later`: with all behind it), how many blocks
-   are live, and how often a block was given back. */
+   are live, and how often a block was given back; the bytes of the live blocks, and the most that these ever were. */
 static uint64_t requests, refused, given_back;
 static bool and_later;
 static int64_t live;
+static size_t held, most_held;
 
 void *__real_malloc(size_t size);
 void *__real_realloc(void *block, size_t size);
@@ -34,35 +44,43 @@ static bool is_refused(void) {
   return refused != 0 && (requests == refused || (and_later && requests > refused));
 }
 
-void *__wrap_malloc(size_t size) {
-  void *block = is_refused() ? NULL : __real_malloc(size);
-  if (block) live++;
+static void *counted(void *block) {
+  if (block) held += malloc_usable_size(block);
+  if (held > most_held) most_held = held;
   return block;
 }
 
+void *__wrap_malloc(size_t size) {
+  void *block = is_refused() ? NULL : __real_malloc(size);
+  if (block) live++;
+  return counted(block);
+}
+
 void *__wrap_realloc(void *block, size_t size) {
+  size_t before = block ? malloc_usable_size(block) : 0;
   void *moved = is_refused() ? NULL : __real_realloc(block, size);
   if (moved && !block) live++;
-  return moved;
+  if (moved) held -= before;
+  return counted(moved);
 }
 
 void __wrap_free(void *block) {
   given_back++;
-  if (block) live--;
+  if (block) live--, held -= malloc_usable_size(block);
   __real_free(block);
 }
 
-static void must(bool is_so, const char *what, int line) {
+MAY_BE_UNUSED static void must(bool is_so, const char *what, int line) {
   if (is_so) return;
   if (wrongs++ < 10) printf("line %d, request %" PRIu64 ": not so: %s\n", line, refused, what);
 }
 #define MUST(is_so) must(is_so, #is_so, __LINE__)
 
-static bool says(torusmem_outcome said, uint32_t code, uint64_t value) {
+MAY_BE_UNUSED static bool says(torusmem_outcome said, uint32_t code, uint64_t value) {
   return said.code == code && said.value == value;
 }
 
-static void read_text(const char *name, text *read) {
+MAY_BE_UNUSED static void read_text(const char *name, text *read) {
   FILE *file = fopen(name, "rb");
   if (!file) {
     fprintf(stderr, "cannot read %s\n", name);

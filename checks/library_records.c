@@ -1,8 +1,8 @@
 /* Saves and restores machines for `checks/library`, and prints a line for each thing that is wrong:
 
-     library_records MACHINE SCRIPT        records of a run by drawn moves, lines that come later, and rounds: at each
-                                           point the bytes make a machine that shows and does the same, and so does a
-                                           clone; and which bytes make none
+     library_records MACHINE SCRIPT        records of a run by drawn moves, lines that come later, and rounds, and of
+                                           machines that are opened by numbers: at each point the bytes make a machine
+                                           that shows and does the same, and so does a clone; and which bytes make none
      library_records memory MACHINE SCRIPT the same in short, with the n-th request for memory refused, for each n
 
    It is linked with -Wl,--wrap=malloc,--wrap=realloc,--wrap=free. */
@@ -181,6 +181,23 @@ static void points_of_a_run(void) {
   MUST(live == 0);
 }
 
+/* A machine that is opened by numbers, with words up to the greatest. */
+static void opened_by_numbers(void) {
+  static const struct torusmem_shape shape = { 2, { 2, 3, 0 }, { 1, 2, 0 }, 2, 3, 9, 0, 0 };
+  static const uint64_t words[9] = { 0, 1, UINT64_MAX, 0, 10, 0, 0, 0, UINT64_C(1) << 63 };
+  torusmem_machine m = TORUSMEM_MACHINE_INIT;
+  for (size_t given = 0; given <= 9; given += 3) {
+    MUST(says(torusmem_open_recorded(&m, &shape, words, given), TORUSMEM_OK, 0));
+    made_again(&m, given);
+    MUST(says(torusmem_ask(&m, 5, TORUSMEM_XOR, 2, 7, 0, 0), TORUSMEM_OK, 0) && says(torusmem_round(&m), TORUSMEM_OK, 0));
+    made_again(&m, given);
+    MUST(torusmem_finish(&m).code == TORUSMEM_OK && says(torusmem_word(&m, 2), TORUSMEM_OK, given > 2 ? ~UINT64_C(7) : 7));
+    made_again(&m, given);
+    torusmem_free(&m);
+  }
+  MUST(live == 0);
+}
+
 /* Each call works or says that memory was refused; where that is refused to the record, the machine goes on without it. */
 static void with_little_memory(void) {
   torusmem_machine m = TORUSMEM_MACHINE_INIT, fresh = TORUSMEM_MACHINE_INIT;
@@ -211,6 +228,12 @@ static void with_little_memory(void) {
   }
   torusmem_free(&m);
   MUST(live == 0);
+  static const struct torusmem_shape shape = { 1, { 2, 0, 0 }, { 1, 0, 0 }, 4, 4, 8, 0, 0 };
+  static const uint64_t word = 17;
+  said = torusmem_open_recorded(&m, &shape, &word, 1);
+  MUST(m.full ? says(said, TORUSMEM_OK, 0) && says(torusmem_word(&m, 0), TORUSMEM_OK, 17) : says(said, TORUSMEM_FAULT_MEMORY, 0) && live == 0);
+  torusmem_free(&m);
+  MUST(live == 0);
 }
 
 static void memory(void) {
@@ -239,6 +262,7 @@ int main(int count, char **words) {
   } else {
     without_a_record();
     bytes_that_make_none();
+    opened_by_numbers();
     points_of_a_run();
   }
   return wrongs == 0 ? 0 : 1;

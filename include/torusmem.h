@@ -5,9 +5,9 @@
    the three of torusmem_text.c, which say things in words. No call prints, ends the process or starts a thread, and each
    call returns.
 
-   MEMORY. torusmem_load, torusmem_load_recorded, torusmem_open, torusmem_reopen, torusmem_restore and torusmem_clone
-   allocate what the machine needs, torusmem_append and torusmem_ask what a further line needs, and torusmem_free frees
-   all of it. Of a machine that keeps a record, the calls that make steps or rounds also allocate what the record needs.
+   MEMORY. torusmem_load, torusmem_open, their two that keep a record, torusmem_reopen, torusmem_restore and
+   torusmem_clone allocate what the machine needs, torusmem_append and torusmem_ask what a further line needs, and
+   torusmem_free frees all of it. Of a machine that keeps a record, the calls that make steps or rounds also allocate what the record needs.
    torusmem_report, torusmem_save, torusmem_order, torusmem_events, torusmem_check, torusmem_explain, torusmem_spins_out,
    torusmem_network, torusmem_linearize and torusmem_model free what they allocate before they return.
    torusmem_watch_begin allocates what a watch needs at first, torusmem_watch_issue and torusmem_watch_answer allocate
@@ -196,13 +196,18 @@ torusmem_outcome torusmem_open(torusmem_machine *m, const struct torusmem_shape 
 torusmem_outcome torusmem_reopen(torusmem_machine *m, torusmem_machine *fresh) TORUSMEM_RESULT;
 
 /* RECORDS. A machine that keeps a record can be saved as bytes at any time, and made again of them (docs/FORMATS.md, "Record
-   of a machine"). The record has the texts that were loaded; each move, each call that makes rounds and each line that
+   of a machine"). The record has the texts that were loaded, or a machine text of the numbers; each move, each call that makes rounds and each line that
    came later, in 4 bytes; and 32 bytes more of such a line. Where memory for the record is refused, or it would have
-   268435456 lines, or a call makes as many rounds, it ends, and the machine goes on without it: no call fails for that. */
+   268435456 lines, or a call makes as many rounds, it ends: nothing is left of it, torusmem_save answers NO_RECORD, and the machine goes on. No call fails
+   for that. */
 
 /* Does what torusmem_load does, and answers as it does; and the machine keeps a record from then on. */
 torusmem_outcome torusmem_load_recorded(torusmem_machine *m, const uint8_t *machine, size_t machine_length,
                                         const uint8_t *scripts, size_t scripts_length) TORUSMEM_RESULT;
+
+/* Does what torusmem_open does, and answers as it does; and the machine keeps a record from then on. */
+torusmem_outcome torusmem_open_recorded(torusmem_machine *m, const struct torusmem_shape *shape, const uint64_t *words,
+                                        size_t words_length) TORUSMEM_RESULT;
 
 /* Puts the bytes of the machine's record into a buffer. torusmem_restore makes this machine of them. The machine goes on as
    if nothing was saved.
@@ -613,7 +618,7 @@ torusmem_outcome torusmem_watch_answer(torusmem_watch *w, uint64_t number, uint3
 /* Ends the watch that *w holds, if any, and gives its memory back. It may be begun again then. */
 void torusmem_watch_end(torusmem_watch *w);
 
-/* The library's own calls take no null pointer. So a C program that calls one of the eighteen below has a call in front
+/* The library's own calls take no null pointer. So a C program that calls one of the nineteen below has a call in front
    of it, by which a pointer with the length 0 becomes one to an item that is not looked at. */
 static inline const uint8_t *torusmem_text_at(const uint8_t *at, size_t length) {
   static const uint8_t none = 0;
@@ -657,6 +662,14 @@ static inline torusmem_outcome torusmem_open_with(torusmem_machine *m, const str
   return torusmem_open(m, shape, words_length > 0 ? words : &none, words_length);
 }
 #define torusmem_open torusmem_open_with
+
+TORUSMEM_RESULT
+static inline torusmem_outcome torusmem_open_recorded_with(torusmem_machine *m, const struct torusmem_shape *shape,
+                                                           const uint64_t *words, size_t words_length) {
+  static const uint64_t none = 0;
+  return torusmem_open_recorded(m, shape, words_length > 0 ? words : &none, words_length);
+}
+#define torusmem_open_recorded torusmem_open_recorded_with
 
 TORUSMEM_RESULT
 static inline torusmem_explanation torusmem_explain_texts(const uint8_t *machine, size_t machine_length,
@@ -833,6 +846,14 @@ static inline torusmem_outcome torusmem_open_marked(torusmem_machine *m, const s
 }
 
 TORUSMEM_RESULT
+static inline torusmem_outcome torusmem_open_recorded_marked(torusmem_machine *m, const struct torusmem_shape *shape,
+                                                             const uint64_t *words, size_t words_length) {
+  torusmem_outcome said = torusmem_open_recorded(m, shape, words, words_length);
+  m->ticket = torusmem_ticket_of(m->full, m->ticket, &m->calls);
+  return said;
+}
+
+TORUSMEM_RESULT
 static inline torusmem_outcome torusmem_reopen_marked(torusmem_machine *m, torusmem_machine *fresh, const char *file,
                                                       int line) {
   torusmem_look_at(m != fresh, "the two machines are one", "torusmem_reopen", file, line);
@@ -892,8 +913,11 @@ static inline void torusmem_watch_end_marked(torusmem_watch *w) {
 #undef torusmem_load_recorded
 #undef torusmem_restore
 #undef torusmem_open
+#undef torusmem_open_recorded
 #undef torusmem_watch_begin
 #define torusmem_open(m, ...) torusmem_open_marked(TORUSMEM_MACHINE(m, "torusmem_open"), __VA_ARGS__)
+#define torusmem_open_recorded(m, ...) \
+  torusmem_open_recorded_marked(TORUSMEM_MACHINE(m, "torusmem_open_recorded"), __VA_ARGS__)
 #define torusmem_reopen(m, fresh) \
   torusmem_reopen_marked(TORUSMEM_MACHINE(m, "torusmem_reopen"), TORUSMEM_MACHINE(fresh, "torusmem_reopen"), __FILE__, \
                          __LINE__)

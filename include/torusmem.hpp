@@ -172,6 +172,12 @@ class machine {
     if (said.code != TORUSMEM_OK) throw error(explain(shape, scripts), said);
     return made;
   }
+  // Opens such a machine, as the constructor does that takes a shape.
+  static machine recorded(const struct torusmem_shape &shape, span<const uint64_t> words = span<const uint64_t>()) {
+    machine made;
+    granted("open_recorded", torusmem_open_recorded(&made.held_, &shape, words.data(), words.size()));
+    return made;
+  }
   // The bytes of its record, of which restored() makes this machine again.
   std::vector<uint8_t> save() {
     return filled<std::vector<uint8_t>>("save", 256, [&](uint8_t *at, size_t room) {
@@ -301,7 +307,7 @@ class watch {
     return next_++;
   }
   // Take the answer to an operation, by an old word or, of a store, by none: whether one order explains the trace with
-  // it. Where none does, the answer isn't taken.
+  // it. Where none does, the answer isn't taken. By default it is decided while at most 9 operations are open on one word.
   bool answer(uint64_t number, uint64_t old, uint64_t configurations = 1000000) {
     return taken(torusmem_watch_answer(&held_, number, 1, old, configurations));
   }

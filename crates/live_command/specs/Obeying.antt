@@ -17,7 +17,7 @@ use Rattle.machine_asked.specs.Rounds.{rounds_of, NeedsRounds}
 use Rattle.machine_asked.specs.Asked.{Asked, IsNumbered, NeedsToWait, answer_to, has_spin, index_asked, spins_with}
 use Rattle.machine_record.specs.declared.action.Action.TheVariants as action
 use Rattle.machine_record.specs.Machine.{KeepsLine, KeepsRecord, Recorded}
-use Rattle.live_command.specs.Records.{KeepsRounds, LoadsRecord, SavesKept}
+use Rattle.live_command.specs.Records.{LoadsRecord, SavesKept}
 use Rattle.live_command.specs.declared.command.Command.{Command}
 use Rattle.live_command.specs.declared.command.Command.TheVariants as command
 use Rattle.live_command.specs.declared.told.Told.{Told as ToldLine}
@@ -49,7 +49,7 @@ pub record RefusesLine (p : ℕ) (line : Line) (old new : Recorded) (told : Told
 
 abbrev pub Asks : ℕ → Line → Recorded → Recorded → ToldLine → Type 0
 Asks p line old new told =
-    (TakesLine p line old.asked new.asked told × KeepsLine p line old.kept new.kept)
+    (TakesLine p line old.asked new.asked told × KeepsLine p line old new)
     ⊎ RefusesLine p line old new told
 
 -- the machine makes so many rounds, and the answer is their number
@@ -59,17 +59,17 @@ pub record MakesRounds (count : ℕ) (old new : Asked) (told : ToldLine) : Type 
   pub runs_on : RunsOn old.core new.core (rounds_of old.core.shape count)
   pub answer : told ≡ reply.Rounds count
 
--- and each of them is kept
+-- and keeps them
 abbrev pub MakesKeptRounds : ℕ → Recorded → Recorded → ToldLine → Type 0
 MakesKeptRounds count old new told =
-    MakesRounds count old.asked new.asked told × KeepsRounds count old.kept new.kept
+    MakesRounds count old.asked new.asked told × KeepsRecord (action.Rounds count) old new
 
 -- it makes the least number of rounds that finish every script, and keeps them
 pub record Finishes (old new : Recorded) (told : ToldLine) : Type 0 where
   pub rounds : ℕ
   pub needed : NeedsRounds old.asked.core rounds
   pub made : MakesRounds rounds old.asked new.asked told
-  pub kept : KeepsRecord (action.Rounds rounds) old.kept new.kept
+  pub kept : KeepsRecord (action.Rounds rounds) old new
 
 -- the answer at the end of a wait: the reply, or that every script is finished without it
 abbrev pub told_of_wait : ℕ → ℕ → Option Answer → ToldLine
@@ -84,7 +84,7 @@ pub record Waits (p index : ℕ) (old new : Recorded) (told : ToldLine) : Type 0
   pub state : new.asked.core ≡ core_after old.asked.core (rounds_of old.asked.core.shape rounds)
   pub spins : new.asked.spins ≡ old.asked.spins
   pub runs_on : RunsOn old.asked.core new.asked.core (rounds_of old.asked.core.shape rounds)
-  pub kept : KeepsRecord (action.Rounds rounds) old.kept new.kept
+  pub kept : KeepsRecord (action.Rounds rounds) old new
   pub answer : told ≡ told_of_wait p index (answer_to new.asked.core p index)
 
 -- nothing changes, and the answer says so

@@ -1,16 +1,14 @@
 -- What becomes of the record of a dialogue's machine, and what is loaded in the machine's place (this
 -- project's own format).
-use Rattle.std.specs.Prelude.{◌≡◌, ◌⊎◌, ℕ, ◌/◌, List, [], ◌∷◌, ◌++◌, codes, length, replicate}
-use Rattle.std.specs.Prelude.{Option, Some, None, option_map, Ok, Err}
+use Rattle.std.specs.Prelude.{◌≡◌, ◌⊎◌, ℕ, ◌/◌, List, [], ◌∷◌, ◌++◌, codes, length}
+use Rattle.std.specs.Prelude.{Option, Some, None, Ok, Err}
 use Rattle.std.specs.String.{string_bytes}
 use Rattle.hex.specs.Hex.{decode_of, encode_lower}
 use Rattle.hex.specs.declared.error.FromHexError.{FromHexError}
 use Rattle.hex.specs.declared.error.FromHexError.TheVariants.{InvalidHexCharacter, OddLength, InvalidStringLength, OutOfMemory}
 use Rattle.torus.specs.declared.fault.Fault.TheVariants as fault
-use Rattle.machine_record.specs.declared.action.Action.TheVariants as action
 use Rattle.machine_record.specs.declared.restoring.Unrestored.{Unrestored}
 use Rattle.machine_record.specs.declared.restoring.Unrestored.TheVariants as why
-use Rattle.machine_record.specs.Action.{action_number}
 use Rattle.machine_record.specs.Bytes.{record_bytes}
 use Rattle.machine_record.specs.Calls.{IsRestored, IsUnrestored}
 use Rattle.machine_record.specs.Machine.{Recorded}
@@ -19,19 +17,6 @@ use Rattle.live_command.specs.declared.told.Told.{Told as ToldLine}
 use Rattle.live_command.specs.declared.told.Told.TheVariants as reply
 use Rattle.live_command.specs.declared.said.Said.{Said}
 use Rattle.live_command.specs.declared.said.Said.TheVariants.{Told, Report, Saved}
-
--- a record with so many rounds more, an action for each
-abbrev pub with_rounds : ℕ → Recording → Recording
-with_rounds count r = record {
-  machine = r.machine;
-  scripts = r.scripts;
-  rows = r.rows;
-  actions = r.actions ++ replicate count (action_number (action.Rounds 1));
-}
-
--- So many rounds are kept one by one, or the record ends: memory for it was refused.
-abbrev pub KeepsRounds : ℕ → Option Recording → Option Recording → Type 0
-KeepsRounds count old new = (new ≡ option_map (with_rounds count) old) ⊎ (new ≡ None)
 
 -- hexadecimal digits, two for each byte, of the bytes that make a machine
 pub record AreDigitsOf (digits : List ℕ) (v : Recorded) : Type 0 where

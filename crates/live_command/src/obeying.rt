@@ -31,9 +31,7 @@ fn asked<A: Allocator>(machine: &mut RecordedMachine<A>, processor: u32, line: L
 fn made<A: Allocator>(machine: &mut RecordedMachine<A>, count: u32) -> Told
     ensures { MakesKeptRounds count machine.old machine.new result }
 {
-    for made in 0..count {
-        machine.round();
-    }
+    machine.rounds(count);
     Told::Rounds(u64::from(count))
 }
 

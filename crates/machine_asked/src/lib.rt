@@ -9,3 +9,4 @@ mod opening;
 
 pub use asked::AskedMachine;
 pub use machine_core::Machine;
+pub use opening::OpenedMachine;

@@ -1,12 +1,23 @@
-ghost use Rattle.std.specs.Prelude.{◌≡◌, IfOk, IsTrue};
+ghost use Rattle.std.specs.Prelude.{◌≡◌, [], IfOk, IsTrue, Ok, map};
+ghost use Rattle.std.specs.Str.Lines.{lines};
+ghost use Rattle.machine_parts.specs.Core.{Load};
 ghost use Rattle.machine_parts.specs.Machine.{shown};
+ghost use Rattle.machine_core.specs.Loading.{HasLoaded, load_by};
+ghost use Rattle.machine_asked.specs.Asked.{has_spin};
 ghost use Rattle.machine_asked.specs.Opened.{IsBuiltTo, IsOpened};
 
 use crate::asked::AskedMachine;
 use itoa::Buffer;
 use machine_core::Machine;
-use std::alloc::{AllocError, Allocator};
+use std::alloc::{AllocError, Allocator, Global};
 use torus::Torus;
+
+/// A machine that is opened by numbers, and the machine text of which it was loaded, with no scripts.
+#[derive(Drop)]
+pub struct OpenedMachine<A: Allocator = Global> {
+    pub machine: AskedMachine<A>,
+    pub text: Vec<u8, A>,
+}
 
 /// Writes a number behind a space.
 fn put_number<A: Allocator>(text: &mut Vec<u8, A>, number: u64) -> Result<(), AllocError> {
@@ -153,12 +164,37 @@ impl<A: Allocator + Copy> AskedMachine<A> {
     ) -> Result<AskedMachine<A>, AllocError>
         ensures { IfOk result (IsOpened torus depth tags opening.now) }
     {
+        let opened = AskedMachine::open_with_text(alloc, torus, depth, tags, opening)?;
+        let OpenedMachine {
+            machine,
+            text: _text,
+        } = opened;
+        Ok(machine)
+    }
+
+    /// Opens the same machine, and answers it with the machine text of which it was loaded.
+    ///
+    /// Errors: as of `open`.
+    pub fn open_with_text(
+        alloc: A,
+        torus: Torus,
+        depth: u32,
+        tags: u32,
+        opening: &[u64],
+    ) -> Result<OpenedMachine<A>, AllocError>
+        ensures opened { IfOk result (λ o. IsOpened torus depth tags opening.now o.machine) }
+        ensures loaded { IfOk result
+            (λ o. HasLoaded (load_by (lines o.text.items) (lines [])) o.machine.core) }
+        ensures spins { IfOk result
+            (λ o. (l : Load) → load_by (lines o.text.items) (lines []) ≡ Ok l
+            → o.machine.spins ≡ map has_spin l.scripts) }
+    {
         let text = machine_text(alloc, &torus, depth, tags, opening)?;
         let Ok(machine) = AskedMachine::load(alloc, text.as_slice(), b"") else {
             return Err(AllocError);
         };
         if is_built(&machine, &torus, depth, tags, opening) {
-            Ok(machine)
+            Ok(OpenedMachine { machine, text })
         } else {
             Err(AllocError)
         }

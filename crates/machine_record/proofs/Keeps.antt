@@ -9,18 +9,19 @@ use Rattle.channel_number.specs.Ports.{port_count}
 use Rattle.script.specs.declared.line.Line.{Line as ScriptLine}
 use Rattle.machine_parts.specs.Core.{round}
 use Rattle.machine_parts.specs.Handed.{handed, refused}
-use Rattle.machine_parts.specs.Machine.{Steps, core_after}
+use Rattle.machine_parts.specs.Machine.{RunsOn, Steps, core_after}
 use Rattle.machine_core.specs.Rounds.{rounds_of}
 use Rattle.machine_core.specs.Clocked.{clocked_round, clocked_rounds}
 use Rattle.machine_asked.specs.Asked.{Asked, spins_with}
+use Rattle.machine_asked.proofs.Waiting.{on_after}
 use Rattle.machine_record.specs.declared.action.Action.{Action}
 use Rattle.machine_record.specs.declared.action.Action.TheVariants.{Move, Rounds, Clocked, ClockedRounds}
 use Rattle.machine_record.specs.declared.row.LineRow.{LineRow}
 use Rattle.machine_record.specs.Action.{action_number, is_narrow}
-use Rattle.machine_record.specs.Recording.{Recording}
-use Rattle.machine_record.specs.Machine.{HasLineRoom, KeepsRecord, KeepsLine, with_action, with_row}
+use Rattle.machine_record.specs.Recording.{Recording, Room}
+use Rattle.machine_record.specs.Machine.{HasLineNumber, KeepsAction, KeepsRow, with_action, with_row}
 use Rattle.machine_record.specs.MachineInside.{RecordMakes}
-use Rattle.machine_record.specs.Replay.{acted, with_line}
+use Rattle.machine_record.specs.Replay.{acted, rounds_made, with_line}
 use Rattle.machine_record.proofs.Replays.{acts, clocked_is, clocked_rounds_are, idle_is, made_action, made_line, moved_is, rounds_is}
 
 -- an action more
@@ -29,16 +30,16 @@ makes_action : (k : Option Recording) (v w : Asked) (a : Action) → is_narrow a
 makes_action None v w a narrow h did = tt
 makes_action (Some r) v w a narrow h did = made_action r (action_number a) v w h (acts r.rows v w a narrow (did r.rows))
 
-keeps_action : (old new : Option Recording) (v w : Asked) (a : Action) → RecordMakes old v → ((rows : List LineRow) → acted rows v a ≡ Some w)
-    → KeepsRecord a old new → RecordMakes new w
-keeps_action old new v w a h did (inl kept) = subst (λ (k : Option Recording). RecordMakes k w) (sym kept.1) (makes_action old v w a kept.0 h did)
-keeps_action old new v w a h did (inr ended) = subst (λ (k : Option Recording). RecordMakes k w) (sym ended) tt
+keeps_action : (old new : Option Recording) (room after : Room) (v w : Asked) (a : Action) → RecordMakes old v → ((rows : List LineRow) → acted rows v a ≡ Some w)
+    → KeepsAction a old room new after → RecordMakes new w
+keeps_action old new room after v w a h did (inl kept) = subst (λ (k : Option Recording). RecordMakes k w) (sym kept.1) (makes_action old v w a kept.0 h did)
+keeps_action old new room after v w a h did (inr ended) = subst (λ (k : Option Recording). RecordMakes k w) (sym ended.1) tt
 
 -- a move
-pub keeps_move : (old new : Option Recording) (v w : Asked) (attempt : Step) → RecordMakes old v → Steps v.core w.core Moved attempt → w.spins ≡ v.spins
-    → KeepsRecord (Move attempt) old new → RecordMakes new w
-keeps_move old new v w attempt h steps spins kept =
-    keeps_action old new v w (Move attempt) h (λ rows. moved_is v w Moved attempt steps spins refl) kept
+pub keeps_move : (old new : Option Recording) (room after : Room) (v w : Asked) (attempt : Step) → RecordMakes old v → Steps v.core w.core Moved attempt → w.spins ≡ v.spins
+    → KeepsAction (Move attempt) old room new after → RecordMakes new w
+keeps_move old new room after v w attempt h steps spins kept =
+    keeps_action old new room after v w (Move attempt) h (λ rows. moved_is v w Moved attempt steps spins refl) kept
 
 -- no move
 pub keeps_idle : (old : Option Recording) (v w : Asked) (attempt : Step) → RecordMakes old v → Steps v.core w.core Idle attempt → w.spins ≡ v.spins
@@ -46,41 +47,45 @@ pub keeps_idle : (old : Option Recording) (v w : Asked) (attempt : Step) → Rec
 keeps_idle old v w attempt h steps spins = subst (λ (x : Asked). RecordMakes old x) (sym (idle_is v w Idle attempt steps spins refl)) h
 
 -- rounds
-pub keeps_rounds : (old new : Option Recording) (v w : Asked) (k : ℕ) → RecordMakes old v → w.core ≡ core_after v.core (rounds_of v.core.shape k)
-    → w.spins ≡ v.spins → KeepsRecord (Rounds k) old new → RecordMakes new w
-keeps_rounds old new v w k h state spins kept = keeps_action old new v w (Rounds k) h (λ rows. ap Some (rounds_is v w k state spins)) kept
+pub keeps_rounds : (old new : Option Recording) (room after : Room) (v w : Asked) (k : ℕ) → RecordMakes old v → w.core ≡ core_after v.core (rounds_of v.core.shape k)
+    → w.spins ≡ v.spins → KeepsAction (Rounds k) old room new after → RecordMakes new w
+keeps_rounds old new room after v w k h state spins kept = keeps_action old new room after v w (Rounds k) h (λ rows. ap Some (rounds_is v w k state spins)) kept
 
-pub keeps_round : (old new : Option Recording) (v w : Asked) → RecordMakes old v → w.core ≡ core_after v.core (round v.core.shape) → w.spins ≡ v.spins
-    → KeepsRecord (Rounds 1) old new → RecordMakes new w
-keeps_round old new v w h state spins kept =
-    keeps_rounds old new v w 1 h (state ∙ ap (core_after v.core) (sym (append-nil (round v.core.shape)))) spins kept
+-- so many rounds lead on
+pub rounds_on : (v w : Asked) (k : ℕ) → w ≡ rounds_made v k → RunsOn v.core w.core (rounds_of v.core.shape k)
+rounds_on v w k is = on_after v.core w.core k (ap (λ (x : Asked). x.core) is)
+
+pub keeps_round : (old new : Option Recording) (room after : Room) (v w : Asked) → RecordMakes old v → w.core ≡ core_after v.core (round v.core.shape) → w.spins ≡ v.spins
+    → KeepsAction (Rounds 1) old room new after → RecordMakes new w
+keeps_round old new room after v w h state spins kept =
+    keeps_rounds old new room after v w 1 h (state ∙ ap (core_after v.core) (sym (append-nil (round v.core.shape)))) spins kept
 
 -- a clocked round, which is kept by the input at which its puts begin
-pub keeps_clocked : (old new : Option Recording) (v w : Asked) (turn k : ℕ) → k ≡ turn % port_count (dims_of v.core.shape) → RecordMakes old v
-    → w.core ≡ core_after v.core (clocked_round v.core turn) → w.spins ≡ v.spins → KeepsRecord (Clocked k) old new → RecordMakes new w
-keeps_clocked old new v w turn k is h state spins kept =
-    keeps_action old new v w (Clocked k) h (λ rows. ap Some (clocked_is v w turn k is state spins)) kept
+pub keeps_clocked : (old new : Option Recording) (room after : Room) (v w : Asked) (turn k : ℕ) → k ≡ turn % port_count (dims_of v.core.shape) → RecordMakes old v
+    → w.core ≡ core_after v.core (clocked_round v.core turn) → w.spins ≡ v.spins → KeepsAction (Clocked k) old room new after → RecordMakes new w
+keeps_clocked old new room after v w turn k is h state spins kept =
+    keeps_action old new room after v w (Clocked k) h (λ rows. ap Some (clocked_is v w turn k is state spins)) kept
 
 -- clocked rounds
-pub keeps_clocked_rounds : (old new : Option Recording) (v w : Asked) (k : ℕ) → RecordMakes old v → w.core ≡ core_after v.core (clocked_rounds v.core k)
-    → w.spins ≡ v.spins → KeepsRecord (ClockedRounds k) old new → RecordMakes new w
-keeps_clocked_rounds old new v w k h state spins kept =
-    keeps_action old new v w (ClockedRounds k) h (λ rows. ap Some (clocked_rounds_are v w k state spins)) kept
+pub keeps_clocked_rounds : (old new : Option Recording) (room after : Room) (v w : Asked) (k : ℕ) → RecordMakes old v → w.core ≡ core_after v.core (clocked_rounds v.core k)
+    → w.spins ≡ v.spins → KeepsAction (ClockedRounds k) old room new after → RecordMakes new w
+keeps_clocked_rounds old new room after v w k h state spins kept =
+    keeps_action old new room after v w (ClockedRounds k) h (λ rows. ap Some (clocked_rounds_are v w k state spins)) kept
 
 -- a line
-line_more : (k : Option Recording) (v : Asked) (p : ℕ) (first : ScriptLine) → RecordMakes k v → HasLineRoom k → refused v.core p first ≡ None
+line_more : (k : Option Recording) (v : Asked) (p : ℕ) (first : ScriptLine) → RecordMakes k v → HasLineNumber k → refused v.core p first ≡ None
     → RecordMakes (option_map (with_row p first) k) (with_line v p first)
 line_more None v p first h few none = tt
 line_more (Some r) v p first h few none = made_line r p first v few h none
 
-kept_line : (old new : Option Recording) (v w : Asked) (p : ℕ) (first : ScriptLine) → RecordMakes old v → refused v.core p first ≡ None
-    → with_line v p first ≡ w → KeepsLine p first old new → RecordMakes new w
-kept_line old new v w p first h none is (inl kept) =
+kept_line : (old new : Option Recording) (room after : Room) (v w : Asked) (p : ℕ) (first : ScriptLine) → RecordMakes old v → refused v.core p first ≡ None
+    → with_line v p first ≡ w → KeepsRow p first old room new after → RecordMakes new w
+kept_line old new room after v w p first h none is (inl kept) =
     subst (λ (k : Option Recording). RecordMakes k w) (sym kept.1)
     (subst (λ (x : Asked). RecordMakes (option_map (with_row p first) old) x) is (line_more old v p first h kept.0 none))
-kept_line old new v w p first h none is (inr ended) = subst (λ (k : Option Recording). RecordMakes k w) (sym ended) tt
+kept_line old new room after v w p first h none is (inr ended) = subst (λ (k : Option Recording). RecordMakes k w) (sym ended.1) tt
 
-pub keeps_line : (old new : Option Recording) (v w : Asked) (p : ℕ) (first : ScriptLine) → RecordMakes old v → refused v.core p first ≡ None
-    → w.core ≡ handed v.core p first → w.spins ≡ spins_with v.spins p first → KeepsLine p first old new → RecordMakes new w
-keeps_line old new v w p first h none core spins kept =
-    kept_line old new v w p first h none (λ i. record { core = sym core i; spins = sym spins i }) kept
+pub keeps_line : (old new : Option Recording) (room after : Room) (v w : Asked) (p : ℕ) (first : ScriptLine) → RecordMakes old v → refused v.core p first ≡ None
+    → w.core ≡ handed v.core p first → w.spins ≡ spins_with v.spins p first → KeepsRow p first old room new after → RecordMakes new w
+keeps_line old new room after v w p first h none core spins kept =
+    kept_line old new room after v w p first h none (λ i. record { core = sym core i; spins = sym spins i }) kept

@@ -5,3 +5,4 @@ pub mod ReadBack
 pub mod Replays
 pub mod Keeps
 pub mod Restores
+pub mod Kept

@@ -8,9 +8,9 @@ use Rattle.machine_parts.proofs.Machines.{named_machine}
 use Rattle.machine_core.specs.Loading.{HasLoaded, IsLoadFault, load_by}
 use Rattle.machine_asked.specs.Asked.{Asked, has_spin}
 use Rattle.machine_record.specs.Reading.{record_in_bytes}
-use Rattle.machine_record.specs.Recording.{Recording, fresh_record}
-use Rattle.machine_record.specs.Calls.{IsLoaded, IsMadeAgain, IsRestored, Stops}
-use Rattle.machine_record.specs.Machine.{Recorded}
+use Rattle.machine_record.specs.Recording.{Recording, Room, fresh_record}
+use Rattle.machine_record.specs.Calls.{IsFresh, IsLoaded, IsMadeAgain, IsRestored, Stops}
+use Rattle.machine_record.specs.Machine.{AreAlike, Recorded}
 use Rattle.machine_record.specs.MachineInside.{RecordMakes}
 use Rattle.machine_record.specs.Replay.{loaded, made_by, replayed, replayed_from}
 use Rattle.machine_record.specs.Replayed.{Replays, StopsAtAction}
@@ -32,6 +32,15 @@ pub fresh_makes : (machine scripts : List ℕ) (v : Asked) → HasLoaded (load_b
 fresh_makes machine scripts v h spins =
     ap (replayed_from (fresh_record machine scripts)) h.read ∙ ap Some (sym (loaded_is (load_by (lines machine) (lines scripts)) v h spins))
 
+-- a machine with such a record of a machine text alone
+pub fresh_is : (text : List ℕ) (v : Asked) (kept : Recording) (room : Room) → HasLoaded (load_by (lines text) []) v.core
+    → ((l : Load) → load_by (lines text) [] ≡ Ok l → v.spins ≡ map has_spin l.scripts) → kept ≡ fresh_record text []
+    → IsFresh (record { asked = v; kept = Some kept; room = room })
+fresh_is text v kept room h spins is = record {
+  text = text;
+  made = record { made = fresh_makes text [] v h spins; keeps = ap Some is };
+}
+
 -- a fault that isn't of memory is a text's
 pub text_fault : (x : Result Load LineFault) (f : LineFault) → IsLoadFault x f → (f.fault ≡ fault.Memory → ⊥) → x ≡ Err f
 text_fault x f (inl is) other = is
@@ -46,13 +55,12 @@ pub stops_at : (r : Recording) (v : Asked) (at : ℕ) → IsLoaded r v → Stops
 stops_at r v at h stops = record { load = h.load; texts = h.texts; stops = subst (λ (x : Asked). StopsAtAction r.rows r.actions x at) h.is stops }
 
 -- two machines of one record are the same
-pub one_made : (r : Recording) (v w : Recorded) → IsMadeAgain r v → IsMadeAgain r w → v ≡ w
+pub one_made : (r : Recording) (v w : Recorded) → IsMadeAgain r v → IsMadeAgain r w → AreAlike v w
 one_made r v w one other =
     let asked : v.asked ≡ w.asked = cc in
-    let kept : v.kept ≡ w.kept = one.keeps ∙ sym other.keeps in
-    λ i. record { asked = asked i; kept = kept i }
+    record { asked = asked; kept = one.keeps ∙ sym other.keeps }
 
-pub one_restored : (bs : List ℕ) (v w : Recorded) → IsRestored bs v → IsRestored bs w → v ≡ w
+pub one_restored : (bs : List ℕ) (v w : Recorded) → IsRestored bs v → IsRestored bs w → AreAlike v w
 one_restored bs v w one other =
     let same : one.kept ≡ other.kept = cc in
     one_made other.kept v w (subst (λ (r : Recording). IsMadeAgain r v) same one.made) other.made
@@ -61,9 +69,10 @@ one_restored bs v w one other =
 pub is_made : (v : Recorded) (r : Recording) → v.kept ≡ Some r → RecordMakes v.kept v.asked → IsMadeAgain r v
 is_made v r is h = record { made = subst (λ (k : Option Recording). RecordMakes k v.asked) is h; keeps = is }
 
-pub is_made_by : (v : Recorded) (kept : Option Recording) (machine : Asked) (r : Recording) → ◌≡◌ {A = Recorded} (record { asked = machine; kept = kept }) v
+pub is_made_by : (v : Recorded) (kept : Option Recording) (room : Room) (machine : Asked) (r : Recording)
+    → ◌≡◌ {A = Recorded} (record { asked = machine; kept = kept; room = room }) v
     → kept ≡ Some r → RecordMakes kept machine → IsMadeAgain r v
-is_made_by v kept machine r view is h = subst (IsMadeAgain r) view (is_made (record { asked = machine; kept = kept }) r is h)
+is_made_by v kept room machine r view is h = subst (IsMadeAgain r) view (is_made (record { asked = machine; kept = kept; room = room }) r is h)
 
 -- the machine of a record's texts
 pub loaded_by : (r : Recording) (machine scripts : List ℕ) (v : Asked) → machine ≡ r.machine → scripts ≡ r.scripts

@@ -1,10 +1,10 @@
 -- What bytes and records make, and why they make nothing.
-use Rattle.std.specs.Prelude.{◌≡◌, ◌⊎◌, ℕ, List, Some, Ok, Err}
+use Rattle.std.specs.Prelude.{◌≡◌, ◌⊎◌, ℕ, List, [], Some, Ok, Err}
 use Rattle.std.specs.Str.Lines.{lines}
 use Rattle.machine_parts.specs.Core.{Load}
 use Rattle.machine_core.specs.Loading.{load_by}
 use Rattle.machine_asked.specs.Asked.{Asked}
-use Rattle.machine_record.specs.Recording.{Recording}
+use Rattle.machine_record.specs.Recording.{Recording, fresh_record}
 use Rattle.machine_record.specs.Reading.{record_in_bytes}
 use Rattle.machine_record.specs.declared.restoring.Unrestored.{Unrestored}
 use Rattle.machine_record.specs.declared.restoring.Unrestored.TheVariants as why
@@ -22,6 +22,11 @@ pub record IsLoaded (kept : Recording) (v : Asked) : Type 0 where
 pub record IsMadeAgain (kept : Recording) (v : Recorded) : Type 0 where
   pub made : made_by kept ≡ Some v.asked
   pub keeps : v.kept ≡ Some kept
+
+-- a machine with the record of a machine text, before anything is done; it has no scripts
+pub record IsFresh (v : Recorded) : Type 0 where
+  pub text : List ℕ
+  pub made : IsMadeAgain (fresh_record text []) v
 
 -- the action of a number can't be done, where those before it can
 pub record Stops (kept : Recording) (at : ℕ) : Type 0 where

@@ -1,5 +1,5 @@
 -- A machine that keeps a record, as contracts see it.
-use Rattle.std.specs.Prelude.{◌≡◌, ◌⊎◌, ◌<◌, ℕ, true, [], ◌∷◌, ◌++◌, length, Option, None}
+use Rattle.std.specs.Prelude.{◌≡◌, ◌⊎◌, ◌<◌, ◌≤◌, ℕ, true, false, [], ◌∷◌, ◌++◌, length, Option, None}
 use Rattle.std.specs.Prelude.{IfSome, option_map}
 use Rattle.torus.specs.declared.step.Step.{Step}
 use Rattle.torus.specs.declared.step.Stepped.{Stepped}
@@ -10,12 +10,18 @@ use Rattle.machine_record.specs.declared.action.Action.{Action}
 use Rattle.machine_record.specs.declared.action.Action.TheVariants.{Move, Line}
 use Rattle.machine_record.specs.Action.{action_number, is_narrow}
 use Rattle.machine_record.specs.Row.{row_of_line}
-use Rattle.machine_record.specs.Recording.{Recording}
+use Rattle.machine_record.specs.Recording.{Recording, Room}
 
--- a machine, and the record of what was done to it, where it keeps one
+-- a machine, the record of what was done to it, where it keeps one, and the room of that record
 pub record Recorded : Type 0 where
   pub asked : Asked
   pub kept : Option Recording
+  pub room : Room
+
+-- the same machine with the same record; only the room may be another
+pub record AreAlike (v w : Recorded) : Type 0 where
+  pub asked : v.asked ≡ w.asked
+  pub kept : v.kept ≡ w.kept
 
 -- a record with the number of one action more
 abbrev pub with_action : ℕ → Recording → Recording
@@ -35,22 +41,52 @@ with_row p line r = record {
   actions = r.actions ++ action_number (Line (length r.rows)) ∷ [];
 }
 
--- An action is kept: the record has its number more. Or the record ends: memory for it was refused, or
--- no number names the action.
-abbrev pub KeepsRecord : Action → Option Recording → Option Recording → Type 0
-KeepsRecord a old new =
-    ((is_narrow a ≡ true) × (new ≡ option_map (with_action (action_number a)) old)) ⊎ (new ≡ None)
+-- no less room than there was
+pub record HasNoLessRoom (old new : Room) : Type 0 where
+  pub rows : old.rows ≤ new.rows
+  pub actions : old.actions ≤ new.actions
 
--- a move is kept; an attempt that doesn't move leaves the record as it was
-abbrev pub KeepsStep : Step → Stepped → Option Recording → Option Recording → Type 0
-KeepsStep attempt Moved old new = KeepsRecord (Move attempt) old new
-KeepsStep attempt Idle old new = new ≡ old
+-- why a record can't keep an action: no number names it, or there was no room for one more, and memory
+-- was refused
+abbrev pub EndsAtAction : Action → Option Recording → Room → Type 0
+EndsAtAction a old room =
+    (is_narrow a ≡ false) ⊎ IfSome old (λ r. room.actions ≤ length r.actions)
+
+-- An action is kept: the record has its number more. Or the record ends there: nothing is left of it.
+abbrev pub KeepsAction : Action → Option Recording → Room → Option Recording → Room → Type 0
+KeepsAction a old room new after =
+    ((is_narrow a ≡ true) × (new ≡ option_map (with_action (action_number a)) old)
+    × HasNoLessRoom room after)
+    ⊎ (EndsAtAction a old room × (new ≡ None))
+
+-- why a record can't keep a line: no number names one more, or there was no room, and memory was refused
+abbrev pub EndsAtLine : Option Recording → Room → Type 0
+EndsAtLine old room = IfSome old (λ r. (268435456 ≤ length r.rows) ⊎ (room.rows ≤ length r.rows)
+    ⊎ (room.actions ≤ length r.actions))
 
 -- there is a number for a line more
-abbrev pub HasLineRoom : Option Recording → Type 0
-HasLineRoom kept = IfSome kept (λ r. length r.rows < 268435456)
+abbrev pub HasLineNumber : Option Recording → Type 0
+HasLineNumber kept = IfSome kept (λ r. length r.rows < 268435456)
 
--- A line that processor p was handed is kept, or the record ends.
-abbrev pub KeepsLine : ℕ → ScriptLine → Option Recording → Option Recording → Type 0
-KeepsLine p line old new =
-    (HasLineRoom old × (new ≡ option_map (with_row p line) old)) ⊎ (new ≡ None)
+-- A line that processor p was handed is kept, or the record ends there.
+abbrev pub KeepsRow : ℕ → ScriptLine → Option Recording → Room → Option Recording → Room → Type 0
+KeepsRow p line old room new after =
+    (HasLineNumber old × (new ≡ option_map (with_row p line) old) × HasNoLessRoom room after)
+    ⊎ (EndsAtLine old room × (new ≡ None))
+
+-- the same of a machine
+abbrev pub KeepsRecord : Action → Recorded → Recorded → Type 0
+KeepsRecord a old new = KeepsAction a old.kept old.room new.kept new.room
+
+abbrev pub KeepsLine : ℕ → ScriptLine → Recorded → Recorded → Type 0
+KeepsLine p line old new = KeepsRow p line old.kept old.room new.kept new.room
+
+-- the record is as it was
+pub record KeepsNothing (old new : Recorded) : Type 0 where
+  pub kept : new.kept ≡ old.kept
+  pub room : new.room ≡ old.room
+
+-- a move is kept; an attempt that doesn't move leaves the record as it was
+abbrev pub KeepsStep : Step → Stepped → Recorded → Recorded → Type 0
+KeepsStep attempt Moved old new = KeepsRecord (Move attempt) old new
+KeepsStep attempt Idle old new = KeepsNothing old new

@@ -10,6 +10,15 @@ pub record Recording : Type 0 where
   pub rows : List LineRow
   pub actions : List ℕ
 
+-- for how many lines and how many actions a record has room, with those that it has
+pub record Room : Type 0 where
+  pub rows : ℕ
+  pub actions : ℕ
+
+-- room for none
+abbrev pub no_room : Room
+no_room = record { rows = 0; actions = 0 }
+
 -- a record of two texts, before anything is done
 abbrev pub fresh_record : List ℕ → List ℕ → Recording
 fresh_record machine scripts =

@@ -33,7 +33,7 @@ impl<A: Allocator> RecordedMachine<A> {
         ensures spins { self.new.asked.spins ≡ self.old.asked.spins }
         ensures kept { KeepsRecord
             (Action.Clocked (turn % port_count (dims_of self.old.asked.core.shape)))
-            self.old.kept self.new.kept }
+            self.old self.new }
     {
         let ports = 8 * self.machine.machine().torus().dims() + 2;
         self.machine.clocked_round(turn);
@@ -55,7 +55,7 @@ impl<A: Allocator> RecordedMachine<A> {
             → AreFinished (run_of l (before ++ clocked_rounds self.old.asked.core result))
             (length (before ++ clocked_rounds self.old.asked.core result)) l.scripts }
         ensures spins { self.new.asked.spins ≡ self.old.asked.spins }
-        ensures kept { KeepsRecord (Action.ClockedRounds result) self.old.kept self.new.kept }
+        ensures kept { KeepsRecord (Action.ClockedRounds result) self.old self.new }
     {
         let rounds = self.machine.finish_clocked();
         keep_clocked_rounds(&mut self.kept, rounds);

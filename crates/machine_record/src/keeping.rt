@@ -1,9 +1,10 @@
 //! What is kept of what is done to a machine: nothing, or a record.
 
-ghost use Rattle.std.specs.Prelude.{◌≡◌, ◌<◌, true, OnOk, length, option_map};
+ghost use Rattle.std.specs.Prelude.{◌≡◌, ◌⊎◌, ◌<◌, ◌≤◌, true, false, OnErr, OnOk, Some, length, vec_capacity, vec_len};
 ghost use Rattle.machine_record.specs.Action.{action_number, is_narrow};
-ghost use Rattle.machine_record.specs.Recorded.{recording_of};
-ghost use Rattle.machine_record.specs.Machine.{KeepsRecord, KeepsLine, with_action, with_row};
+ghost use Rattle.machine_record.specs.Recorded.{recording_of, room_of};
+ghost use Rattle.machine_record.specs.Machine.{HasNoLessRoom, with_action, with_row};
+ghost use Rattle.machine_record.specs.MachineInside.{KeepsRowWithin, KeepsWithin};
 
 use crate::{Action, LineRow, Record};
 use script::Line;
@@ -17,9 +18,12 @@ const MOST: u64 = 268435456;
 /// Errors: no number names it, or out of memory.
 #[inline(always)]
 fn put<A: Allocator>(kept: &mut Record<A>, action: Action) -> Result<(), AllocError>
-    ensures { OnOk result ((is_narrow action ≡ true)
+    ensures put { OnOk result ((is_narrow action ≡ true)
         × (recording_of kept.new
-        ≡ with_action (action_number action) (recording_of kept.old))) }
+        ≡ with_action (action_number action) (recording_of kept.old))
+        × HasNoLessRoom (room_of (Some kept.old)) (room_of (Some kept.new))) }
+    ensures full { OnErr result ((is_narrow action ≡ false)
+        ⊎ (vec_capacity kept.old.actions ≤ vec_len kept.old.actions)) }
 {
     if !action.is_narrow() {
         return Err(AllocError);
@@ -29,9 +33,10 @@ fn put<A: Allocator>(kept: &mut Record<A>, action: Action) -> Result<(), AllocEr
 }
 
 /// Keeps an action. The record ends where no number names the action, or memory is refused.
+#[tactic(auto, using(crate::proofs::Kept::keeps_none, crate::proofs::Kept::keeps_put, crate::proofs::Kept::ends_full))]
 #[inline(always)]
 pub(crate) fn keep<A: Allocator>(kept: &mut Option<Record<A>>, action: Action)
-    ensures { KeepsRecord action (option_map recording_of kept.old) (option_map recording_of kept.new) }
+    ensures { KeepsWithin action kept.old kept.new }
 {
     let Some(record) = kept else {
         return;
@@ -42,9 +47,9 @@ pub(crate) fn keep<A: Allocator>(kept: &mut Option<Record<A>>, action: Action)
 }
 
 /// Keeps rounds. The record ends where no number names them, or memory is refused.
+#[tactic(auto, using(crate::proofs::Kept::ends_wide))]
 pub(crate) fn keep_rounds<A: Allocator>(kept: &mut Option<Record<A>>, count: u64)
-    ensures { KeepsRecord (Action.Rounds count) (option_map recording_of kept.old)
-        (option_map recording_of kept.new) }
+    ensures { KeepsWithin (Action.Rounds count) kept.old kept.new }
 {
     if count < MOST {
         keep(kept, Action::Rounds(count as u32));
@@ -54,9 +59,9 @@ pub(crate) fn keep_rounds<A: Allocator>(kept: &mut Option<Record<A>>, count: u64
 }
 
 /// Keeps a clocked round of a turn. The record ends where no number names it, or memory is refused.
+#[tactic(auto, using(crate::proofs::Kept::ends_wide))]
 pub(crate) fn keep_clocked<A: Allocator>(kept: &mut Option<Record<A>>, turn: u64)
-    ensures { KeepsRecord (Action.Clocked turn) (option_map recording_of kept.old)
-        (option_map recording_of kept.new) }
+    ensures { KeepsWithin (Action.Clocked turn) kept.old kept.new }
 {
     if turn < MOST {
         keep(kept, Action::Clocked(turn as u32));
@@ -67,9 +72,9 @@ pub(crate) fn keep_clocked<A: Allocator>(kept: &mut Option<Record<A>>, turn: u64
 
 /// Keeps clocked rounds, with the turns from 0 on. The record ends where no number names them, or memory is
 /// refused.
+#[tactic(auto, using(crate::proofs::Kept::ends_wide))]
 pub(crate) fn keep_clocked_rounds<A: Allocator>(kept: &mut Option<Record<A>>, count: u64)
-    ensures { KeepsRecord (Action.ClockedRounds count) (option_map recording_of kept.old)
-        (option_map recording_of kept.new) }
+    ensures { KeepsWithin (Action.ClockedRounds count) kept.old kept.new }
 {
     if count < MOST {
         keep(kept, Action::ClockedRounds(count as u32));
@@ -86,8 +91,12 @@ fn put_line<A: Allocator>(
     processor: u32,
     line: Line,
 ) -> Result<(), AllocError>
-    ensures { OnOk result ((length kept.old.rows.items < 268435456)
-        × (recording_of kept.new ≡ with_row processor line (recording_of kept.old))) }
+    ensures put { OnOk result ((length kept.old.rows.items < 268435456)
+        × (recording_of kept.new ≡ with_row processor line (recording_of kept.old))
+        × HasNoLessRoom (room_of (Some kept.old)) (room_of (Some kept.new))) }
+    ensures full { OnErr result ((268435456 ≤ vec_len kept.old.rows)
+        ⊎ (vec_capacity kept.old.rows ≤ vec_len kept.old.rows)
+        ⊎ (vec_capacity kept.old.actions ≤ vec_len kept.old.actions)) }
 {
     let number = kept.rows.len();
     if number as u64 >= MOST {
@@ -99,9 +108,9 @@ fn put_line<A: Allocator>(
 }
 
 /// Keeps that a processor was handed a line. The record ends where no number names it, or memory is refused.
+#[tactic(auto, using(crate::proofs::Kept::keeps_no_row, crate::proofs::Kept::keeps_row, crate::proofs::Kept::ends_at_row))]
 pub(crate) fn keep_line<A: Allocator>(kept: &mut Option<Record<A>>, processor: u32, line: Line)
-    ensures { KeepsLine processor line (option_map recording_of kept.old)
-        (option_map recording_of kept.new) }
+    ensures { KeepsRowWithin processor line kept.old kept.new }
 {
     let Some(record) = kept else {
         return;

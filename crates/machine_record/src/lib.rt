@@ -18,7 +18,7 @@ pub use action::Action;
 pub use bytes::bytes_of;
 pub use machine_asked::{AskedMachine, Machine};
 pub use reading::{Unread, record_of};
-pub use record::{Record, begun, copied};
+pub use record::{Record, begun, begun_without_scripts, copied};
 pub use recorded::RecordedMachine;
 pub use restoring::Unrestored;
 pub use row::LineRow;

@@ -1,6 +1,6 @@
 //! A record of what is done to a machine.
 
-ghost use Rattle.std.specs.Prelude.{◌≡◌, IfOk};
+ghost use Rattle.std.specs.Prelude.{◌≡◌, [], IfOk};
 ghost use Rattle.machine_record.specs.Recorded.{recording_of};
 ghost use Rattle.machine_record.specs.Recording.{fresh_record};
 
@@ -46,4 +46,16 @@ pub fn copied<A: Allocator + Copy, B: Allocator>(
         rows: Vec::from_slice(alloc, &kept.rows)?,
         actions: Vec::from_slice(alloc, &kept.actions)?,
     })
+}
+
+/// A record of a machine text, with no scripts, before anything is done.
+pub fn begun_without_scripts<A: Allocator + Copy>(alloc: A, machine: Vec<u8, A>) -> Record<A>
+    ensures { recording_of result ≡ fresh_record machine.items [] }
+{
+    Record {
+        machine,
+        scripts: Vec::new(alloc),
+        rows: Vec::new(alloc),
+        actions: Vec::new(alloc),
+    }
 }

@@ -17,16 +17,19 @@ ghost use Rattle.machine_core.specs.Loading.{HasLoaded, IsLoadFault, load_by};
 ghost use Rattle.machine_core.specs.Rounds.{NeedsRounds, rounds_of};
 ghost use Rattle.machine_asked.specs.Asked.{IsAsked, IsNumbered, NeedsToWait, has_spin};
 ghost use Rattle.machine_asked.specs.Asked.{index_asked, spins_with};
-ghost use Rattle.machine_record.specs.Recording.{fresh_record};
+ghost use Rattle.machine_asked.specs.Opened.{IsOpened};
+ghost use Rattle.machine_record.specs.Recording.{fresh_record, no_room};
+ghost use Rattle.machine_record.specs.Calls.{IsFresh};
 ghost use Rattle.machine_record.specs.Machine.{KeepsRecord, KeepsLine, KeepsStep};
 
 use crate::keeping::{keep, keep_line, keep_rounds};
-use crate::{Action, Record, begun};
-use machine_asked::{AskedMachine, Machine};
+use crate::replay::make_rounds;
+use crate::{Action, Record, begun, begun_without_scripts};
+use machine_asked::{AskedMachine, Machine, OpenedMachine};
 use script::{Line, LineFault};
-use std::alloc::{Allocator, Global};
+use std::alloc::{AllocError, Allocator, Global};
 use std::marker::Model;
-use torus::{Fault, Step, Stepped};
+use torus::{Fault, Step, Stepped, Torus};
 
 /// A machine that is asked for operations while it runs, and the record of what was done to it, where it
 /// keeps one. The record makes this machine again.
@@ -77,12 +80,34 @@ impl<A: Allocator + Copy> RecordedMachine<A> {
             }),
         }
     }
+
+    /// Opens a machine by numbers, as `AskedMachine::open` does, with a record of what is done to it from now
+    /// on.
+    ///
+    /// Errors: out of memory; or a number is out of its range.
+    pub fn open(
+        alloc: A,
+        torus: Torus,
+        depth: u32,
+        tags: u32,
+        opening: &[u64],
+    ) -> Result<RecordedMachine<A>, AllocError>
+        ensures opened { IfOk result (λ m. IsOpened torus depth tags opening.now m.asked) }
+        ensures kept { IfOk result IsFresh }
+    {
+        let opened = AskedMachine::open_with_text(alloc, torus, depth, tags, opening)?;
+        let OpenedMachine { machine, text } = opened;
+        Ok(RecordedMachine {
+            machine,
+            kept: Some(begun_without_scripts(alloc, text)),
+        })
+    }
 }
 
 impl<A: Allocator> RecordedMachine<A> {
     /// A machine without a record.
     pub fn unrecorded(machine: AskedMachine<A>) -> RecordedMachine<A>
-        ensures { result ≡ record { asked = machine; kept = None } }
+        ensures { result ≡ record { asked = machine; kept = None; room = no_room } }
     {
         RecordedMachine {
             machine,
@@ -119,7 +144,7 @@ impl<A: Allocator> RecordedMachine<A> {
         ensures step { Steps self.old.asked.core self.new.asked.core result step }
         ensures runs_on { RunsOn self.old.asked.core self.new.asked.core (step ∷ []) }
         ensures spins { self.new.asked.spins ≡ self.old.asked.spins }
-        ensures kept { KeepsStep step result self.old.kept self.new.kept }
+        ensures kept { KeepsStep step result self.old self.new }
     {
         match self.machine.step(step) {
             Stepped::Moved => {
@@ -142,10 +167,23 @@ impl<A: Allocator> RecordedMachine<A> {
         ensures runs_on { RunsOn self.old.asked.core self.new.asked.core
             (round self.old.asked.core.shape) }
         ensures spins { self.new.asked.spins ≡ self.old.asked.spins }
-        ensures kept { KeepsRecord (Action.Rounds 1) self.old.kept self.new.kept }
+        ensures kept { KeepsRecord (Action.Rounds 1) self.old self.new }
     {
         self.machine.round();
         keep_rounds(&mut self.kept, 1);
+    }
+
+    /// Makes so many rounds, and keeps them by one action.
+    pub fn rounds(&mut self, count: u32)
+        ensures state { self.new.asked.core
+            ≡ core_after self.old.asked.core (rounds_of self.old.asked.core.shape count) }
+        ensures runs_on { RunsOn self.old.asked.core self.new.asked.core
+            (rounds_of self.old.asked.core.shape count) }
+        ensures spins { self.new.asked.spins ≡ self.old.asked.spins }
+        ensures kept { KeepsRecord (Action.Rounds count) self.old self.new }
+    {
+        make_rounds(&mut self.machine, count);
+        keep(&mut self.kept, Action::Rounds(count));
     }
 
     /// Makes rounds until every script is finished, and answers how many, as `Machine::finish` does; and keeps
@@ -163,7 +201,7 @@ impl<A: Allocator> RecordedMachine<A> {
             → AreFinished (run_of l (before ++ rounds_of self.old.asked.core.shape result))
             (length (before ++ rounds_of self.old.asked.core.shape result)) l.scripts }
         ensures spins { self.new.asked.spins ≡ self.old.asked.spins }
-        ensures kept { KeepsRecord (Action.Rounds result) self.old.kept self.new.kept }
+        ensures kept { KeepsRecord (Action.Rounds result) self.old self.new }
     {
         let rounds = self.machine.finish();
         keep_rounds(&mut self.kept, rounds);
@@ -179,7 +217,7 @@ impl<A: Allocator> RecordedMachine<A> {
         ensures runs_on { RunsOn self.old.asked.core self.new.asked.core
             (rounds_of self.old.asked.core.shape result) }
         ensures spins { self.new.asked.spins ≡ self.old.asked.spins }
-        ensures kept { KeepsRecord (Action.Rounds result) self.old.kept self.new.kept }
+        ensures kept { KeepsRecord (Action.Rounds result) self.old self.new }
     {
         let rounds = self.machine.wait(processor, index);
         keep_rounds(&mut self.kept, rounds);
@@ -197,7 +235,7 @@ impl<A: Allocator> RecordedMachine<A> {
             → IsAfter l self.old.asked.core steps
             → IsAfter (load_with l processor line) self.new.asked.core
             (moves_kept l self.old.asked.core processor steps)) }
-        ensures kept { OnOk result (KeepsLine processor line self.old.kept self.new.kept) }
+        ensures kept { OnOk result (KeepsLine processor line self.old self.new) }
         ensures fault { IfErr result
             (λ fault. (refused self.old.asked.core processor line ≡ Some fault)
             ⊎ ((refused self.old.asked.core processor line ≡ None) × (fault ≡ Fault.Memory))) }
@@ -224,7 +262,7 @@ impl<A: Allocator> RecordedMachine<A> {
             (λ i. (l : Load) (steps : List Step) → IsAfter l self.old.asked.core steps
             → self.old.asked.spins ≡ map has_spin l.scripts
             → IsNumbered (load_with l processor line) processor line i)) }
-        ensures kept { OnOk result (KeepsLine processor line self.old.kept self.new.kept) }
+        ensures kept { OnOk result (KeepsLine processor line self.old self.new) }
         ensures fault { IfErr result
             (λ fault. (refused self.old.asked.core processor line ≡ Some fault)
             ⊎ ((refused self.old.asked.core processor line ≡ None) × (fault ≡ Fault.Memory))) }

@@ -21,7 +21,7 @@ fn moved<A: Allocator>(machine: &mut AskedMachine<A>, step: Step) -> bool
 }
 
 /// Makes so many rounds.
-fn make_rounds<A: Allocator>(machine: &mut AskedMachine<A>, count: u32)
+pub(crate) fn make_rounds<A: Allocator>(machine: &mut AskedMachine<A>, count: u32)
     ensures { machine.new ≡ rounds_made machine.old count }
 {
     for made in 0..count {

@@ -3,8 +3,8 @@
 use Rattle.std.specs.Prelude.{◌≡◌, ◌⊎◌, ℕ, List, Option, Some, None}
 use Rattle.machine_record.specs.Bytes.{record_bytes}
 use Rattle.machine_record.specs.Recording.{Recording, fresh_record}
-use Rattle.machine_record.specs.Calls.{IsRestored, IsUnrestored}
-use Rattle.machine_record.specs.Machine.{Recorded}
+use Rattle.machine_record.specs.Calls.{IsFresh, IsRestored, IsUnrestored}
+use Rattle.machine_record.specs.Machine.{AreAlike, Recorded}
 use Rattle.machine_record.specs.declared.restoring.Unrestored.{Unrestored}
 use Rattle.machine_record.specs.declared.restoring.Unrestored.TheVariants as why
 use Rattle.torusmem_c.specs.declared.outcome.Outcome.{Outcome}
@@ -17,6 +17,12 @@ abbrev pub KeepsFresh : List ℕ → List ℕ → Option Recorded → Option Rec
 KeepsFresh machine scripts (Some v) new = Unit {0}
 KeepsFresh machine scripts None None = Unit {0}
 KeepsFresh machine scripts None (Some v) = v.kept ≡ Some (fresh_record machine scripts)
+
+-- a machine that was opened into an empty handle keeps a record of a machine text, which makes it
+abbrev pub KeepsOpened : Option Recorded → Option Recorded → Type 0
+KeepsOpened (Some v) new = Unit {0}
+KeepsOpened None None = Unit {0}
+KeepsOpened None (Some v) = IsFresh v
 
 -- the bytes of a record are put into a buffer, and make the machine again
 pub record PutsRecord (v : Recorded) (kept : Recording) (before after : List ℕ) (r : Outcome)
@@ -62,7 +68,7 @@ Restores bs (Some v) new r = (new ≡ Some v) × (r ≡ c_outcome code.Full 0)
 -- another handle holds the same machine with the same record; or none, where there is no record, or
 -- memory was refused
 abbrev pub ClonesTo : Recorded → Option Recorded → Outcome → Type 0
-ClonesTo v (Some u) r = (u ≡ v) × (r ≡ c_outcome code.Done 0)
+ClonesTo v (Some u) r = AreAlike u v × (r ≡ c_outcome code.Done 0)
 ClonesTo v None r = ((v.kept ≡ None) × (r ≡ c_outcome code.NoRecord 0)) ⊎ (r ≡ no_memory)
 
 -- the same of two handles; the first stays as it is, and so does the other where it holds a machine, or

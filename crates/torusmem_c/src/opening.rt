@@ -1,9 +1,11 @@
 //! A machine that is opened by numbers, and one that goes on where another stands.
 
-ghost use Rattle.std.specs.Prelude.{◌≡◌, IfOk, None, length};
-ghost use Rattle.c_handles.specs.HeldMachine.{held};
+ghost use Rattle.std.specs.Prelude.{◌≡◌, IfOk, IfSome, None, length};
+ghost use Rattle.c_handles.specs.HeldMachine.{held, held_whole};
 ghost use Rattle.machine_asked.specs.Opened.{IsOpened};
+ghost use Rattle.machine_record.specs.Calls.{IsFresh};
 ghost use Rattle.torusmem_c.specs.Opening.{GoesOn, Keeps, Opens, Reopens, opening_words, shape_asked, torus_asked};
+ghost use Rattle.torusmem_c.specs.Saving.{KeepsOpened};
 
 use crate::outcome::{Code, Outcome, no_memory};
 use crate::shape::ShapeRecord;
@@ -107,6 +109,62 @@ pub extern "C" fn torusmem_open(
     };
     match opened(alloc, torus, shape, words) {
         Ok(machine) => kept(handle, machine, 0),
+        Err(_) => no_memory(),
+    }
+}
+
+/// The same machine, with a record of what is done to it.
+fn opened_recorded(
+    alloc: Global,
+    torus: Torus,
+    shape: &ShapeRecord,
+    words: &[u64],
+) -> Result<RecordedMachine, AllocError>
+    ensures opened { IfOk result (λ m. IsOpened torus shape.now.depth shape.now.tags
+        (opening_words shape.now.words words.now) m.asked) }
+    ensures kept { IfOk result IsFresh }
+{
+    let opening = opening_words(alloc, shape.words, words)?;
+    RecordedMachine::open(alloc, torus, shape.depth, shape.tags, opening.as_slice())
+}
+
+/// Holds a machine with its record in an empty handle.
+fn kept_recorded(handle: &mut MachineHandle, machine: RecordedMachine) -> Outcome
+    requires held { held handle.old ≡ None }
+    requires whole { held_whole handle.old ≡ None }
+    ensures held { Keeps machine.asked 0 (held handle.new) result }
+    ensures whole { IfSome (held_whole handle.new) (λ v. v ≡ machine) }
+{
+    match handle.hold(machine) {
+        Ok(()) => Outcome::done(0),
+        Err(_) => no_memory(),
+    }
+}
+
+/// Opens the machine of a shape into an empty handle, as `torusmem_open` does. It keeps a record of what is
+/// done to it.
+///
+/// Errors: as of `torusmem_open`.
+#[unsafe(no_mangle)]
+pub extern "C" fn torusmem_open_recorded(
+    alloc: Global,
+    handle: &mut MachineHandle,
+    shape: &ShapeRecord,
+    words: &[u64],
+) -> Outcome
+    ensures opens { Opens (shape_asked shape.now (length words.now)) shape.now.depth shape.now.tags
+        (opening_words shape.now.words words.now) (held handle.old) (held handle.new) result }
+    ensures kept { KeepsOpened (held_whole handle.old) (held_whole handle.new) }
+{
+    if let Some(_held) = handle.machine() {
+        return Outcome::of(Code::Full, 0);
+    }
+    let torus = match shape_asked(shape, words.len()) {
+        Ok(torus) => torus,
+        Err(fault) => return Outcome::of(Code::Fault(fault), 0),
+    };
+    match opened_recorded(alloc, torus, shape, words) {
+        Ok(machine) => kept_recorded(handle, machine),
         Err(_) => no_memory(),
     }
 }

@@ -232,6 +232,13 @@ class Looks(unittest.TestCase):
         ]:
             with self.assertRaisesRegex(ValueError, why):
                 Machine.restored(bytes_of_none)
+        numbered = Machine.of(machine.shape, [7], recorded=True)
+        numbered.ask(1, torusmem.Operation.ADD, 0, 3)
+        numbered.finish()
+        for again in (Machine.restored(numbered.save()), numbered.clone()):
+            self.assertEqual((again.shape, again.word(0), again.report()), (machine.shape, 10, numbered.report()))
+            self.assertEqual(again.save(), numbered.save())
+        self.assertRaisesRegex(ValueError, "recorded=True", Machine.of(machine.shape).save)
         self.assertRaisesRegex(ValueError, "recorded=True", first().save)
         self.assertRaisesRegex(ValueError, "recorded=True", first().clone)
         machine.close()

@@ -112,6 +112,7 @@ CALLS = {
     "code_text": (c_char_p, [c_uint32]),
     "load": (Outcome, [_M, c_char_p, c_size_t, c_char_p, c_size_t]),
     "open": (Outcome, [_M, POINTER(RawShape), POINTER(c_uint64), c_size_t]),
+    "open_recorded": (Outcome, [_M, POINTER(RawShape), POINTER(c_uint64), c_size_t]),
     "reopen": (Outcome, [_M, _M]),
     "load_recorded": (Outcome, [_M, c_char_p, c_size_t, c_char_p, c_size_t]),
     "save": (Outcome, [_M, c_void_p, c_size_t]),

@@ -14,7 +14,7 @@ from ._looks import Looks
 from ._records import MOST, Path, Shape, Steps, Text, bytes_of, number_of
 
 
-NO_RECORD = "torusmem: the machine keeps no record: load it with recorded=True"
+NO_RECORD = "torusmem: the machine keeps no record: make it with recorded=True"
 
 
 class Machine(Looks):
@@ -46,15 +46,16 @@ class Machine(Looks):
         return made
 
     @classmethod
-    def of(cls, shape: Shape, words: Sequence[int] = ()) -> Machine:
+    def of(cls, shape: Shape, words: Sequence[int] = (), recorded: bool = False) -> Machine:
         """The machine of a shape: its first words are given, and the others are 0. ValueError tells what is wrong with the
-        shape, of which tiles and ports aren't looked at."""
+        shape, of which tiles and ports aren't looked at. With recorded=True it keeps a record, and can be saved."""
         if len(shape.datelines) != len(shape.radices):
             raise ValueError(f"torusmem: {REASONS[13]} (F13)")
         raw = _library.RawShape(dims=len(shape.radices), depth=shape.depth, tags=shape.tags, words=shape.words)
         raw.radices[:], raw.datelines[:] = ([*it, 0, 0, 0][:3] for it in (shape.radices, shape.datelines))
         made = cls._empty()
-        said = made._calls.open(made._at, byref(raw), (c_uint64 * max(1, len(words)))(*words), len(words))
+        call = made._calls.open_recorded if recorded else made._calls.open
+        said = call(made._at, byref(raw), (c_uint64 * max(1, len(words)))(*words), len(words))
         if said.code in REASONS and said.code != _library.FAULT_MEMORY:
             raise ValueError(f"torusmem: {REASONS[said.code]} (F{said.code})")
         made._value(said)

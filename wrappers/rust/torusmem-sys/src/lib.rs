@@ -290,6 +290,12 @@ extern "C" {
         words: *const u64,
         words_length: usize,
     ) -> torusmem_outcome;
+    pub fn torusmem_open_recorded(
+        m: *mut torusmem_machine,
+        shape: *const torusmem_shape,
+        words: *const u64,
+        words_length: usize,
+    ) -> torusmem_outcome;
     pub fn torusmem_reopen(m: *mut torusmem_machine, fresh: *mut torusmem_machine) -> torusmem_outcome;
     pub fn torusmem_load_recorded(
         m: *mut torusmem_machine,

@@ -379,6 +379,13 @@ impl Machine {
         Ok(Machine { raw })
     }
 
+    /// The same as [`Machine::open`]; and the machine keeps a record of what is done to it, so that it can be saved.
+    pub fn open_recorded(shape: &Shape, words: &[u64]) -> Result<Machine, Fault> {
+        let mut raw = Raw::empty();
+        granted(raw.open_recorded(&built(shape)?, words))?;
+        Ok(Machine { raw })
+    }
+
     /// The bytes of its record, of which [`Machine::restored`] makes this machine again; None where it keeps none. The only
     /// fault is that memory is refused.
     pub fn save(&mut self) -> Result<Option<Vec<u8>>, Fault> {

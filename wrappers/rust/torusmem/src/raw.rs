@@ -74,6 +74,11 @@ impl Raw {
         unsafe { torusmem_open(&mut self.0, shape, list_at(words, &0), words.len()) }
     }
 
+    pub fn open_recorded(&mut self, shape: &torusmem_shape, words: &[u64]) -> torusmem_outcome {
+        // SAFETY: the machine is this one's alone; the slice has as many words as it says, and is only read.
+        unsafe { torusmem_open_recorded(&mut self.0, shape, list_at(words, &0), words.len()) }
+    }
+
     pub fn load_recorded(&mut self, machine: &[u8], scripts: &[u8]) -> torusmem_outcome {
         // SAFETY: the machine is this one's alone; each slice has as many bytes as it says, and is only read.
         unsafe { torusmem_load_recorded(&mut self.0, text_at(machine), machine.len(), text_at(scripts), scripts.len()) }

@@ -89,7 +89,7 @@ impl Watch {
     }
 
     /// Takes the answer to the operation of a number, and looks at most at 1000000 configurations of its word at once,
-    /// as the program does.
+    /// as the program does. That decides it while at most 9 operations are open on one word.
     pub fn answer(&mut self, number: u64, reply: Reply) -> Result<(), NotTaken> {
         self.answer_within(number, reply, 1_000_000)
     }

@@ -277,6 +277,12 @@ fn machines_that_are_restored() {
     let no_action = [&bytes[..bytes.len() - 4], &[15, 0, 0, 0]].concat();
     assert_eq!(Machine::restored(&no_action).err(), Some(torusmem::Unrestored::Action(0)));
     assert_eq!((first().save(), first().cloned().map(|it| it.is_none())), (Ok(None), Ok(true)));
+    let mut numbered = Machine::open_recorded(&machine.shape(), &[7]).expect("a machine");
+    numbered.round();
+    let bytes = numbered.save().expect("memory").expect("a record");
+    let mut again = Machine::restored(&bytes).expect("the same machine");
+    assert_eq!((again.word(0), again.report(), again.save()), (Some(7), numbered.report(), Ok(Some(bytes))));
+    assert_eq!(Machine::open_recorded(&machine.shape(), &[0; 9]).err(), Some(Fault::Text { fault: 7, line: 0 }));
 }
 
 #[test]

@@ -1,9 +1,10 @@
 use Rattle.std.specs.Prelude.{option_map}
-use Rattle.machine_record.specs.Recorded.{recording_of}
+use Rattle.machine_record.specs.Recorded.{recording_of, room_of}
 use Rattle.machine_record.proofs.Keeps.{keeps_rounds}
 use Rattle.machine_record.proofs.recorded.RecordedMachine.finish.Goals as goal
 
 pub invariant_of-self : goal.invariant_of-self
 invariant_of-self g c =
-    keeps_rounds (option_map recording_of c.self.inside.kept) (option_map recording_of c.keep_rounds.new.kept) c.self.inside.machine c.finish-rounds.new.self c.finish-rounds.result
+    keeps_rounds (option_map recording_of c.self.inside.kept) (option_map recording_of c.keep_rounds.new.kept) (room_of c.self.inside.kept) (room_of c.keep_rounds.new.kept)
+    c.self.inside.machine c.finish-rounds.new.self c.finish-rounds.result
     c.self.invariant c.finish-rounds.ensures.state c.finish-rounds.ensures.spins c.keep_rounds.ensures

@@ -1,0 +1,15 @@
+use Rattle.std.proofs.Common.{◌∙◌, Some, [], ap}
+use Rattle.machine_record.specs.Recorded.{recording_of, room_of}
+use Rattle.machine_record.specs.Replay.{made_by}
+use Rattle.machine_record.proofs.Restores.{fresh_is, fresh_makes}
+use Rattle.machine_record.proofs.recorded.RecordedMachine.open.Goals as goal
+
+pub invariant_of-result : goal.invariant_of-result
+invariant_of-result g c =
+    ap made_by c.begun_without_scripts.ensures
+    ∙ fresh_makes c.in_ok-opened.opened.text.items [] c.in_ok-opened.opened.machine c.in_ok-opened.ensures.loaded c.in_ok-opened.ensures.spins
+
+pub returns-clause-kept : goal.returns-clause-kept
+returns-clause-kept g c =
+    fresh_is c.in_ok-opened.opened.text.items c.in_ok-opened.opened.machine (recording_of c.begun_without_scripts.result)
+    (room_of (Some c.begun_without_scripts.result)) c.in_ok-opened.ensures.loaded c.in_ok-opened.ensures.spins c.begun_without_scripts.ensures
