@@ -17,11 +17,11 @@ pub struct TrafficSentence<'a> {
 /// The sentence of a reason, with its gaps.
 fn text_of(reason: TrafficReason) -> &'static str {
     match reason {
-        TrafficReason::NotPacket => "A: a line is `at ROUND send FROM TO LENGTH`",
+        TrafficReason::NotPacket => "A: a line is `at round send from to length`",
         TrafficReason::NotNumber(_) => "W: a number belongs there",
         TrafficReason::RoundLimits => "A B: rounds are counted from 1 to 2147483647",
-        TrafficReason::LengthLimits => "A B C D: a packet has 1 to 2147483647 flits",
-        TrafficReason::NotJoined => "A B C D: no packets go between these channels",
+        TrafficReason::LengthLimits => "A B C D E F: a packet has 1 to 2147483647 flits",
+        TrafficReason::NotJoined => "A B C D E F: no packets go between these channels",
         TrafficReason::Memory => "a request for memory was refused",
     }
 }
