@@ -190,7 +190,8 @@ torusmem_outcome torusmem_open(torusmem_machine *m, const struct torusmem_shape 
 /* Goes on with a machine that has come near a limit of its scripts: makes rounds until every script is finished, and opens
    in *fresh, which is empty, a machine of the same shape, whose opening words are the words of *m then, and whose
    processors have no line. What is asked of it is answered as if *m had gone on, since one memory answers both. Answers
-   of *m stay to be fetched there, until it is freed; indices, limits and the numbers of the order begin anew.
+   of *m stay to be fetched there, until it is freed; indices, limits and the numbers of the order begin anew. *fresh keeps
+   no record.
    OK, value: how many rounds; FULL: *fresh isn't empty; EMPTY: *m is, and nothing has changed; TORUSMEM_FAULT_MEMORY:
    *m has made its rounds, and *fresh is empty. m and fresh are not the same. */
 torusmem_outcome torusmem_reopen(torusmem_machine *m, torusmem_machine *fresh) TORUSMEM_RESULT;
