@@ -47,13 +47,16 @@ first_explained opening w = record {
 knows_none : (opening : List ℕ) (w : ℕ) → Knows opening [] w (first_config (get_or opening w 0) ∷ [])
 knows_none opening w = record {
   sound = λ c on. subst (λ (d : Config). IsExplained opening [] w d) (one c on.0 on.1) (first_explained opening w);
-  complete = λ order o. (0, record {
-    config = first_config (get_or opening w 0);
-    on = (0, refl);
-    calls = [];
-    matches = tt;
-    explains = nothing_explained opening w;
-  });
+  complete = λ order o. (
+    0,
+    record {
+      config = first_config (get_or opening w 0);
+      on = (0, refl);
+      calls = [];
+      matches = tt;
+      explains = nothing_explained opening w;
+    },
+  );
 }
   where
     one : (c : Config) (k : ℕ) → slice_get (first_config (get_or opening w 0) ∷ []) k ≡ Some c

@@ -70,7 +70,7 @@ covers_named c d calls cov =
     ∙ ap (λ (xs : List NamedEffect). made c.word xs) (sym (covered_named c.effects d.effects calls cov.effects))
 
 -- what stands before what, by replies and operations
-before : Reply → Reply → Op → Op → Bool
+abbrev before : Reply → Reply → Op → Op → Bool
 before r s o p = cond (told_word r == told_word s) (is_op_before o p) (nat_lt (told_word r) (told_word s))
 
 same_before : (g h e f : Effect) → g.op ≡ h.op → g.reply ≡ h.reply → e.op ≡ f.op → e.reply ≡ f.reply
@@ -113,11 +113,11 @@ among_covers configs c d among cov = (among.0, among.1, covers_trans among.0 c d
 -- the place of one more effect, as the code looks for it
 pub spot_on : (effects : List Effect) (i : ℕ) (f e : Effect) → slice_get effects i ≡ Some f → is_before f e ≡ true
     → spot effects e ≡ i + spot (drop i effects) e → spot effects e ≡ i + 1 + spot (drop (i + 1) effects) e
-spot_on effects i f e here yes was =
+spot_on effects i f e here first was =
     let split : spot (drop i effects) e ≡ spot (f ∷ drop (suc i) effects) e =
     ap (λ (es : List Effect). spot es e) (drop_at effects i f here) in
     let next : spot (f ∷ drop (suc i) effects) e ≡ suc (spot (drop (suc i) effects) e) =
-    ap (λ (b : Bool). cond b (suc (spot (drop (suc i) effects) e)) 0) yes in
+    ap (λ (b : Bool). cond b (suc (spot (drop (suc i) effects) e)) 0) first in
     let one : suc i ≡ i + 1 = omega arith in
     let more : spot (drop (suc i) effects) e ≡ spot (drop (i + 1) effects) e =
     ap (λ (n : ℕ). spot (drop n effects) e) one in
@@ -125,11 +125,11 @@ spot_on effects i f e here yes was =
 
 pub spot_here : (effects : List Effect) (i : ℕ) (f e : Effect) → slice_get effects i ≡ Some f → is_before f e ≡ false
     → spot effects e ≡ i + spot (drop i effects) e → i ≡ spot effects e
-spot_here effects i f e here no was =
+spot_here effects i f e here late was =
     let split : spot (drop i effects) e ≡ spot (f ∷ drop (suc i) effects) e =
     ap (λ (es : List Effect). spot es e) (drop_at effects i f here) in
     let next : spot (f ∷ drop (suc i) effects) e ≡ 0 =
-    ap (λ (b : Bool). cond b (suc (spot (drop (suc i) effects) e)) 0) no in
+    ap (λ (b : Bool). cond b (suc (spot (drop (suc i) effects) e)) 0) late in
     omega (arith, was, split, next)
 
 pub spot_end : (effects : List Effect) (i : ℕ) (e : Effect) → length effects ≤ i

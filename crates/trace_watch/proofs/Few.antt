@@ -18,6 +18,7 @@ use Rattle.trace_watch.specs.Follows.{Tracks, AnswersFew, states_of}
 use Rattle.trace_watch.proofs.Events.{same_number, same_call}
 use Rattle.trace_watch.proofs.Matched.{fits_weaken}
 use Rattle.trace_watch.proofs.Covering.{covered_fits, covers_after, covers_trans}
+use Rattle.trace_watch.proofs.Growth.{long_configs}
 use Rattle.trace_watch.proofs.Watching.{pending_inside, states_read}
 
 -- whatever operations lead to is among the configurations that are closed under them
@@ -49,6 +50,18 @@ few_found id calls others newest bound old found rest latest short closes apart 
       (λ x y in_x in_y e. apart x y ((rest x).0 in_x).0 ((rest y).0 in_y).0 e) latest closes.closed path c d k.0 k.1 k.2
       leads;
 }
+
+-- as the code reads them
+pub few_read_found : {A : Type 0} (id : ℕ) (calls others newest first second also : List Call) (bound : ℕ)
+    (states found : List (State A)) → first ≡ others → second ≡ others → also ≡ newest
+    → ((c : Call) → IsIn others c ↔ (IsIn calls c × (c.id ≡ id → ⊥))) → HasNewest first newest
+    → length found ≤ bound → Closes second also (configs_of states) (configs_of found) → AreDistinct calls
+    → AreFew id calls bound (configs_of states)
+few_read_found id calls others newest first second also bound states found a b n rest latest short closes apart =
+    few_found id calls others newest bound (configs_of states) (configs_of found) rest
+    (subst (λ (os : List Call). HasNewest os newest) a latest) (let e = long_configs found in omega arith)
+    (subst (λ (ns : List Call). Closes others ns (configs_of states) (configs_of found)) n
+    (subst (λ (os : List Call). Closes os also (configs_of states) (configs_of found)) b closes)) apart
 
 -- fewer operations lead to no more
 leads_more : (id : ℕ) (calls more : List Call) → ((c : Call) → IsIn calls c → IsIn more c)

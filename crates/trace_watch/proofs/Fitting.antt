@@ -47,6 +47,15 @@ fitting_more calls effects i left later e p here best less was = record {
     split : drop i effects ≡ e ∷ drop (i + 1) effects
     split = drop_at effects i e here ∙ ap (λ (n : ℕ). e ∷ drop n effects) one
 
+-- as the code reads what is left
+pub fitting_taken : (calls : List Call) (effects : List Effect) (i : ℕ) (left later first then : List Call) (e : Effect)
+    (p : Call) → slice_get effects i ≡ Some e → first ≡ left → then ≡ left → IsNewestOf first e p
+    → ((c : Call) → IsIn later c ↔ (IsIn then c × (c.id ≡ p.id → ⊥)))
+    → Fitting calls effects i left → Fitting calls effects (i + 1) later
+fitting_taken calls effects i left later first then e p here read also best less was =
+    fitting_more calls effects i left later e p here (subst (λ (cs : List Call). IsNewestOf cs e p) read best)
+    (subst (λ (cs : List Call). (c : Call) → IsIn later c ↔ (IsIn cs c × (c.id ≡ p.id → ⊥))) also less) was
+
 -- there is none
 pub fitting_stuck : (calls : List Call) (effects : List Effect) (i : ℕ) (left : List Call) (e : Effect)
     → slice_get effects i ≡ Some e
@@ -206,11 +215,12 @@ newest_pushed calls i at newest later call here long pushed was =
     (get_push_cases newest call on.0 c on.1))
     (call, (length newest, get_push newest call), refl, omega arith) was)
 
-pub newest_kept : (calls : List Call) (i at : ℕ) (newest : List Call) (call : Call)
-    → slice_get calls at ≡ Some call → length calls ≡ at + i + 1 → HasAsNew newest call → Newest calls i newest
-    → Newest calls (i + 1) newest
-newest_kept calls i at newest call here long has was =
-    newest_more calls i at newest newest call here long (λ c on. on) (λ c on. inl on) has was
+pub newest_kept : (calls : List Call) (i at : ℕ) (newest read : List Call) (call : Call)
+    → slice_get calls at ≡ Some call → length calls ≡ at + i + 1 → read ≡ newest → HasAsNew read call
+    → Newest calls i newest → Newest calls (i + 1) newest
+newest_kept calls i at newest read call here long same has was =
+    newest_more calls i at newest newest call here long (λ c on. on) (λ c on. inl on)
+    (subst (λ (cs : List Call). HasAsNew cs call) same has) was
 
 pub newest_all : (calls : List Call) (i : ℕ) (newest : List Call) → length calls ≤ i → Newest calls i newest
     → HasNewest calls newest

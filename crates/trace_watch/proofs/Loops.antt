@@ -21,13 +21,13 @@ pub config_at : {A : Type 0} (states : List (State A)) (k : ℕ) (s : State A) (
 config_at states k s c there is = let e = get_config states k s there in cc
 
 -- the effects of a state, as the code reads them
-fits_read : (calls : List Call) (c d : Config) (es : List Effect) → es ≡ c.effects → c ≡ d
+pub fits_read : (calls : List Call) (c d : Config) (es : List Effect) → es ≡ c.effects → c ≡ d
     → Fits (IsIn calls) es → Fits (IsIn calls) d.effects
 fits_read calls c d es read same fit =
     subst (λ (f : Config). Fits (IsIn calls) f.effects) same
     (subst (λ (fs : List Effect). Fits (IsIn calls) fs) read fit)
 
-fits_back : (calls : List Call) (c d : Config) (es : List Effect) → es ≡ c.effects → c ≡ d
+pub fits_back : (calls : List Call) (c d : Config) (es : List Effect) → es ≡ c.effects → c ≡ d
     → Fits (IsIn calls) d.effects → Fits (IsIn calls) es
 fits_back calls c d es read same fit =
     subst (λ (fs : List Effect). Fits (IsIn calls) fs) (sym read)

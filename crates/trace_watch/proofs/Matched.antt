@@ -187,8 +187,7 @@ given Q R p q (f ∷ es) [] asks low one rest on apart m = absurd m
 given Q R p q (f ∷ es) (g ∷ gs) asks low one rest on apart m = ⊎_elim {C = Fits R (f ∷ es)}
     (λ (e : g.id ≡ p.id).
     let same = one g m.0 e in
-    let early = m.1.early in
-    (
+    let early = m.1.early in (
       q ∷ gs,
       (
         on,

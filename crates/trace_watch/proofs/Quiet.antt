@@ -228,12 +228,12 @@ open_up t w e c quiet is =
 pub open_down : (words : ℕ) (t : List Event) (w : ℕ) (e : Event) (c : Call) (n i : ℕ) (a : Call)
     → IsTrace words (t ++ e ∷ []) → TraceIssuesAt t i a → n ≤ a.id → c.id ≤ n → IsOpenOn (t ++ e ∷ []) w c
     → IsOpenOn t w c
-open_down words t w e c n i a is issue low early open =
-    let there = open.pending.issued in
+open_down words t w e c n i a is issue low early waits =
+    let there = waits.pending.issued in
     ⊎_elim {C = IsOpenOn t w c}
     (λ (old : TraceIssuesAt t there.0 c). record {
-      pending = record { issued = (there.0, old); unanswered = λ b. open.pending.unanswered (answered_up t e c.id b) };
-      here = open.here;
+      pending = record { issued = (there.0, old); unanswered = λ b. waits.pending.unanswered (answered_up t e c.id b) };
+      here = waits.here;
     })
     (λ (new : (there.0 ≡ length t) × (e ≡ Issue c)).
     let l = get_within t i (Issue a) issue in

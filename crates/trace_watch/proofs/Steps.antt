@@ -53,11 +53,11 @@ pub step_explains : (P : Call → Type 0) (opening : List ℕ) (t : List Event) 
     → Explains opening t w order (named_config c calls)
     → Explains opening t w (order ++ b ∷ [])
     (named_config (after c r) (insert calls (spot c.effects (effect_of c r)) b))
-step_explains P opening t w order c calls r b inside open asks m none x =
+step_explains P opening t w order c calls r b inside waits asks m none x =
     let k = spot c.effects (effect_of c r) in
     let xs = named c.effects calls in
     let name : Op → NamedEffect = λ o. record { id = b.id; reply = reply_to o c.word } in
-    let later = explains_after opening t w order (named_config c calls) b inside open.pending open.here
+    let later = explains_after opening t w order (named_config c calls) b inside waits.pending waits.here
     (λ has. none has.0 has.1 has.2) x in
     let like : IsLike (record { word = new_word r.operation.op c.word; effects = insert xs k (name r.operation.op) })
     (named_after (named_config c calls) b) = subst
@@ -78,11 +78,11 @@ pub taken_explains : (P : Call → Type 0) (words : ℕ) (opening : List ℕ) (t
     → Matches (Other P b.id) c.effects calls → Explains opening t w order (named_config c calls)
     → Explains opening (t ++ Answer b.id reply ∷ []) w (order ++ b ∷ [])
     (named_config (record { word = new_word b.operation.op c.word; effects = c.effects }) calls)
-taken_explains P words opening t w order c calls b reply inside is open replies m x =
+taken_explains P words opening t w order c calls b reply inside is waits replies m x =
     let xs = named c.effects calls in
     let none = left_out P c.effects calls b.id m in
     let e : NamedEffect = record { id = b.id; reply = reply_to b.operation.op c.word } in
-    let later = explains_after opening t w order (named_config c calls) b inside open.pending open.here
+    let later = explains_after opening t w order (named_config c calls) b inside waits.pending waits.here
     (λ has. none has.0 has.1 has.2) x in
     let less : IsWithout b.id (named_after (named_config c calls) b)
     (named_config (record { word = new_word b.operation.op c.word; effects = c.effects }) calls) = record {
@@ -120,9 +120,9 @@ claimed_explains P words opening t w order c k e calls rest b reply is back plac
       word = refl;
       effects = λ y. (
         (λ there. (
-            subst (λ (ys : List NamedEffect). IsIn ys y) (sym same) (insert_old xs k n y there.0 there.1),
-            none y there,
-          )),
+          subst (λ (ys : List NamedEffect). IsIn ys y) (sym same) (insert_old xs k n y there.0 there.1),
+          none y there,
+        )),
         (λ r.
             let h : IsIn (insert xs k n) y = subst (λ (ys : List NamedEffect). IsIn ys y) same r.0 in
             ⊎_elim {C = IsIn xs y}

@@ -52,7 +52,7 @@ pub record IsAnswer (words : ℕ) (opening : List ℕ) (t : List Event) (w : ℕ
   pub inside : w < length opening
   pub well : IsTrace words t
   pub is : IsTrace words (t ++ Answer b.id reply ∷ [])
-  pub open : IsOpenOn t w b
+  pub waits : IsOpenOn t w b
   pub pending : ArePendingOn t w calls
   pub rest : (c : Call) → IsIn others c ↔ (IsIn calls c × (c.id ≡ b.id → ⊥))
 
@@ -64,7 +64,7 @@ one_open words t w c d is a b e =
 
 module _ {words : ℕ} {opening : List ℕ} {t : List Event} {w : ℕ} {b : Call} {reply : Reply} {calls others : List Call}
     (a : IsAnswer words opening t w b reply calls others) where
-  more : List Event
+  abbrev more : List Event
   more = t ++ Answer b.id reply ∷ []
 
   now : TraceAnswersAt more (length t) b.id reply
@@ -129,7 +129,7 @@ module _ {words : ℕ} {opening : List ℕ} {t : List Event} {w : ℕ} {b : Call
         let less = weaken (IsOpenOn more w) (Other (IsOpenOn t w) b.id) later_down c.effects cs m in
         let r = x.explained cs (weaken (Other (IsOpenOn t w) b.id) (IsOpenOn t w) (λ g o. o.0) c.effects cs less) in (
           r.0 ++ b ∷ [],
-          taken_explains (IsOpenOn t w) words opening t w r.0 c cs b reply a.inside a.is a.open takes.0 less r.1,
+          taken_explains (IsOpenOn t w) words opening t w r.0 c cs b reply a.inside a.is a.waits takes.0 less r.1,
         );
     issued = λ e on.
         let q = x.issued e on in (q.0, q.1, issue_up t (Answer b.id reply) q.0 q.1 q.2, q.3);
@@ -138,17 +138,17 @@ module _ {words : ℕ} {opening : List ℕ} {t : List Event} {w : ℕ} {b : Call
   claimed_sound : (c d : Config) → IsExplained opening t w c → IsClaimed others b reply c d → IsExplained opening more w d
   claimed_sound c d x claims =
       let k = claims.0 in
-      let e = claims.1 in
-      let back = insert_back c.effects k e claims.2 in
-      subst (λ (f : Config). IsExplained opening more w f) (sym claims.6) (record {
-        fits = fits_weaken (IsIn others) (IsOpenOn more w) other_later (remove c.effects k) claims.5;
+      let e = claims.1.0 in
+      let back = insert_back c.effects k e claims.1.1 in
+      subst (λ (f : Config). IsExplained opening more w f) (sym claims.1.5) (record {
+        fits = fits_weaken (IsIn others) (IsOpenOn more w) other_later (remove c.effects k) claims.1.4;
         explained = λ cs m.
             let less = weaken (IsOpenOn more w) (Other (IsOpenOn t w) b.id) later_down (remove c.effects k) cs m in
-            let full = match_insert (IsOpenOn t w) (remove c.effects k) cs k e b a.open claims.4 less in
+            let full = match_insert (IsOpenOn t w) (remove c.effects k) cs k e b a.waits claims.1.3 less in
             let r = x.explained (insert cs k b)
             (subst (λ (es : List Effect). Matches (IsOpenOn t w) es (insert cs k b)) (sym back) full) in (
               r.0,
-              claimed_explains (IsOpenOn t w) words opening t w r.0 c k e (insert cs k b) cs b reply a.is back refl claims.3
+              claimed_explains (IsOpenOn t w) words opening t w r.0 c k e (insert cs k b) cs b reply a.is back refl claims.1.2
                   less r.1,
             );
         issued = λ f on.
@@ -187,7 +187,7 @@ module _ {words : ℕ} {opening : List ℕ} {t : List Event} {w : ℕ} {b : Call
       match_place (IsOpenOn t w) c.effects l.calls on.0 x l.matches on.1 in
       let k = on.0 in
       let e = r.effect in
-      let one : r.call ≡ b = one_open words t w r.call b a.well r.on a.open (r.number ∙ number) in
+      let one : r.call ≡ b = one_open words t w r.call b a.well r.on a.waits (r.number ∙ number) in
       let p = l.explains.replied x on in
       let there = take_get n order p.at p.call p.there in
       let same : take p.at (take n order) ≡ take p.at order = take-take p.at n order (omega (arith, there.0)) in
@@ -204,7 +204,7 @@ module _ {words : ℕ} {opening : List ℕ} {t : List Event} {w : ℕ} {b : Call
       let among = claimed d (
         c,
         l.on,
-        (k, e, r.there, good, subst (λ (g : Call). MayBe e g) one r.may, fit, refl),
+        (k, (e, r.there, good, subst (λ (g : Call). MayBe e g) one r.may, fit, refl)),
       ) in
       leads_among (take n order) new d (remove l.calls k) among
       (weaken (Other (IsOpenOn t w) b.id) (IsOpenOn more w) later_up (remove c.effects k) (remove l.calls k) rest)
@@ -230,7 +230,7 @@ module _ {words : ℕ} {opening : List ℕ} {t : List Event} {w : ℕ} {b : Call
       → n ≤ y
   further order y n found at s = ⊎_elim {C = n ≤ y}
       (λ (l : y < n).
-      let r = s.explains.all y b (get_take n order y b l at) a.open.pending.unanswered in
+      let r = s.explains.all y b (get_take n order y b l at) a.waits.pending.unanswered in
       absurd (none_of s.config s.cs s.matches r.0 r.1 r.2))
       (λ (g : n ≤ y). g)
       (cases_lt y n)
@@ -245,12 +245,12 @@ module _ {words : ℕ} {opening : List ℕ} {t : List Event} {w : ℕ} {b : Call
       let d : Config = record { word = new_word b.operation.op c.word; effects = c.effects } in
       let replies : reply_to b.operation.op c.word ≡ reply =
       ap (λ (v : ℕ). reply_to b.operation.op v) s.explains.word
-      ∙ (ap (λ (v : ℕ). reply_to b.operation.op (get_or (memory_of opening (take n order)) v 0)) (sym a.open.here)
+      ∙ (ap (λ (v : ℕ). reply_to b.operation.op (get_or (memory_of opening (take n order)) v 0)) (sym a.waits.here)
       ∙ sym (replied_so order n b o at refl)) in
       let among = taken d (c, s.on, (replies, (s.cs, s.matches), refl)) in
       let less = weaken (IsIn others) (Other (IsOpenOn t w) b.id)
       (λ g on. (other_open g on, ((a.rest g).0 on).1)) c.effects s.cs s.matches in
-      let x = taken_explains (IsOpenOn t w) words opening t w (take n order) c s.cs b reply a.inside a.is a.open replies less
+      let x = taken_explains (IsOpenOn t w) words opening t w (take n order) c s.cs b reply a.inside a.is a.waits replies less
       s.explains in
       let same : take n order ++ b ∷ [] ≡ take (suc n) order = sym (take_push order n b at) in
       leads_among (take (suc n) order) new d s.cs among
@@ -276,18 +276,18 @@ module _ {words : ℕ} {opening : List ℕ} {t : List Event} {w : ℕ} {b : Call
       let same = o.once r.at n r.call d there.1 at (r.number ∙ e) in
       let early = there.0 in
       omega arith in
-      let open : IsOpenOn t w d = record {
+      let waits : IsOpenOn t w d = record {
         pending = record { issued = issue; unanswered = later };
         here = o.here n d at;
       } in
-      let listed = open_other d (open, ne) in
+      let listed = open_other d (waits, ne) in
       let r = latest.all d listed in
       let k = spot c.effects (effect_of c r.0) in
       let may : MayBe (effect_of c r.0) d = record { asks = sym r.2; early = r.3 } in
       let m = match_insert (IsIn others) c.effects s.cs k (effect_of c r.0) d listed may
       (match_others (IsIn others) c.effects s.cs d.id s.matches left) in
       let f = closed.closed c s.on distinct r.0 r.1 (insert s.cs k d, m) in
-      let x = step_explains (IsIn others) opening t w (take n order) c s.cs r.0 d a.inside open (sym r.2) s.matches left
+      let x = step_explains (IsIn others) opening t w (take n order) c s.cs r.0 d a.inside waits (sym r.2) s.matches left
       s.explains in
       let same : take n order ++ d ∷ [] ≡ take (suc n) order = sym (take_push order n d at) in
       let y : Explains opening t w (take (suc n) order) (named_config (after c r.0) (insert s.cs k d)) = subst
@@ -317,14 +317,14 @@ module _ {words : ℕ} {opening : List ℕ} {t : List Event} {w : ℕ} {b : Call
       let d = within_length order n (omega arith) in
       ⊎_elim {C = (m : ℕ) × LeadsTo opening more w (take m order) new}
       (λ (e : d.0.id ≡ b.id).
-      let open : IsOpenOn t w d.0 = record {
+      let waits : IsOpenOn t w d.0 = record {
         pending = record {
           issued = back.issued n d.0 d.1;
-          unanswered = λ told. a.open.pending.unanswered (subst (λ (i : ℕ). IsAnswered t i) e told);
+          unanswered = λ told. a.waits.pending.unanswered (subst (λ (i : ℕ). IsAnswered t i) e told);
         };
         here = back.here n d.0 d.1;
       } in
-      let one : d.0 ≡ b = one_open words t w d.0 b a.well open a.open e in
+      let one : d.0 ≡ b = one_open words t w d.0 b a.well waits a.waits e in
       (suc n, take_leads order n found new o (d.1 ∙ ap (λ (g : Call). Some g) one) s taken))
       (λ (ne : d.0.id ≢ b.id).
       walk newest order y old found new latest closed o back at taken fuel (suc n) (omega arith)
@@ -336,12 +336,12 @@ pub knows_answer : (words : ℕ) (opening : List ℕ) (t : List Event) (w : ℕ)
     (calls : List Call) (old new : List Config) → w < length opening → IsTrace words t
     → IsTrace words (t ++ Answer b.id reply ∷ []) → IsOpenOn t w b → ArePendingOn t w calls
     → IsAnsweredBy b reply calls old new → Knows opening t w old → Knows opening (t ++ Answer b.id reply ∷ []) w new
-knows_answer words opening t w b reply calls old new inside well is open pending by knows =
+knows_answer words opening t w b reply calls old new inside well is waits pending by knows =
     let a : IsAnswer words opening t w b reply calls by.others = record {
       inside = inside;
       well = well;
       is = is;
-      open = open;
+      waits = waits;
       pending = pending;
       rest = by.rest;
     } in
@@ -359,9 +359,9 @@ knows_answer words opening t w b reply calls old new inside well is open pending
           let first = knows.complete order back in
           let n = first.0 in
           let l = first.1 in
-          let issue = open.pending.issued in
+          let issue = waits.pending.issued in
           let y : IsOn order b.id = o.answered issue.0 (length t) b reply
-          (issue_up t (Answer b.id reply) issue.0 b issue.1) open.here (now a) in
+          (issue_up t (Answer b.id reply) issue.0 b issue.1) waits.here (now a) in
           let one : y.1 ≡ b =
           let i = back.issued y.0 y.1 y.2 in one_call words t well i.0 issue.0 y.1 b i.1 issue.1 y.3 in
           let at : slice_get order y.0 ≡ Some b = y.2 ∙ ap (λ (g : Call). Some g) one in

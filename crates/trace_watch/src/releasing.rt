@@ -1,9 +1,9 @@
 //! What an answer makes of the states of a word.
 
-ghost use Rattle.std.specs.Prelude.{◌≡◌, ◌<◌, ℕ, List, IfErr, IfOk, OnOk, length};
+ghost use Rattle.std.specs.Prelude.{◌≡◌, ◌<◌, ℕ, List, true, false, IfErr, IfOk, OnOk, length};
 ghost use Rattle.trace_watch.specs.States.{Config, config_of, configs_of};
 ghost use Rattle.trace_watch.specs.declared.watch.Full.TheVariants.{Configurations};
-ghost use Rattle.trace_watch.specs.Matchings.{AreDistinct};
+ghost use Rattle.trace_watch.specs.Matchings.{AreDistinct, MayBe};
 ghost use Rattle.trace_watch.specs.Chains.{IsIndexed};
 ghost use Rattle.trace_watch.specs.Crowds.{AreFew, IsOverfull};
 ghost use Rattle.trace_watch.specs.Closed.{FromOne, Gathers, IsAnsweredBy, IsClaimed, IsClaimedAt, IsTaken};
@@ -12,11 +12,27 @@ use crate::closing::{add, close};
 use crate::index::{Index, empty_index, widen};
 use crate::matching::{fits, may_be, newest_of_each};
 use crate::pending::without_call;
-use crate::state::{State, with_word, without};
+use crate::state::{Effect, State, with_word, without};
 use crate::watch::Full;
 use packet::{Reply, apply};
 use std::alloc::{AllocError, Allocator};
 use trace_laws::Call;
+
+/// Whether two replies are the same.
+fn same_reply(one: Reply, other: Reply) -> bool
+    ensures yes { result ≡ true → one ≡ other }
+    ensures no { result ≡ false → one ≡ other → ⊥ }
+{
+    one == other
+}
+
+/// Whether an effect may be of an operation that is answered so.
+fn may_reply(effect: Effect, call: Call, reply: Reply) -> bool
+    ensures yes { result ≡ true → (effect.reply ≡ reply) × MayBe effect call }
+    ensures no { result ≡ false → effect.reply ≡ reply → MayBe effect call → ⊥ }
+{
+    effect.reply == reply && may_be(effect, call)
+}
 
 /// The state without the effect at this place, where it may be of the answered operation.
 fn claim<A: Allocator + Copy>(
@@ -36,7 +52,7 @@ fn claim<A: Allocator + Copy>(
     ensures indexed { OnOk result (IsIndexed index.new (configs_of kept.new.items)) }
 {
     let effect = state.effects[at];
-    if effect.reply != reply || !may_be(effect, call) {
+    if !may_reply(effect, call, reply) {
         return Ok(());
     }
     let less = without(alloc, state, at)?;
@@ -107,7 +123,7 @@ fn take<A: Allocator + Copy>(
     ensures indexed { OnOk result (IsIndexed index.new (configs_of kept.new.items)) }
 {
     let (word, told) = apply(call.operation.op, state.word);
-    if told != reply {
+    if !same_reply(told, reply) {
         return Ok(());
     }
     let enough = fits(alloc, calls, &state.effects)?;
@@ -163,7 +179,23 @@ pub(crate) fn answered<A: Allocator + Copy>(
     let found = close(alloc, states, &mut index, &others, &newest, bound)?;
     let mut kept = Vec::new(alloc);
     let mut kept_index = empty_index(alloc)?;
-    takes(alloc, &found, &others, call, reply, &mut kept, &mut kept_index)?;
-    claims(alloc, states, &others, call, reply, &mut kept, &mut kept_index)?;
+    takes(
+        alloc,
+        &found,
+        &others,
+        call,
+        reply,
+        &mut kept,
+        &mut kept_index,
+    )?;
+    claims(
+        alloc,
+        states,
+        &others,
+        call,
+        reply,
+        &mut kept,
+        &mut kept_index,
+    )?;
     Ok(kept)
 }

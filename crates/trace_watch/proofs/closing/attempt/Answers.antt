@@ -11,7 +11,7 @@ returns-then-not-enough-clause-expands g c =
     attempt_none c.args.at c.args.calls.now c.args.call c.args.found.now.items c.index.result.now c.in_ok-next.next
     c.deref.result.now
     (slice_get_read c.args.found.now.items (length c.args.found.now.items) c.args.at c.index.result.now refl c.requires.inside
-    c.index.ensures) c.in_ok-next.ensures c.deref.ensures.value (c.in_ok-enough.ensures.no refl)
+    c.index.ensures) c.in_ok-next.ensures c.deref.ensures.value (c.in_ok-enough.ensures.no c.if-not-enough.true)
 
 pub returns-in_err-add_within-clause-full : goal.returns-in_err-add_within-clause-full
 returns-in_err-add_within-clause-full g c =
@@ -23,12 +23,12 @@ returns-in_err-add_within-clause-full g c =
     (attempt_new c.args.at c.args.calls.now c.args.call c.args.found.now.items c.add_within.new.found.items
     c.index.result.now c.in_ok-next.next c.deref.result.now
     (slice_get_read c.args.found.now.items (length c.args.found.now.items) c.args.at c.index.result.now refl c.requires.inside
-    c.index.ensures) c.in_ok-next.ensures c.deref.ensures.value (c.in_ok-enough.ensures.yes refl) r.0) r.1)
+    c.index.ensures) c.in_ok-next.ensures c.deref.ensures.value (c.in_ok-enough.ensures.yes c.if-not-enough.false) r.0) r.1)
 
 pub returns-clause-expands : goal.returns-clause-expands
 returns-clause-expands g c =
     attempt_new c.args.at c.args.calls.now c.args.call c.args.found.now.items c.add_within.new.found.items
     c.index.result.now c.in_ok-next.next c.deref.result.now
     (slice_get_read c.args.found.now.items (length c.args.found.now.items) c.args.at c.index.result.now refl c.requires.inside
-    c.index.ensures) c.in_ok-next.ensures c.deref.ensures.value (c.in_ok-enough.ensures.yes refl)
+    c.index.ensures) c.in_ok-next.ensures c.deref.ensures.value (c.in_ok-enough.ensures.yes c.if-not-enough.false)
     c.in_ok-add_within.ensures.added
