@@ -1,0 +1,4 @@
+pub mod Unordered
+pub mod Known
+pub mod Placed
+pub mod Answers
