@@ -65,7 +65,7 @@ leaf_placing q table level mine written m0 m1 w1 count e0 ec e1 ew settled place
     no_placing q table level mine written settled placed
     (λ others ls. listed others (subst (λ m. ListsWrites m count others) (sym e0) (subst (λ k. ListsWrites mine k others) (sym ec) ls)))
     (λ p. not (subst (λ m. IsPlacing q.operations.now q.sources.now q.words q.openings m w1) (sym e1)
-        (subst (λ ws. IsPlacing q.operations.now q.sources.now q.words q.openings mine ws) (sym ew) p)))
+    (subst (λ ws. IsPlacing q.operations.now q.sources.now q.words q.openings mine ws) (sym ew) p)))
 
 pub leaf_order : (q : Unordered) (table : List ℕ) (level : ℕ) (mine : List Operation) (written : List ℕ) (m0 m1 : List Operation) (w1 : List ℕ) (count : ℕ)
     → m0 ≡ mine → count ≡ count_below (writes_at q.operations.now) (length q.operations.now) → m1 ≡ mine → w1 ≡ written

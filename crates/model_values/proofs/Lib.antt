@@ -5,3 +5,8 @@ pub mod Split
 pub mod Rivals
 pub mod Accepted
 pub mod Written
+pub mod ByValues
+pub mod Weights
+pub mod Walked
+pub mod Searching
+pub mod ValuedVerdicts

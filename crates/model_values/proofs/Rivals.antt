@@ -36,7 +36,7 @@ rival_more q level x w forth back a b c rival early one late two =
     (λ turn order agrees fact. early_rises q level x w a turn rival order agrees (early fact)) in
     spread_noted q level back x w a b c first two
     (λ turn order agrees fact. later_rises q.rules.now q.operations.now q.sources.now q.words q.openings turn order x w rival
-      (agrees (slice_index q.sources.now x) w rival.source rival.writer (late fact)))
+    (agrees (slice_index q.sources.now x) w rival.source rival.writer (late fact)))
 
 fresh_at : (n k : ℕ) → k < n → slice_index (replicate n 18446744073709551615) k ≡ 18446744073709551615
 fresh_at n k low = get_or-replicate n k 18446744073709551615 0 low

@@ -1,219 +1,289 @@
--- A split on two writes in no known order, and what the tables of both sides keep.
-use Rattle.std.proofs.Common.{◌≡◌, ◌⊎◌, inl, inr, ⊎_elim, ℕ, ◌+◌, ◌*◌, ◌<◌, ◌≤◌, Bool, true, false, List, length, refl, sym, ap, subst, ◌∙◌, arith}
-use Rattle.std.specs.Prelude.{Option, None, slice_index}
-use Rattle.std.proofs.lemmas.Bool.{cases_lt}
+-- Splits of a path, and the table of what is known at their levels.
+use Rattle.std.proofs.Common.{◌≡◌, inl, inr, ⊎_elim, ℕ, zero, suc, ◌+◌, ◌*◌, ◌<◌, ◌≤◌, Bool, true, false, List, [], ◌∷◌, ◌++◌, length, take, refl, sym, ap, subst, ◌∙◌, arith}
+use Rattle.std.specs.Prelude.{slice_index, slice_index_or}
+use Rattle.std.proofs.lemmas.Bool.{cases_eq, cases_lt}
 use Rattle.std.proofs.lemmas.Nat.{mul-add-lt}
-use Rattle.model_values.specs.declared.question.OrderVerdict.{OrderVerdict}
-use Rattle.model_values.specs.declared.question.OrderVerdict.TheVariants.{Obeys, Breaks, Undecided}
+use Rattle.std.proofs.lemmas.List.{length-take-le, length_push, get_or-take, get_or_push, get_or_append_left}
 use Rattle.model_values.specs.declared.question.Unordered.{Unordered}
-use Rattle.model_values.specs.declared.question.Explanation.{Explanation}
-use Rattle.model_values.specs.Answers.{IsDecided, IsOrderVerdict, IsSearched, IsVerdictWithin}
-use Rattle.model_values.specs.Known.{is_known, AgreesWith, HasNoted, HasSpread, IsNoted, IsSameBelow, IsForgotten, unknown}
+use Rattle.model_values.specs.Answers.{AreSplitsBelow, IsRefuted, IsSplit, IsTurned, split_at}
+use Rattle.model_values.specs.Known.{is_known, AgreesWith, HasNoted, HasSpread, IsForgotten, IsNoted, IsOpenPair, IsSameBelow, unknown}
 use Rattle.model_values.specs.Unordered.{IsOrderOf}
 use Rattle.model_values.proofs.Explained.{one_first}
-use Rattle.model_values.proofs.Table.{known_le, le_known, noted_same, noted_then, noted_below, below_noted, below_then, forgotten_below, same_agrees, forgotten_agrees, unknown_less, unknown_fewer}
+use Rattle.model_values.proofs.Table.{known_le, le_known, noted_same, noted_then, noted_below, below_noted, below_then, forgotten_below, same_agrees, forgotten_agrees, unknown_less, unknown_fewer, unknown_most}
 
--- an answer on a table that each order agrees with is one on the old table
-pub verdict_more : {A : Type 0} (q : Unordered) (old new : List ℕ) (low high : ℕ) (v : OrderVerdict A)
-    → ((turn : ℕ → ℕ) → IsOrderOf q turn → AgreesWith old (length q.operations.now) low turn → AgreesWith new (length q.operations.now) high turn)
-    → IsVerdictWithin q new high v → IsVerdictWithin q old low v
-verdict_more q old new low high (Obeys e) keeps is = is
-verdict_more q old new low high Breaks keeps is = λ turn order agrees. is turn order (keeps turn order agrees)
-verdict_more q old new low high Undecided keeps is = is
-
--- what the first side leaves is the same below the next level
-pub returned : (level : ℕ) (ts tf t1 c1 f1 : List ℕ) → level < 18446744073709551615 → IsForgotten level ts tf → IsNoted (level + 1) tf t1
-    → IsSameBelow (level + 1) t1 c1 → IsForgotten level c1 f1 → IsSameBelow (level + 1) ts f1
-returned level ts tf t1 c1 f1 small one two three four =
-    below_then (level + 1) ts c1 f1
-    (below_then (level + 1) ts t1 c1
-      (below_then (level + 1) ts tf t1 (forgotten_below level ts tf small one) (noted_below (level + 1) tf t1 two)) three)
-    (forgotten_below level c1 f1 small four)
-
--- the first side knows more
-pub first_fewer : (level size x y : ℕ) (t0 ts tf t1 : List ℕ) → length ts ≡ size * size → x < size → y < size
-    → (is_known ts size level x y ≡ true → ⊥) → IsNoted level t0 ts → IsForgotten level ts tf → IsNoted (level + 1) tf t1
-    → is_known t1 size (level + 1) x y ≡ true → unknown (level + 1) t1 < unknown level t0
-first_fewer level size x y t0 ts tf t1 long lx ly opened noted forgot more known =
-    let within : x * size + y < length ts = subst (λ n. x * size + y < n) (sym long) (mul-add-lt x size y size lx ly) in
-    let high : level < slice_index ts (x * size + y) = elim (cases_lt level (slice_index ts (x * size + y))) [
-      | inl less ↦ less
-      | inr not ↦ absurd (opened (le_known ts size level x y not))
-    ] in
-    let one = unknown_less level level t0 ts noted.size (λ k _ low. (let at = noted.kept k low in omega (arith, at, low))) in
-    let two = unknown_fewer level (level + 1) ts t1 (x * size + y) (more.size ∙ forgot.size)
-    (λ k inside low. (let at = forgot.kept k inside low in let later = more.kept k (omega (arith, at, low)) in omega (arith, at, later, low)))
-    within high (known_le t1 size (level + 1) x y known) in
-    omega (arith, one, two)
-
--- and so does the second
-pub second_fewer : (level size x y : ℕ) (t0 ts f1 t2 : List ℕ) → length ts ≡ size * size → x < size → y < size
-    → (is_known ts size level x y ≡ true → ⊥) → IsNoted level t0 ts → IsSameBelow (level + 1) ts f1 → IsNoted level f1 t2
-    → is_known t2 size level x y ≡ true → unknown level t2 < unknown level t0
-second_fewer level size x y t0 ts f1 t2 long lx ly opened noted same more known =
-    let within : x * size + y < length ts = subst (λ n. x * size + y < n) (sym long) (mul-add-lt x size y size lx ly) in
-    let high : level < slice_index ts (x * size + y) = elim (cases_lt level (slice_index ts (x * size + y))) [
-      | inl less ↦ less
-      | inr not ↦ absurd (opened (le_known ts size level x y not))
-    ] in
-    let all = noted_then level ts f1 t2 (below_noted level ts f1 same) more in
-    let one = unknown_less level level t0 ts noted.size (λ k _ low. (let at = noted.kept k low in omega (arith, at, low))) in
-    let two = unknown_fewer level level ts t2 (x * size + y) all.size
-    (λ k _ low. (let at = all.kept k low in omega (arith, at, low)))
-    within high (known_le t2 size level x y known) in
-    omega (arith, one, two)
-
--- what the call leaves is the same below its level
-pub left_below : (level : ℕ) (t0 ts f1 t2 c2 : List ℕ) → IsNoted level t0 ts → IsSameBelow (level + 1) ts f1 → IsNoted level f1 t2
-    → IsSameBelow level t2 c2 → IsSameBelow level t0 c2
-left_below level t0 ts f1 t2 c2 one two three four =
-    below_then level t0 t2 c2
-    (noted_below level t0 t2 (noted_then level t0 ts t2 one (noted_then level ts f1 t2 (below_noted level ts f1 two) three))) four
-
--- the same where the first side is all
-pub left_first : (level : ℕ) (t0 ts c1 : List ℕ) → IsNoted level t0 ts → IsSameBelow (level + 1) ts c1 → IsSameBelow level t0 c1
-left_first level t0 ts c1 one two = noted_below level t0 c1 (noted_then level t0 ts c1 one (below_noted level ts c1 two))
-
--- each order that explains the trace agrees with the second side, if none agrees with the first
-pub second_agrees : (q : Unordered) (level x y : ℕ) (ts tf t1 f1 t2 : List ℕ) (turn : ℕ → ℕ)
-    → length ts ≡ length q.operations.now * length q.operations.now → level + 1 < 18446744073709551615
-    → x < length q.operations.now → y < length q.operations.now → (x ≡ y → ⊥)
-    → IsForgotten level ts tf
-    → ((turn : ℕ → ℕ) → AgreesWith tf (length q.operations.now) (level + 1) turn → (true ≡ true → turn x < turn y)
-      → AgreesWith t1 (length q.operations.now) (level + 1) turn)
-    → ((turn : ℕ → ℕ) → IsOrderOf q turn → AgreesWith t1 (length q.operations.now) (level + 1) turn → ⊥)
-    → IsSameBelow (level + 1) ts f1
-    → ((turn : ℕ → ℕ) → AgreesWith f1 (length q.operations.now) level turn → (true ≡ true → turn y < turn x)
-      → AgreesWith t2 (length q.operations.now) level turn)
-    → IsOrderOf q turn → AgreesWith ts (length q.operations.now) level turn → AgreesWith t2 (length q.operations.now) level turn
-second_agrees q level x y ts tf t1 f1 t2 turn long small lx ly apart forgot added none same more order agrees =
-    elim (one_first q.rules.now q.operations.now q.sources.now q.words q.openings turn order x y lx ly apart) [
-      | inl less ↦ absurd (none turn order (added turn (forgotten_agrees level (length q.operations.now) ts tf turn long small forgot agrees) (λ _. less)))
-      | inr less ↦ more turn (same_agrees level (length q.operations.now) ts f1 turn same agrees) (λ _. less)
-    ]
-
--- no table more may be looked at
-pub searched_spent : {A : Type 0} (q : Unordered) (level : ℕ) (t : List ℕ) (l m : Option ℕ) (may : Bool) → may ≡ false
-    → (l ≡ None → (may ≡ true) × (m ≡ None)) → IsSearched {A = A} q level t l t m Undecided
-searched_spent q level t l m may never spend = record {
-  verdict = tt;
-  decided = λ none. (let bad : false ≡ true = sym never ∙ (spend none).0 in cc);
-  endless = λ none. (spend none).1;
-  same = noted_below level t t (noted_same level t);
-}
-
--- an operation would come before itself
-pub searched_around : {A : Type 0} (q : Unordered) (level : ℕ) (t s : List ℕ) (l m : Option ℕ) (may : Bool)
-    → (l ≡ None → (may ≡ true) × (m ≡ None)) → HasSpread q level t s
-    → ((turn : ℕ → ℕ) → AgreesWith s (length q.operations.now) level turn → ⊥) → IsSearched {A = A} q level t l s m Breaks
-searched_around q level t s l m may spend spread around = record {
-  verdict = λ turn order agrees. around turn (spread.agrees turn order agrees);
-  decided = λ none. tt;
-  endless = λ none. (spend none).1;
-  same = noted_below level t s spread.noted;
-}
-
--- the order of each word's writes is known
-pub searched_leaf : {A : Type 0} (q : Unordered) (level : ℕ) (t s : List ℕ) (l m : Option ℕ) (may : Bool) (v : OrderVerdict A)
-    → (l ≡ None → (may ≡ true) × (m ≡ None)) → HasSpread q level t s → IsVerdictWithin q s level v → IsDecided v
-    → IsSearched q level t l s m v
-searched_leaf q level t s l m may v spend spread verdict decided = record {
-  verdict = verdict_more q t s level level v spread.agrees verdict;
-  decided = λ none. decided;
-  endless = λ none. (spend none).1;
-  same = noted_below level t s spread.noted;
-}
-
--- what the steps to the first side give
-pub record GoesFirst (q : Unordered) (level x y : ℕ) (t s f t1 : List ℕ) : Type 0 where
-  pub long : length t ≡ length q.operations.now * length q.operations.now
-  pub small : level + 1 < 18446744073709551615
+-- an order that agrees with the level of a split and keeps its first side agrees with the next level
+pub record IsSplitAt (q : Unordered) (table : List ℕ) (i x y : ℕ) : Type 0 where
   pub first : x < length q.operations.now
   pub second : y < length q.operations.now
   pub apart : x ≡ y → ⊥
-  pub forth : is_known s (length q.operations.now) level x y ≡ true → ⊥
-  pub back : is_known s (length q.operations.now) level y x ≡ true → ⊥
-  pub spread : HasSpread q level t s
-  pub forgot : IsForgotten level s f
-  pub noted : HasNoted (length q.operations.now) (level + 1) true x y f t1
+  pub back : is_known table (length q.operations.now) i y x ≡ true → ⊥
+  pub next : (turn : ℕ → ℕ) → IsOrderOf q turn → AgreesWith table (length q.operations.now) i turn → turn x < turn y
+      → AgreesWith table (length q.operations.now) (i + 1) turn
 
-pub first_measure : (q : Unordered) (level x y : ℕ) (t s f t1 : List ℕ) → GoesFirst q level x y t s f t1 → unknown (level + 1) t1 < unknown level t
-first_measure q level x y t s f t1 g =
-    first_fewer level (length q.operations.now) x y t s f t1 (g.spread.noted.size ∙ g.long) g.first g.second g.forth g.spread.noted g.forgot g.noted.noted
-    (g.noted.known refl)
+-- so does each split of a path, and every order agrees with the lowest level
+pub record IsPathOf (q : Unordered) (table : List ℕ) (path : List (ℕ × ℕ)) : Type 0 where
+  pub size : length table ≡ length q.operations.now * length q.operations.now
+  pub all : (turn : ℕ → ℕ) → IsOrderOf q turn → AgreesWith table (length q.operations.now) 0 turn
+  pub each : (i : ℕ) → i < length path → IsSplitAt q table i (split_at path i).0 (split_at path i).1
+  pub room : (i : ℕ) → i ≤ length path → i + unknown i table ≤ length table
 
-pub first_size : (q : Unordered) (level x y : ℕ) (t s f t1 : List ℕ) → GoesFirst q level x y t s f t1 → length t1 ≡ length t
-first_size q level x y t s f t1 g = g.noted.noted.size ∙ (g.forgot.size ∙ g.spread.noted.size)
+-- entries up to a level stay
+abbrev pub StayTo : ℕ → List ℕ → List ℕ → Type 0
+StayTo level old new = (k : ℕ) → slice_index old k ≤ level → slice_index new k ≡ slice_index old k
 
-first_below : (q : Unordered) (level x y : ℕ) (t s f t1 c : List ℕ) → GoesFirst q level x y t s f t1 → IsSameBelow (level + 1) t1 c → IsSameBelow (level + 1) s c
-first_below q level x y t s f t1 c g same =
-    below_then (level + 1) s t1 c
-    (below_then (level + 1) s f t1 (forgotten_below level s f (omega (arith, g.small)) g.forgot) (noted_below (level + 1) f t1 g.noted.noted)) same
+pub less_to : (level : ℕ) (old new : List ℕ) → length new ≡ length old → StayTo level old new → (i : ℕ) → i ≤ level → unknown i new ≤ unknown i old
+less_to level old new size stay i low =
+    unknown_less i i old new size (λ k _ known. (let at = stay k (omega (arith, known, low)) in omega (arith, at, known)))
 
--- the first side has an explanation
-pub searched_first : {A : Type 0} (q : Unordered) (level x y : ℕ) (t s f t1 c : List ℕ) (l m n : Option ℕ) (may : Bool) (e : Explanation A)
-    → GoesFirst q level x y t s f t1 → (l ≡ None → (may ≡ true) × (m ≡ None)) → IsSearched q (level + 1) t1 m c n (Obeys e)
-    → IsSearched q level t l c n (Obeys e)
-searched_first q level x y t s f t1 c l m n may e g spend first = record {
-  verdict = first.verdict;
-  decided = λ none. tt;
-  endless = λ none. first.endless (spend none).1;
-  same = left_first level t s c g.spread.noted (first_below q level x y t s f t1 c g first.same);
+-- below a level the same is known, both ways
+pub back_agrees : (level size i : ℕ) (old new : List ℕ) (turn : ℕ → ℕ) → IsSameBelow level old new → i < level → AgreesWith new size i turn
+    → AgreesWith old size i turn
+back_agrees level size i old new turn same low agrees a b la lb known =
+    let at = known_le old size i a b known in
+    let e = same.kept (a * size + b) (omega (arith, at, low)) in
+    agrees a b la lb (le_known new size i a b (omega (arith, e, at)))
+
+pub forth_agrees : (level size i : ℕ) (old new : List ℕ) (turn : ℕ → ℕ) → IsSameBelow level old new → i < level → AgreesWith old size i turn
+    → AgreesWith new size i turn
+forth_agrees level size i old new turn same low agrees a b la lb known =
+    let at = known_le new size i a b known in
+    elim (cases_lt (slice_index old (a * size + b)) level) [
+      | inl less ↦ (let e = same.kept (a * size + b) less in agrees a b la lb (le_known old size i a b (omega (arith, e, at))))
+      | inr high ↦ absurd (let more = same.above (a * size + b) (omega (arith, high)) in omega (arith, more, at, low))
+    ]
+
+pub back_known : (level size i x y : ℕ) (old new : List ℕ) → IsSameBelow level old new → i < level → is_known new size i x y ≡ true
+    → is_known old size i x y ≡ true
+back_known level size i x y old new same low known =
+    let at = known_le new size i x y known in
+    elim (cases_lt (slice_index old (x * size + y)) level) [
+      | inl less ↦ (let e = same.kept (x * size + y) less in le_known old size i x y (omega (arith, e, at)))
+      | inr high ↦ absurd (let more = same.above (x * size + y) (omega (arith, high)) in omega (arith, more, at, low))
+    ]
+
+-- a split below the level of what changes
+pub split_same : (q : Unordered) (old new : List ℕ) (level i x y : ℕ) → IsSameBelow level old new → i < level
+    → ((turn : ℕ → ℕ) → IsOrderOf q turn → AgreesWith old (length q.operations.now) level turn → AgreesWith new (length q.operations.now) level turn)
+    → IsSplitAt q old i x y → IsSplitAt q new i x y
+split_same q old new level i x y same low top s = record {
+  first = s.first;
+  second = s.second;
+  apart = s.apart;
+  back = λ known. s.back (back_known level (length q.operations.now) i y x old new same low known);
+  next = λ turn order agrees less. (let mid = s.next turn order (back_agrees level (length q.operations.now) i old new turn same low agrees) less in
+      elim (cases_lt (i + 1) level) [
+        | inl under ↦ forth_agrees level (length q.operations.now) (i + 1) old new turn same under mid
+        | inr not ↦ (let e : i + 1 ≡ level = omega (arith, not, low) in
+            subst (λ z. AgreesWith new (length q.operations.now) z turn) (sym e)
+            (top turn order (subst (λ z. AgreesWith old (length q.operations.now) z turn) e mid)))
+      ]);
 }
 
--- more tables would have to be looked at
-pub searched_open : {A : Type 0} (q : Unordered) (level x y : ℕ) (t s f t1 c : List ℕ) (l m n : Option ℕ) (may : Bool)
-    → GoesFirst q level x y t s f t1 → (l ≡ None → (may ≡ true) × (m ≡ None)) → IsSearched {A = A} q (level + 1) t1 m c n Undecided
-    → IsSearched {A = A} q level t l c n Undecided
-searched_open q level x y t s f t1 c l m n may g spend first = record {
-  verdict = tt;
-  decided = λ none. first.decided (spend none).1;
-  endless = λ none. first.endless (spend none).1;
-  same = left_first level t s c g.spread.noted (first_below q level x y t s f t1 c g first.same);
-}
+all_same : (q : Unordered) (old new : List ℕ) (level : ℕ) → IsSameBelow level old new
+    → ((turn : ℕ → ℕ) → IsOrderOf q turn → AgreesWith old (length q.operations.now) level turn → AgreesWith new (length q.operations.now) level turn)
+    → ((turn : ℕ → ℕ) → IsOrderOf q turn → AgreesWith old (length q.operations.now) 0 turn)
+    → (turn : ℕ → ℕ) → IsOrderOf q turn → AgreesWith new (length q.operations.now) 0 turn
+all_same q old new zero same top all turn order = top turn order (all turn order)
+all_same q old new (suc level) same top all turn order =
+    forth_agrees (suc level) (length q.operations.now) 0 old new turn same (omega arith) (all turn order)
 
--- what the steps to the second side give
-pub record GoesSecond (q : Unordered) (level x y : ℕ) (s t1 c f2 t2 : List ℕ) : Type 0 where
-  pub same : IsSameBelow (level + 1) t1 c
-  pub none : (turn : ℕ → ℕ) → IsOrderOf q turn → AgreesWith t1 (length q.operations.now) (level + 1) turn → ⊥
-  pub forgot : IsForgotten level c f2
-  pub noted : HasNoted (length q.operations.now) level true y x f2 t2
-
-second_below : (q : Unordered) (level x y : ℕ) (t s f t1 c f2 t2 : List ℕ) → GoesFirst q level x y t s f t1 → GoesSecond q level x y s t1 c f2 t2
-    → IsSameBelow (level + 1) s f2
-second_below q level x y t s f t1 c f2 t2 g h =
-    below_then (level + 1) s c f2 (first_below q level x y t s f t1 c g h.same) (forgotten_below level c f2 (omega (arith, g.small)) h.forgot)
-
-pub second_measure : (q : Unordered) (level x y : ℕ) (t s f t1 c f2 t2 : List ℕ) → GoesFirst q level x y t s f t1 → GoesSecond q level x y s t1 c f2 t2
-    → unknown level t2 < unknown level t
-second_measure q level x y t s f t1 c f2 t2 g h =
-    second_fewer level (length q.operations.now) y x t s f2 t2 (g.spread.noted.size ∙ g.long) g.second g.first g.back g.spread.noted
-    (second_below q level x y t s f t1 c f2 t2 g h) h.noted.noted (h.noted.known refl)
-
-pub second_size : (q : Unordered) (level x y : ℕ) (t s f t1 c f2 t2 : List ℕ) → GoesFirst q level x y t s f t1 → GoesSecond q level x y s t1 c f2 t2
-    → length t2 ≡ length t
-second_size q level x y t s f t1 c f2 t2 g h =
-    h.noted.noted.size ∙ ((second_below q level x y t s f t1 c f2 t2 g h).size ∙ g.spread.noted.size)
-
--- the answer of the second side, where no order agrees with the first
-pub searched_second : {A : Type 0} (q : Unordered) (level x y : ℕ) (t s f t1 c f2 t2 c2 : List ℕ) (l m n o : Option ℕ) (may : Bool) (v : OrderVerdict A)
-    → GoesFirst q level x y t s f t1 → GoesSecond q level x y s t1 c f2 t2 → (l ≡ None → (may ≡ true) × (m ≡ None)) → (m ≡ None → n ≡ None)
-    → IsSearched q level t2 n c2 o v → IsSearched q level t l c2 o v
-searched_second q level x y t s f t1 c f2 t2 c2 l m n o may v g h spend first second =
-    let same = second_below q level x y t s f t1 c f2 t2 g h in
+-- what changes a table at the level of a path keeps the path
+pub path_same : (q : Unordered) (old new : List ℕ) (path : List (ℕ × ℕ)) → IsNoted (length path) old new
+    → ((turn : ℕ → ℕ) → IsOrderOf q turn → AgreesWith old (length q.operations.now) (length path) turn
+    → AgreesWith new (length q.operations.now) (length path) turn)
+    → IsPathOf q old path → IsPathOf q new path
+path_same q old new path noted top p =
+    let same = noted_below (length path) old new noted in
     record {
-      verdict = verdict_more q t t2 level level v
-          (λ turn order agrees. second_agrees q level x y s f t1 f2 t2 turn (g.spread.noted.size ∙ g.long) g.small g.first g.second g.apart g.forgot
-            g.noted.agrees h.none same h.noted.agrees order (g.spread.agrees turn order agrees)) second.verdict;
-      decided = λ none. second.decided (first (spend none).1);
-      endless = λ none. second.endless (first (spend none).1);
-      same = left_below level t s f2 t2 c2 g.spread.noted same h.noted.noted second.same;
+      size = noted.size ∙ p.size;
+      all = all_same q old new (length path) same top p.all;
+      each = λ i low. split_same q old new (length path) i (split_at path i).0 (split_at path i).1 same low top (p.each i low);
+      room = λ i low. (let less = less_to (length path) old new noted.size noted.kept i low in let room = p.room i low in
+          omega (arith, less, room, noted.size));
     }
 
--- an answer on a table that each order agrees with is one on all
-pub whole_verdict : {A : Type 0} (q : Unordered) (table now : List ℕ) (v : OrderVerdict A) → now ≡ table
-    → ((turn : ℕ → ℕ) → IsOrderOf q turn → AgreesWith table (length q.operations.now) 0 turn) → IsVerdictWithin q now 0 v → IsOrderVerdict q v
-whole_verdict q table now (Obeys e) at agrees is = is
-whole_verdict q table now Breaks at agrees is = λ turn order. is turn order
-    (subst (λ t. AgreesWith t (length q.operations.now) 0 turn) (sym at) (agrees turn order))
-whole_verdict q table now Undecided at agrees is = tt
+pub path_spread : (q : Unordered) (old new : List ℕ) (path : List (ℕ × ℕ)) → HasSpread q (length path) old new → IsPathOf q old path → IsPathOf q new path
+path_spread q old new path s p = path_same q old new path s.noted s.agrees p
+
+-- the writes of a path's splits are operations
+pub path_below : (q : Unordered) (table : List ℕ) (path : List (ℕ × ℕ)) → IsPathOf q table path → AreSplitsBelow (length q.operations.now) path
+path_below q table path p k low = let s = p.each k low in (s.first, s.second)
+
+-- what a split leaves below the next level
+pub split_below : (size x y : ℕ) (path next : List (ℕ × ℕ)) (s t : List ℕ) → length path + 1 < 18446744073709551615 → IsSplit size x y path s next t
+    → IsSameBelow (length path + 1) s t
+split_below size x y path next s t small g =
+    below_then (length path + 1) s g.kept t (forgotten_below (length path) s g.kept (omega (arith, small)) g.forgot)
+    (noted_below (length path + 1) g.kept t g.noted.noted)
+
+pub split_fewer : (q : Unordered) (x y : ℕ) (path next : List (ℕ × ℕ)) (s t : List ℕ) → IsPathOf q s path
+    → IsOpenPair q.operations.now s (length path) (x, y) → IsSplit (length q.operations.now) x y path s next t
+    → unknown (length path + 1) t < unknown (length path) s
+split_fewer q x y path next s t p o g =
+    let size : ℕ = length q.operations.now in
+    let level : ℕ = length path in
+    let within : x * size + y < length s = subst (λ n. x * size + y < n) (sym p.size) (mul-add-lt x size y size o.first o.second) in
+    let high : level < slice_index s (x * size + y) = elim (cases_lt level (slice_index s (x * size + y))) [
+      | inl less ↦ less
+      | inr not ↦ absurd (o.forth (le_known s size level x y not))
+    ] in
+    unknown_fewer level (level + 1) s t (x * size + y) (g.noted.noted.size ∙ g.forgot.size)
+    (λ k inside low. (let at = g.forgot.kept k inside low in let later = g.noted.noted.kept k (omega (arith, at, low)) in omega (arith, at, later, low)))
+    within high (known_le t size (level + 1) x y (g.noted.known refl))
+
+-- an open pair leaves room for a level more
+pub split_room : (q : Unordered) (x y : ℕ) (path : List (ℕ × ℕ)) (s : List ℕ) → IsPathOf q s path → IsOpenPair q.operations.now s (length path) (x, y)
+    → length path + 1 ≤ length s
+split_room q x y path s p o =
+    let size : ℕ = length q.operations.now in
+    let level : ℕ = length path in
+    let within : x * size + y < length s = subst (λ n. x * size + y < n) (sym p.size) (mul-add-lt x size y size o.first o.second) in
+    let high : level < slice_index s (x * size + y) = elim (cases_lt level (slice_index s (x * size + y))) [
+      | inl less ↦ less
+      | inr not ↦ absurd (o.forth (le_known s size level x y not))
+    ] in
+    let some = unknown_fewer level (slice_index s (x * size + y) + level) s s (x * size + y) refl
+    (λ k inside low. omega (arith, low)) within high (omega arith) in
+    let room = p.room level (omega arith) in
+    omega (arith, some, room)
+
+top_split : (q : Unordered) (x y : ℕ) (path next : List (ℕ × ℕ)) (s t : List ℕ) → length path + 1 < 18446744073709551615 → IsPathOf q s path
+    → IsOpenPair q.operations.now s (length path) (x, y) → IsSplit (length q.operations.now) x y path s next t → IsSplitAt q t (length path) x y
+top_split q x y path next s t small p o g =
+    let same = split_below (length q.operations.now) x y path next s t small g in
+    record {
+      first = o.first;
+      second = o.second;
+      apart = o.apart;
+      back = λ known. o.back (back_known (length path + 1) (length q.operations.now) (length path) y x s t same (omega arith) known);
+      next = λ turn order agrees less. g.noted.agrees turn
+          (forgotten_agrees (length path) (length q.operations.now) s g.kept turn p.size small g.forgot
+          (back_agrees (length path + 1) (length q.operations.now) (length path) s t turn same (omega arith) agrees)) (λ _. less);
+    }
+
+-- a path with a split more
+path_pushed : (q : Unordered) (x y : ℕ) (path next : List (ℕ × ℕ)) (s t : List ℕ) → length path + 1 < 18446744073709551615 → IsPathOf q s path
+    → IsOpenPair q.operations.now s (length path) (x, y) → IsSplit (length q.operations.now) x y path s next t → IsPathOf q t (path ++ (x, y) ∷ [])
+path_pushed q x y path next s t small p o g =
+    let same = split_below (length q.operations.now) x y path next s t small g in
+    let long : length t ≡ length s = same.size in
+    let fewer = split_fewer q x y path next s t p o g in
+    record {
+      size = long ∙ p.size;
+      all = λ turn order. forth_agrees (length path + 1) (length q.operations.now) 0 s t turn same (omega arith) (p.all turn order);
+      each = λ i low. (elim (cases_lt i (length path)) [
+        | inl less ↦ subst (λ (w : ℕ × ℕ). IsSplitAt q t i w.0 w.1) (sym (get_or_append_left path ((x, y) ∷ []) (0, 0) i less))
+            (under i less)
+        | inr not ↦ (let e : length path ≡ i = (let more = length_push path (x, y) in omega (arith, more, low, not)) in
+            subst (λ (w : ℕ × ℕ). IsSplitAt q t i w.0 w.1) (sym (get_or_push path (x, y) (0, 0) i e))
+            (subst (λ z. IsSplitAt q t z x y) e (top_split q x y path next s t small p o g)))
+      ]);
+      room = λ i low. (elim (cases_lt i (length path + 1)) [
+        | inl less ↦ (let fewer = unknown_less i i s t long (λ k _ known. (let at = same.kept k (omega (arith, known, less)) in omega (arith, at, known))) in
+            let room = p.room i (omega (arith, less)) in omega (arith, fewer, room, long))
+        | inr not ↦ (let more = length_push path (x, y) in
+            let e : i ≡ length path + 1 = omega (arith, more, low, not) in
+            let room = p.room (length path) (omega arith) in
+            subst (λ z. z + unknown z t ≤ length t) (sym e) (omega (arith, fewer, room, long)))
+      ]);
+    }
+  where
+    under : (i : ℕ) → i < length path → IsSplitAt q t i (split_at path i).0 (split_at path i).1
+    under i less =
+        let old = p.each i less in
+        let same = split_below (length q.operations.now) x y path next s t small g in
+        record {
+          first = old.first;
+          second = old.second;
+          apart = old.apart;
+          back = λ known. old.back (back_known (length path + 1) (length q.operations.now) i (split_at path i).1 (split_at path i).0 s t same
+              (omega (arith, less)) known);
+          next = λ turn order agrees less-turn. forth_agrees (length path + 1) (length q.operations.now) (i + 1) s t turn same (omega (arith, less))
+              (old.next turn order (back_agrees (length path + 1) (length q.operations.now) i s t turn same (omega (arith, less)) agrees) less-turn);
+        }
+
+pub path_split : (q : Unordered) (x y : ℕ) (path next : List (ℕ × ℕ)) (s t : List ℕ) → length path + 1 < 18446744073709551615 → IsPathOf q s path
+    → IsOpenPair q.operations.now s (length path) (x, y) → IsSplit (length q.operations.now) x y path s next t → IsPathOf q t next
+path_split q x y path next s t small p o g = subst (λ z. IsPathOf q t z) (sym g.grown) (path_pushed q x y path next s t small p o g)
+
+-- what turning back leaves
+pub turned_below : (size last : ℕ) (s k : List ℕ) → last + 1 < 18446744073709551615 → IsForgotten last s k → IsSameBelow (last + 1) s k
+turned_below size last s k small f = forgotten_below last s k (omega (arith, small)) f
+
+turned_noted : (size last x y : ℕ) (s k t : List ℕ) → last + 1 < 18446744073709551615 → IsForgotten last s k → HasNoted size last true y x k t → IsNoted last s t
+turned_noted size last x y s k t small f n =
+    noted_then last s k t (below_noted last s k (turned_below size last s k small f)) n.noted
+
+-- no order agrees with the first side, so all agree with the second
+turned_agrees : (q : Unordered) (last x y : ℕ) (s k t : List ℕ) → last + 1 < 18446744073709551615 → IsSplitAt q s last x y
+    → IsRefuted q s (last + 1) → IsForgotten last s k → HasNoted (length q.operations.now) last true y x k t
+    → (turn : ℕ → ℕ) → IsOrderOf q turn → AgreesWith s (length q.operations.now) last turn → AgreesWith t (length q.operations.now) last turn
+turned_agrees q last x y s k t small split none f n turn order agrees =
+    elim (one_first q.rules.now q.operations.now q.sources.now q.words q.openings turn order x y split.first split.second split.apart) [
+      | inl less ↦ absurd (none turn order (split.next turn order agrees less))
+      | inr less ↦ n.agrees turn
+          (same_agrees last (length q.operations.now) s k turn (turned_below (length q.operations.now) last s k small f) agrees) (λ _. less)
+    ]
+
+-- a path without its last split
+path_shorter : (q : Unordered) (s : List ℕ) (path : List (ℕ × ℕ)) (last : ℕ) → last + 1 ≡ length path → IsPathOf q s path → IsPathOf q s (take last path)
+path_shorter q s path last e p =
+    let size : length (take last path) ≡ last = length-take-le last path (omega (arith, e)) in
+    record {
+      size = p.size;
+      all = p.all;
+      each = λ i low. (let less : i < last = omega (arith, low, size) in
+          subst (λ (w : ℕ × ℕ). IsSplitAt q s i w.0 w.1) (sym (get_or-take last path i (0, 0) less)) (p.each i (omega (arith, less, e))));
+      room = λ i low. p.room i (omega (arith, low, size, e));
+    }
+
+pub path_turned : (q : Unordered) (path next : List (ℕ × ℕ)) (s t : List ℕ) → length path < 18446744073709551615 → IsPathOf q s path
+    → IsRefuted q s (length path) → IsTurned (length q.operations.now) path s next t → IsPathOf q t next
+path_turned q path next s t small p none g =
+    let last : ℕ = g.last in
+    let size : length (take last path) ≡ last = length-take-le last path (omega (arith, g.behind)) in
+    let split = p.each last (omega (arith, g.behind)) in
+    let low : last + 1 < 18446744073709551615 = omega (arith, small, g.behind) in
+    let refuted : IsRefuted q s (last + 1) = subst (λ z. IsRefuted q s z) (sym g.behind) none in
+    let noted = turned_noted (length q.operations.now) last (split_at path last).0 (split_at path last).1 s g.kept t low g.forgot g.noted in
+    subst (λ z. IsPathOf q t z) (sym g.shorter)
+    (path_same q s t (take last path) (subst (λ z. IsNoted z s t) (sym size) noted)
+    (λ turn order agrees. subst (λ z. AgreesWith t (length q.operations.now) z turn) (sym size)
+    (turned_agrees q last (split_at path last).0 (split_at path last).1 s g.kept t low split refuted g.forgot g.noted turn order
+    (subst (λ z. AgreesWith s (length q.operations.now) z turn) size agrees)))
+    (path_shorter q s path last g.behind p))
+
+-- the second side knows more
+pub turned_fewer : (q : Unordered) (path next : List (ℕ × ℕ)) (s t : List ℕ) → length path < 18446744073709551615 → IsPathOf q s path
+    → (g : IsTurned (length q.operations.now) path s next t) → unknown g.last t < unknown g.last s
+turned_fewer q path next s t small p g =
+    let size : ℕ = length q.operations.now in
+    let last : ℕ = g.last in
+    let x : ℕ = (split_at path last).0 in
+    let y : ℕ = (split_at path last).1 in
+    let split = p.each last (omega (arith, g.behind)) in
+    let within : y * size + x < length s = subst (λ n. y * size + x < n) (sym p.size) (mul-add-lt y size x size split.second split.first) in
+    let high : last < slice_index s (y * size + x) = elim (cases_lt last (slice_index s (y * size + x))) [
+      | inl less ↦ less
+      | inr not ↦ absurd (split.back (le_known s size last y x not))
+    ] in
+    let noted = turned_noted size last x y s g.kept t (omega (arith, small, g.behind)) g.forgot g.noted in
+    unknown_fewer last last s t (y * size + x) noted.size (λ k _ low. (let at = noted.kept k low in omega (arith, at, low)))
+    within high (known_le t size last y x (g.noted.known refl))
+
+-- the first path
+pub path_first : (q : Unordered) (table : List ℕ) (path : List (ℕ × ℕ)) → length path ≡ 0
+    → length table ≡ length q.operations.now * length q.operations.now
+    → ((turn : ℕ → ℕ) → IsOrderOf q turn → AgreesWith table (length q.operations.now) 0 turn) → IsPathOf q table path
+path_first q table path none size all = record {
+  size = size;
+  all = all;
+  each = λ i low. absurd (omega (arith, low, none));
+  room = λ i low. (let e : i ≡ 0 = omega (arith, low, none) in let most = unknown_most i table in omega (arith, e, most));
+}
+
+-- no order agrees with the lowest level, so none explains the trace
+pub path_ended : (q : Unordered) (table : List ℕ) (path : List (ℕ × ℕ)) → length path ≡ 0 → IsPathOf q table path → IsRefuted q table (length path)
+    → (turn : ℕ → ℕ) → IsOrderOf q turn → ⊥
+path_ended q table path none p refuted turn order =
+    refuted turn order (subst (λ z. AgreesWith table (length q.operations.now) z turn) (sym none) (p.all turn order))

@@ -32,14 +32,14 @@ pub set_noted : (table : List ℕ) (place level : ℕ) → place < length table 
 set_noted table place level low high = record {
   size = length-set table place level;
   kept = λ k less. (elim (cases_eq k place) [
-        | inl same ↦ absurd (let e = ap (λ z. slice_index table z) same in omega (arith, e, less, high))
-        | inr other ↦ get_or-set_other table place k level 0 other
-      ]);
+    | inl same ↦ absurd (let e = ap (λ z. slice_index table z) same in omega (arith, e, less, high))
+    | inr other ↦ get_or-set_other table place k level 0 other
+  ]);
   above = λ k more. (elim (cases_eq k place) [
-        | inl same ↦ (let at : slice_index (slice_set table place level) k ≡ level = subst (λ z. slice_index (slice_set table place level) z ≡ level) (sym same)
-            (get_or-set_same table place level 0 low) in omega (arith, at))
-        | inr other ↦ (let at = get_or-set_other table place k level 0 other in omega (arith, at, more))
-      ]);
+    | inl same ↦ (let at : slice_index (slice_set table place level) k ≡ level = subst (λ z. slice_index (slice_set table place level) z ≡ level) (sym same)
+        (get_or-set_same table place level 0 low) in omega (arith, at))
+    | inr other ↦ (let at = get_or-set_other table place k level 0 other in omega (arith, at, more))
+  ]);
 }
 
 pub set_agrees : (table : List ℕ) (size level x y : ℕ) (turn : ℕ → ℕ) → length table ≡ size * size → x < size → y < size
@@ -70,9 +70,9 @@ noted_below level old new n = record {
   size = n.size;
   kept = λ k less. n.kept k (omega (arith, less));
   above = λ k high. (elim (cases_lt level (slice_index old k)) [
-        | inl more ↦ n.above k more
-        | inr not ↦ (let at = n.kept k (omega (arith, not)) in omega (arith, at, high))
-      ]);
+    | inl more ↦ n.above k more
+    | inr not ↦ (let at = n.kept k (omega (arith, not)) in omega (arith, at, high))
+  ]);
 }
 
 pub below_noted : (level : ℕ) (old new : List ℕ) → IsSameBelow (level + 1) old new → IsNoted level old new
@@ -99,13 +99,13 @@ pub forgotten_below : (level : ℕ) (old new : List ℕ) → level < 18446744073
 forgotten_below level old new small f = record {
   size = f.size;
   kept = λ k less. (elim (cases_lt k (length old)) [
-        | inl low ↦ f.kept k low (omega (arith, less))
-        | inr high ↦ (let one = past k old (omega (arith, high)) in let two = past k new (omega (arith, high, f.size)) in two ∙ sym one)
-      ]);
+    | inl low ↦ f.kept k low (omega (arith, less))
+    | inr high ↦ (let one = past k old (omega (arith, high)) in let two = past k new (omega (arith, high, f.size)) in two ∙ sym one)
+  ]);
   above = λ k more. (elim (cases_lt k (length old)) [
-        | inl low ↦ (let at = f.gone k low (omega (arith, more)) in omega (arith, at, small))
-        | inr high ↦ (let one = past k old (omega (arith, high)) in absurd (omega (arith, one, more)))
-      ]);
+    | inl low ↦ (let at = f.gone k low (omega (arith, more)) in omega (arith, at, small))
+    | inr high ↦ (let one = past k old (omega (arith, high)) in absurd (omega (arith, one, more)))
+  ]);
 }
 
 -- what is the same below the next level is known at this one
@@ -221,8 +221,8 @@ behind_more size level wanted x y z behind a b c ly lz want is one two = record 
   noted = noted_then level a b c one.noted two.noted;
   agrees = λ turn agrees less. (let mid = one.agrees turn agrees less in
       two.agrees turn mid (λ late. (let first = less want in
-          let second = mid y z ly lz (sym is ∙ late) in
-          omega (arith, first, second))));
+      let second = mid y z ly lz (sym is ∙ late) in
+      omega (arith, first, second))));
   known = λ also. noted_known level size b c x y two.noted (one.known also);
 }
 
@@ -234,8 +234,8 @@ before_more size level wanted x y z before a b c lx lz want is one two = record 
   noted = noted_then level a b c one.noted two.noted;
   agrees = λ turn agrees less. (let mid = one.agrees turn agrees less in
       two.agrees turn mid (λ early. (let first = less want in
-          let second = mid z x lz lx (sym is ∙ early) in
-          omega (arith, first, second))));
+      let second = mid z x lz lx (sym is ∙ early) in
+      omega (arith, first, second))));
   known = λ also. noted_known level size b c x y two.noted (one.known also);
 }
 

@@ -1,13 +1,17 @@
--- The answer on a trace whose words' orders of writes are not told.
-use Rattle.std.specs.Prelude.{◌≡◌, ℕ, List, Option, None, length, slice_index}
+-- The answer on a trace whose words' orders of writes are not told, and the steps of the search for it.
+use Rattle.std.specs.Prelude.{◌≡◌, ℕ, ◌+◌, ◌<◌, true, List, [], ◌∷◌, ◌++◌, Option, length, take}
+use Rattle.std.specs.Prelude.{slice_index, slice_index_or}
 use Rattle.rising.specs.Found.{IsPermutationBelow}
 use Rattle.memory_models.specs.Order.{IsMemoryOrder}
 use Rattle.model_values.specs.declared.question.Explanation.{Explanation}
 use Rattle.model_values.specs.declared.question.OrderVerdict.{OrderVerdict}
 use Rattle.model_values.specs.declared.question.OrderVerdict.TheVariants.{Obeys, Breaks, Undecided}
 use Rattle.model_values.specs.declared.question.Unordered.{Unordered}
+use Rattle.model_values.specs.declared.search.Looked.{Looked}
+use Rattle.model_values.specs.declared.search.Looked.TheVariants.{Explained, Refuted, Open}
 use Rattle.model_values.specs.Unordered.{IsPlacing, IsOrderOf}
-use Rattle.model_values.specs.Known.{AgreesWith, IsSameBelow}
+use Rattle.model_values.specs.Known.{AgreesWith, AreRivals, HasNoted, IsForgotten, IsOpenPair}
+use Rattle.model_values.specs.Searches.{IsCutOff}
 
 -- an order of each word's writes, and turns by which the trace obeys the model with it
 pub record IsExplanation {A : Type 0} (q : Unordered) (e : Explanation A) : Type 0 where
@@ -17,30 +21,49 @@ pub record IsExplanation {A : Type 0} (q : Unordered) (e : Explanation A) : Type
   pub order : IsMemoryOrder q.rules.now e.operations.items e.writes.items
       (slice_index e.turns.items)
 
--- an explanation; or no order at all explains the trace; or neither is said
-abbrev pub IsOrderVerdict : {A : Type 0} → Unordered → OrderVerdict A → Type 0
-IsOrderVerdict q (Obeys e) = IsExplanation q e
-IsOrderVerdict q Breaks = (turn : ℕ → ℕ) → IsOrderOf q turn → ⊥
-IsOrderVerdict q Undecided = Unit {0}
+-- an explanation; or no order at all explains the trace; or the search was cut off
+abbrev pub IsOrderVerdict : {A : Type 0} → Unordered → Option ℕ → OrderVerdict A → Type 0
+IsOrderVerdict q nodes (Obeys e) = IsExplanation q e
+IsOrderVerdict q nodes Breaks = (turn : ℕ → ℕ) → IsOrderOf q turn → ⊥
+IsOrderVerdict q nodes Undecided = IsCutOff q nodes
 
--- the same, where the only orders asked for are those that agree with a table at a level
-abbrev pub IsVerdictWithin : {A : Type 0} → Unordered → List ℕ → ℕ → OrderVerdict A → Type 0
-IsVerdictWithin q table level (Obeys e) = IsExplanation q e
-IsVerdictWithin q table level Breaks = (turn : ℕ → ℕ) → IsOrderOf q turn
+-- no order that explains the trace agrees with a table at a level
+abbrev pub IsRefuted : Unordered → List ℕ → ℕ → Type 0
+IsRefuted q table level = (turn : ℕ → ℕ) → IsOrderOf q turn
     → AgreesWith table (length q.operations.now) level turn → ⊥
-IsVerdictWithin q table level Undecided = Unit {0}
 
--- an answer that says one of both
-abbrev pub IsDecided : {A : Type 0} → OrderVerdict A → Type 0
-IsDecided (Obeys e) = Unit {0}
-IsDecided Breaks = Unit {0}
-IsDecided Undecided = ⊥
+-- an explanation; or no order agrees with the table; or two writes on one word in no known order
+abbrev pub IsLookedAt : {A : Type 0} → Unordered → List ℕ → ℕ → Looked A → Type 0
+IsLookedAt q table level (Explained e) = IsExplanation q e
+IsLookedAt q table level Refuted = IsRefuted q table level
+IsLookedAt q table level (Open x y) =
+    IsOpenPair q.operations.now table level (x, y) × AreRivals q.operations.now x y
 
--- an answer of the search below a level, with what it leaves of the table and of the number of tables
-pub record IsSearched {A : Type 0} (q : Unordered) (level : ℕ) (table : List ℕ) (left : Option ℕ)
-    (new_table : List ℕ) (new_left : Option ℕ) (v : OrderVerdict A) : Type 0
+-- the two writes of a split of a path
+abbrev pub split_at : List (ℕ × ℕ) → ℕ → ℕ × ℕ
+split_at path k = slice_index_or path k (0, 0)
+
+-- the writes of a path's splits are below a size
+abbrev pub AreSplitsBelow : ℕ → List (ℕ × ℕ) → Type 0
+AreSplitsBelow size path = (k : ℕ) → k < length path
+    → ((split_at path k).0 < size) × ((split_at path k).1 < size)
+
+-- a path goes on by a split, to its first side at the next level
+pub record IsSplit (size x y : ℕ) (path : List (ℕ × ℕ)) (table : List ℕ)
+    (new_path : List (ℕ × ℕ)) (new_table : List ℕ) : Type 0
   where
-    pub verdict : IsVerdictWithin q table level v
-    pub decided : left ≡ None → IsDecided v
-    pub endless : left ≡ None → new_left ≡ None
-    pub same : IsSameBelow level table new_table
+    pub kept : List ℕ
+    pub forgot : IsForgotten (length path) table kept
+    pub noted : HasNoted size (length path + 1) true x y kept new_table
+    pub grown : new_path ≡ path ++ (x, y) ∷ []
+
+-- a path turns back to the second side of its last split, at that split's level
+pub record IsTurned (size : ℕ) (path : List (ℕ × ℕ)) (table : List ℕ)
+    (new_path : List (ℕ × ℕ)) (new_table : List ℕ) : Type 0
+  where
+    pub last : ℕ
+    pub behind : last + 1 ≡ length path
+    pub kept : List ℕ
+    pub forgot : IsForgotten last table kept
+    pub noted : HasNoted size last true (split_at path last).1 (split_at path last).0 kept new_table
+    pub shorter : new_path ≡ take last path

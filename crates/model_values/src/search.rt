@@ -1,13 +1,15 @@
 //! The search for an order of each word's writes with which a trace obeys a memory model.
 
-ghost use Rattle.std.specs.Prelude.{◌≡◌, ◌⊎◌, ◌+◌, ◌*◌, ℕ, ◌<◌, ◌≤◌, true, false, length, None};
-ghost use Rattle.std.specs.Prelude.{IfOk, IfSome, IfNone};
+ghost use Rattle.std.specs.Prelude.{◌≡◌, ◌⊎◌, ◌+◌, ◌-◌, ◌*◌, ℕ, ◌<◌, ◌≤◌, true, false, length};
+ghost use Rattle.std.specs.Prelude.{None, Some, IfOk, IfSome, IfNone, OnOk};
 ghost use Rattle.memory_models.specs.Arcs.{IsChained};
 ghost use Rattle.memory_models.specs.Following.{IsChainedOn};
 ghost use Rattle.memory_models.specs.Trace.{rule_at};
-ghost use Rattle.model_values.specs.Answers.{IsDecided, IsOrderVerdict, IsSearched, IsVerdictWithin};
-ghost use Rattle.model_values.specs.Known.{AreRivals, AreSettled, IsOpenPair};
-ghost use Rattle.model_values.specs.Known.{is_known, unknown};
+ghost use Rattle.model_values.specs.Answers.{AreSplitsBelow, IsLookedAt, IsOrderVerdict, IsSplit};
+ghost use Rattle.model_values.specs.Answers.{IsTurned};
+ghost use Rattle.model_values.specs.Known.{AgreesWith, AreRivals, AreSettled, HasSpread, IsOpenPair};
+ghost use Rattle.model_values.specs.Known.{is_known};
+ghost use Rattle.model_values.specs.Unordered.{IsOrderOf};
 
 use crate::accept::is_placing;
 use crate::first::first_table;
@@ -42,6 +44,7 @@ fn open_with(
     requires size { length table.now ≡ length operations.now * length operations.now }
     requires x { x < length operations.now }
     ensures some { IfSome result (IsOpenPair operations.now table.now level) }
+    ensures rivals { IfSome result (λ pair. AreRivals operations.now pair.0 pair.1) }
     ensures none { IfNone result ((y : ℕ) → y < length operations.now → AreRivals operations.now x y
         → (is_known table.now (length operations.now) level x y ≡ true)
         ⊎ (is_known table.now (length operations.now) level y x ≡ true)) }
@@ -62,6 +65,7 @@ fn open_with(
 fn open_pair(operations: &[Operation], table: &[usize], level: usize) -> Option<(usize, usize)>
     requires size { length table.now ≡ length operations.now * length operations.now }
     ensures some { IfSome result (IsOpenPair operations.now table.now level) }
+    ensures rivals { IfSome result (λ pair. AreRivals operations.now pair.0 pair.1) }
     ensures none { IfNone result (AreSettled operations.now table.now level) }
 {
     for x in 0..operations.len() {
@@ -72,7 +76,18 @@ fn open_pair(operations: &[Operation], table: &[usize], level: usize) -> Option<
     None
 }
 
-/// The answer where the order of each word's writes is known.
+/// What a table of what is known gives.
+#[derive(Drop)]
+pub(crate) enum Looked<A: Allocator> {
+    /// An order of each word's writes that explains the trace.
+    Explained(Explanation<A>),
+    /// No order that explains the trace agrees with the table.
+    Refuted,
+    /// Two writes of one word are in no known order.
+    Open(usize, usize),
+}
+
+/// What a table gives where the order of each word's writes is known.
 ///
 /// Errors: memory.
 fn leaf<A: Allocator + Copy>(
@@ -80,24 +95,23 @@ fn leaf<A: Allocator + Copy>(
     question: &Unordered,
     table: &[usize],
     level: usize,
-) -> Result<OrderVerdict<A>, AllocError>
+) -> Result<Looked<A>, AllocError>
     requires chained { (k : ℕ) → k < length question.now.rules.now
         → IsChained (rule_at question.now.rules.now k)
         ⊎ IsChainedOn (rule_at question.now.rules.now k) }
     requires size { length table.now
         ≡ length question.now.operations.now * length question.now.operations.now }
     requires settled { AreSettled question.now.operations.now table.now level }
-    ensures verdict { IfOk result (IsVerdictWithin question.now table.now level) }
-    ensures decided { IfOk result IsDecided }
+    ensures { IfOk result (IsLookedAt question.now table.now level) }
 {
     let operations = placed_by(alloc, question, table, level)?;
     let writes = writes_by(alloc, &operations, count_writes(question.operations))?;
     if !is_placing(question, &operations, &writes) {
-        return Ok(OrderVerdict::Breaks);
+        return Ok(Looked::Refuted);
     }
     match judge(alloc, question.rules, &operations, &writes, question.words)? {
-        Verdict::Cycle(_) => Ok(OrderVerdict::Breaks),
-        Verdict::Ordered(turns) => Ok(OrderVerdict::Obeys(Explanation {
+        Verdict::Cycle(_) => Ok(Looked::Refuted),
+        Verdict::Ordered(turns) => Ok(Looked::Explained(Explanation {
             operations,
             writes,
             turns,
@@ -105,9 +119,87 @@ fn leaf<A: Allocator + Copy>(
     }
 }
 
+/// Notes what follows from a table, and says what it gives.
+///
+/// Errors: memory.
+fn look<A: Allocator + Copy>(
+    alloc: A,
+    question: &Unordered,
+    table: &mut [usize],
+    level: usize,
+) -> Result<Looked<A>, AllocError>
+    requires chained { (k : ℕ) → k < length question.now.rules.now
+        → IsChained (rule_at question.now.rules.now k)
+        ⊎ IsChainedOn (rule_at question.now.rules.now k) }
+    requires size { length table.old
+        ≡ length question.now.operations.now * length question.now.operations.now }
+    ensures spread { HasSpread question.now level table.old table.new }
+    ensures looked { IfOk result (IsLookedAt question.now table.new level) }
+{
+    spread(question, table, level);
+    if is_around(table, question.operations.len(), level) {
+        return Ok(Looked::Refuted);
+    }
+    match open_pair(question.operations, table, level) {
+        Some((x, y)) => Ok(Looked::Open(x, y)),
+        None => leaf(alloc, question, table, level),
+    }
+}
+
+/// Goes on to the first side of a split, at the next level.
+///
+/// Errors: memory.
+fn split<A: Allocator>(
+    table: &mut [usize],
+    size: usize,
+    path: &mut Vec<(usize, usize), A>,
+    x: usize,
+    y: usize,
+) -> Result<(), AllocError>
+    requires size { length table.old ≡ size * size }
+    requires x { x < size }
+    requires y { y < size }
+    requires room { length path.old.items + 1 < 18446744073709551615 }
+    ensures { OnOk result
+        (IsSplit size x y path.old.items table.old path.new.items table.new) }
+{
+    let level = path.len();
+    forget(table, level);
+    add(table, size, level + 1, true, x, y);
+    path.push((x, y))?;
+    Ok(())
+}
+
+/// Turns back to the second side of the last split, at its level. Whether there is one.
+fn turn_back<A: Allocator>(
+    table: &mut [usize],
+    size: usize,
+    path: &mut Vec<(usize, usize), A>,
+) -> bool
+    requires size { length table.old ≡ size * size }
+    requires below { AreSplitsBelow size path.old.items }
+    ensures turned { result ≡ true
+        → IsTurned size path.old.items table.old path.new.items table.new }
+    ensures none { result ≡ false → (length path.old.items ≡ 0)
+        × ((path.new.items ≡ path.old.items) × (table.new ≡ table.old)) }
+{
+    if path.len() == 0 {
+        return false;
+    }
+    let last = path.len() - 1;
+    let (x, y) = path[last];
+    path.truncate(last);
+    forget(table, last);
+    add(table, size, last, true, y, x);
+    true
+}
+
 /// Whether one table more may be looked at.
 fn spend(left: &mut Option<usize>) -> bool
-    ensures { left.old ≡ None → (result ≡ true) × (left.new ≡ None) }
+    ensures none { left.old ≡ None → (result ≡ true) × (left.new ≡ None) }
+    ensures spent { result ≡ false → left.old ≡ Some 0 }
+    ensures less { (n : ℕ) → result ≡ true → left.old ≡ Some n
+        → (0 < n) × (left.new ≡ Some (n - 1)) }
 {
     match *left {
         None => true,
@@ -119,48 +211,40 @@ fn spend(left: &mut Option<usize>) -> bool
     }
 }
 
-/// The answer among the orders that agree with a table: of two writes in no known order first the one
+/// The answer on a table that every order agrees with: of two writes in no known order first the one
 /// way round is tried, at the next level, then the other.
 ///
 /// Errors: memory.
-fn within<A: Allocator + Copy>(
+fn search<A: Allocator + Copy>(
     alloc: A,
     question: &Unordered,
     table: &mut [usize],
-    level: usize,
-    left: &mut Option<usize>,
+    nodes: Option<usize>,
 ) -> Result<OrderVerdict<A>, AllocError>
     requires chained { (k : ℕ) → k < length question.now.rules.now
         → IsChained (rule_at question.now.rules.now k)
         ⊎ IsChainedOn (rule_at question.now.rules.now k) }
     requires size { length table.old
         ≡ length question.now.operations.now * length question.now.operations.now }
-    requires level { level + unknown level table.old ≤ length table.old }
-    ensures { IfOk result
-        (IsSearched question.now level table.old left.old table.new left.new) }
+    requires agrees { (turn : ℕ → ℕ) → IsOrderOf question.now turn
+        → AgreesWith table.old (length question.now.operations.now) 0 turn }
+    ensures { IfOk result (IsOrderVerdict question.now nodes) }
 {
-    if !spend(left) {
-        return Ok(OrderVerdict::Undecided);
-    }
     let size = question.operations.len();
-    spread(question, table, level);
-    if is_around(table, size, level) {
-        return Ok(OrderVerdict::Breaks);
-    }
-    let Some((x, y)) = open_pair(question.operations, table, level) else {
-        return Ok(leaf(alloc, question, table, level)?);
-    };
-    forget(table, level);
-    add(table, size, level + 1, true, x, y);
-    match within(alloc, question, table, level + 1, left)? {
-        OrderVerdict::Obeys(explanation) => Ok(OrderVerdict::Obeys(explanation)),
-        OrderVerdict::Undecided => Ok(OrderVerdict::Undecided),
-        OrderVerdict::Breaks => {
-            forget(table, level);
-            add(table, size, level, true, y, x);
-            Ok(within(alloc, question, table, level, left)?)
+    let mut left = nodes;
+    let mut path = Vec::new(alloc);
+    let mut more = true;
+    'tables: while more {
+        if !spend(&mut left) {
+            return Ok(OrderVerdict::Undecided);
+        }
+        match look(alloc, question, table, path.len())? {
+            Looked::Explained(explanation) => return Ok(OrderVerdict::Obeys(explanation)),
+            Looked::Refuted => more = turn_back(table, size, &mut path),
+            Looked::Open(x, y) => split(table, size, &mut path, x, y)?,
         }
     }
+    Ok(OrderVerdict::Breaks)
 }
 
 /// Judges a trace whose words' orders of writes are not told by the rules of a memory model: an order
@@ -177,10 +261,8 @@ pub fn judge_unordered<A: Allocator + Copy>(
     requires chained { (k : ℕ) → k < length question.now.rules.now
         → IsChained (rule_at question.now.rules.now k)
         ⊎ IsChainedOn (rule_at question.now.rules.now k) }
-    ensures verdict { IfOk result (IsOrderVerdict question.now) }
-    ensures decided { nodes ≡ None → IfOk result IsDecided }
+    ensures { IfOk result (IsOrderVerdict question.now nodes) }
 {
     let mut table = first_table(alloc, question)?;
-    let mut left = nodes;
-    Ok(within(alloc, question, &mut table, 0, &mut left)?)
+    search(alloc, question, &mut table, nodes)
 }

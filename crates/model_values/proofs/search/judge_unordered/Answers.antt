@@ -1,11 +1,8 @@
-use Rattle.std.proofs.Common.{arith}
-use Rattle.model_values.proofs.Split.{whole_verdict}
-use Rattle.model_values.proofs.Table.{unknown_most}
+use Rattle.std.proofs.Common.{length, sym, subst}
+use Rattle.model_values.specs.Known.{AgreesWith}
 use Rattle.model_values.proofs.search.judge_unordered.Goals as goal
 
-pub within-requires-clause-level : goal.within-requires-clause-level
-within-requires-clause-level g c = let most = unknown_most 0 c.deref_mut.result.now in omega (arith, most)
-
-pub returns-clause-verdict : goal.returns-clause-verdict
-returns-clause-verdict g c = whole_verdict c.args.question.now c.in_ok-table.table.items c.deref_mut.result.now c.in_ok-within.field-0
-    c.deref_mut.ensures.value c.in_ok-table.ensures.agrees c.in_ok-within.ensures.verdict
+pub search-requires-clause-agrees : goal.search-requires-clause-agrees
+search-requires-clause-agrees g c turn order =
+    subst (λ t. AgreesWith t (length c.args.question.now.operations.now) 0 turn) (sym c.deref_mut.ensures.value)
+    (c.in_ok-table.ensures.agrees turn order)

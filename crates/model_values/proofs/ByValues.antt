@@ -18,7 +18,7 @@ one_write : (ops : List Operation) (left : List ℕ) → ((x y : ℕ) → AreAli
     → slice_index left a ≡ slice_index left b → a ≡ b
 one_write ops left none a b la lb wa wb word same = elim (cases_eq a b) [
   | inl is ↦ is
-  | inr other ↦ absurd (none a b (record { first = la; second = lb; other = other; writes = wa; writes_too = wb; word = word; left = same }))
+  | inr other ↦ absurd (none a b (record { first = la; second = lb; other = other; writes = wa; writes_too = wb; word = word; leaves = same }))
 ]
 
 -- the write at a place that left what was found is the source
@@ -33,7 +33,7 @@ at_place_is v sources placed writes none i x p lx lp word left by =
     let is : is_write (operation_at v.operations.now a).kind ≡ true = subst (λ k. is_write k ≡ true) (i.same a low).kind (i.trace.writes_are p lp) in
     let words : (operation_at v.operations.now a).word ≡ (operation_at v.operations.now (slice_index sources x)).word =
     sym (i.same a low).word ∙ (word ∙ ((i.same x lx).word ∙ sym by.word)) in
-    one_write v.operations.now v.left.now none a (slice_index sources x) low by.low is by.write words (left ∙ sym by.left)
+    one_write v.operations.now v.left.now none a (slice_index sources x) low by.low is by.write words (left ∙ sym by.leaves)
 
 told_by : (v : Valued) (sources : List ℕ) (placed : List Operation) (writes : List ℕ) → ((x y : ℕ) → AreAlike v.operations.now v.left.now x y → ⊥)
     → ((x : ℕ) → x < length v.operations.now → IsReader v.operations.now x → IsLeftBy v.operations.now v.left.now v.found.now x (slice_index sources x))
@@ -55,7 +55,7 @@ told_by v sources placed writes none by i x lx =
           let uses : uses_word (operation_at placed x).kind ≡ true = ap uses_word (same.kind ∙ atomic) in
           let inside = t.place x low-x uses in
           let low : before.place < length writes = omega (arith, inside, before.next) in
-          let source = at_place_is v sources placed writes none i x before.place lx low before.word before.left (by x lx (inr atomic)) in
+          let source = at_place_is v sources placed writes none i x before.place lx low before.word before.leaves (by x lx (inr atomic)) in
           let place : (operation_at placed (slice_index sources x)).place ≡ before.place =
           subst (λ s. (operation_at placed s).place ≡ before.place) source (t.places before.place low) in
           omega (arith, place, before.next));
@@ -67,7 +67,7 @@ finds_by : (v : Valued) (sources : List ℕ) (placed : List Operation) (writes :
     → IsPlacing v.operations.now sources v.words v.openings placed writes → (x : ℕ) → x < length v.operations.now
     → FindsAt v.operations.now v.left.now v.found.now placed writes x
 finds_by v sources placed writes by i x lx = record {
-  read = λ load. ap (λ s. slice_index v.left.now s) ((i.told x lx).read load) ∙ (by x lx (inl load)).left;
+  read = λ load. ap (λ s. slice_index v.left.now s) ((i.told x lx).read load) ∙ (by x lx (inl load)).leaves;
   next = λ atomic. (let b = by x lx (inr atomic) in
       let low-s : slice_index sources x < length placed = subst (λ n. slice_index sources x < n) (sym i.size) b.low in
       let ts = i.told (slice_index sources x) b.low in
@@ -77,7 +77,7 @@ finds_by v sources placed writes by i x lx = record {
         place = (operation_at placed (slice_index sources x)).place;
         next = sym ((i.told x lx).next atomic);
         word = ap (λ s. (operation_at placed s).word) there ∙ (ts.word ∙ (b.word ∙ sym (i.told x lx).word));
-        left = ap (λ s. slice_index v.left.now s) there ∙ b.left;
+        leaves = ap (λ s. slice_index v.left.now s) there ∙ b.leaves;
       });
 }
 
@@ -95,7 +95,7 @@ by_values v sources none by placed writes = (
     same = λ x lx. (let told = i.told x lx in record { processor = told.processor; kind = told.kind; word = told.word; fence = told.fence });
     finds = finds_by v sources placed writes by i;
     opened = i.opened;
-  }
+  },
 )
 
 -- what no write left was not found
@@ -111,7 +111,7 @@ unwritten v x lx reads none placed writes i = no reads
           low = low;
           write = subst (λ k. is_write k ≡ true) (i.same (slice_index writes p) low).kind (i.trace.writes_are p lp);
           word = sym (i.same (slice_index writes p) low).word ∙ (word ∙ (i.same x lx).word);
-          left = left;
+          leaves = left;
         })
 
     low-x : x < length placed
@@ -126,4 +126,4 @@ unwritten v x lx reads none placed writes i = no reads
         let uses : uses_word (operation_at placed x).kind ≡ true = ap uses_word ((i.same x lx).kind ∙ atomic) in
         let inside = i.trace.place x low-x uses in
         let before = (i.finds x lx).next atomic in
-        at before.place (omega (arith, inside, before.next)) before.word before.left
+        at before.place (omega (arith, inside, before.next)) before.word before.leaves

@@ -16,7 +16,7 @@ pub record FindsBefore (left found : List ℕ) (placed : List Operation) (writes
     pub place : ℕ
     pub next : place + 1 ≡ (operation_at placed x).place
     pub word : (operation_at placed (slice_index writes place)).word ≡ (operation_at placed x).word
-    pub left : slice_index left (slice_index writes place) ≡ slice_index found x
+    pub leaves : slice_index left (slice_index writes place) ≡ slice_index found x
 
 -- a load found what its source left, and an atomic what the write just before it left
 pub record FindsAt (ops : List Operation) (left found : List ℕ) (placed : List Operation)
@@ -50,14 +50,14 @@ pub record AreAlike (ops : List Operation) (left : List ℕ) (x y : ℕ) : Type 
   pub writes : is_write (operation_at ops x).kind ≡ true
   pub writes_too : is_write (operation_at ops y).kind ≡ true
   pub word : (operation_at ops x).word ≡ (operation_at ops y).word
-  pub left : slice_index left x ≡ slice_index left y
+  pub leaves : slice_index left x ≡ slice_index left y
 
 -- a write left what an operation found in its word
 pub record IsLeftBy (ops : List Operation) (left found : List ℕ) (x s : ℕ) : Type 0 where
   pub low : s < length ops
   pub write : is_write (operation_at ops s).kind ≡ true
   pub word : (operation_at ops s).word ≡ (operation_at ops x).word
-  pub left : slice_index left s ≡ slice_index found x
+  pub leaves : slice_index left s ≡ slice_index found x
 
 -- an operation found what no write of its word left
 pub record IsUnwritten (v : Valued) (x : ℕ) : Type 0 where
@@ -70,9 +70,9 @@ pub record IsUnwritten (v : Valued) (x : ℕ) : Type 0 where
 abbrev pub AreSourcesOf : {A : Type 0} → Valued → Sources A → Type 0
 AreSourcesOf v (Told sources) = (placed : List Operation) (writes : List ℕ)
     → (IsValuedPlacing v placed writes
-      → IsPlacing v.operations.now sources.items v.words v.openings placed writes)
+    → IsPlacing v.operations.now sources.items v.words v.openings placed writes)
     × (IsPlacing v.operations.now sources.items v.words v.openings placed writes
-      → IsValuedPlacing v placed writes)
+    → IsValuedPlacing v placed writes)
 AreSourcesOf v (Alike x y) = AreAlike v.operations.now v.left.now x y
 AreSourcesOf v (Unwritten x) = IsUnwritten v x
     × ((placed : List Operation) (writes : List ℕ) → IsValuedPlacing v placed writes → ⊥)
