@@ -8,6 +8,8 @@ use Rattle.network_machine.specs.declared.channel.Channel.{Channel}
 use Rattle.network_machine.specs.declared.machine.Machine.TheInside.{Inside}
 use Rattle.network_machine.specs.Machine.{NetworkMachineSpec}
 use Rattle.network_machine.specs.Moves.{ChannelsHaveRoom}
+use Rattle.network_machine.specs.Owned.{AreOwned}
+use Rattle.network_machine.specs.Pairs.{ArePairs, cells_of}
 
 abbrev pub network_machine_of_fields : {A : Type 0} → Inside A → NetworkMachineSpec
 network_machine_of_fields m = record {
@@ -16,7 +18,8 @@ network_machine_of_fields m = record {
   channels = m.channels.items;
 }
 
--- a table in which all walks arrive, with its columns, and channels with room
+-- a table in which all walks arrive, with its columns, channels with room, what is known of their
+-- owners, and its pairs
 pub record IsNetworkMachine {A : Type 0} (m : Inside A) : Type 0 where
   pub full : IsFull (network_machine_of_fields m).table
   pub replies : AreReplies (network_machine_of_fields m).table m.replies.now
@@ -26,6 +29,9 @@ pub record IsNetworkMachine {A : Type 0} (m : Inside A) : Type 0 where
   pub few : length m.kinds.now < 2 ^ 60
   pub size : length m.channels.items ≡ length m.kinds.now
   pub room : ChannelsHaveRoom m.channels.items
+  pub many : length m.owned.items ≡ length m.kinds.now
+  pub owned : AreOwned m.owned.items m.channels.items
+  pub pairs : ArePairs m.joins.now (cells_of m.pairs.items)
 
 -- a channel in which nothing is
 pub record IsEmptyChannel (depth : ℕ) (c : Channel) : Type 0 where

@@ -2,11 +2,19 @@
 use Rattle.std.specs.Prelude.{◌≡◌, ◌≢◌, ℕ, ◌<◌, Bool, true, false, List, [], ◌∷◌, Option, Some, None}
 use Rattle.wormhole.specs.State.{NetLine, in_line}
 use Rattle.network_machine.specs.declared.moves.Hindrance.{Hindrance}
+use Rattle.network_machine.specs.declared.moves.Move.{Move}
+use Rattle.network_machine.specs.declared.moves.Move.TheVariants.{Send, More, Take, Put, Accept}
+use Rattle.network_machine.specs.declared.moves.Move.TheVariants.{Credit}
 
 -- the router behind it takes a flit
 abbrev pub LetsTake : NetLine → Option Hindrance → Type 0
 LetsTake l None = (flit : ℕ) × (more : List ℕ) × (l.latch ≡ None) × (l.flits ≡ flit ∷ more)
 LetsTake l (Some h) = (flit : ℕ) (more : List ℕ) → l.latch ≡ None → l.flits ≡ flit ∷ more → ⊥
+
+-- it has a flit to put
+abbrev pub LetsPut : NetLine → Option Hindrance → Type 0
+LetsPut l None = (flit : ℕ) × (l.latch ≡ Some flit)
+LetsPut l (Some h) = l.latch ≡ None
 
 -- a credit comes back
 abbrev pub LetsReturn : NetLine → Option Hindrance → Type 0
@@ -32,3 +40,12 @@ LetsGoOn l (Some h) = (flit : ℕ) (more : List ℕ) → l.rest ≡ flit ∷ mor
 abbrev pub TellsFlits : NetLine → Bool → Type 0
 TellsFlits l true = in_line l ≢ []
 TellsFlits l false = in_line l ≡ []
+
+-- what a line has keeps it from a move
+abbrev pub KeepsFrom : NetLine → Move → Type 0
+KeepsFrom l (Send p) = l.rest ≡ [] → 0 < l.held → ⊥
+KeepsFrom l (More x) = (flit : ℕ) (more : List ℕ) → l.rest ≡ flit ∷ more → 0 < l.held → ⊥
+KeepsFrom l (Take x) = (flit : ℕ) (more : List ℕ) → l.latch ≡ None → l.flits ≡ flit ∷ more → ⊥
+KeepsFrom l (Put x) = l.latch ≡ None
+KeepsFrom l (Accept x) = (flit : ℕ) (more : List ℕ) → l.flits ≡ flit ∷ more → ⊥
+KeepsFrom l (Credit x) = 0 < l.returning → ⊥

@@ -7,5 +7,7 @@ pub mod Lines
 pub mod Machine
 pub mod Moves
 pub mod Outputs
+pub mod Owned
 pub mod Packets
+pub mod Pairs
 pub mod Runs

@@ -1,13 +1,13 @@
 //! Moves that are attempted.
 
-ghost use Rattle.std.specs.Prelude.{◌≡◌, OnOk, OnErr, IfErr};
+ghost use Rattle.std.specs.Prelude.{◌≡◌, true, false, OnOk, OnErr, IfErr};
 ghost use Rattle.network_machine.specs.declared.moves.Move.TheVariants.{Send, More, Take, Put, Accept, Credit};
 ghost use Rattle.network_machine.specs.Machine.{SameTables, MovesAll, Prevents, MakesAll, IsInReach};
 
 use crate::flit::{is_head, is_tail};
 use crate::machine::Machine;
 use crate::moves::{Hindrance, Move, Packet};
-use crate::steps::{accept_at, begin_at, credit_at, forward_at, send_more_at, take_at};
+use crate::steps::{accept_at, begin_at, credit_at, forward_known, send_more_at, take_at};
 use network_judge::walk::{is_receiver, is_sender};
 use std::alloc::Allocator;
 
@@ -55,7 +55,15 @@ impl<'a, A: Allocator> Machine<'a, A> {
             Err(_) => false,
             Ok((flit, y)) => {
                 let head = is_head(flit);
-                forward_at(&mut self.channels, x, y, flit, head, is_tail(flit))
+                forward_known(
+                    &mut self.channels,
+                    &mut self.owned,
+                    x,
+                    y,
+                    flit,
+                    head,
+                    is_tail(flit),
+                )
             }
         }
     }
@@ -95,6 +103,20 @@ impl<'a, A: Allocator> Machine<'a, A> {
             Move::Accept(x) => self.make_accept(x),
             Move::Credit(x) => self.make_credit(x),
         }
+    }
+
+    /// Attempts a move, and answers whether it is made; if not, nothing changes. It takes no memory.
+    pub fn try_move(&mut self, of: Move) -> bool
+        ensures moves { result ≡ true → MovesAll self.old self.new of }
+        ensures prevented { result ≡ false → Prevents self.old of }
+        ensures stays { result ≡ false → self.new ≡ self.old }
+        ensures same { SameTables self.old self.new }
+    {
+        if !self.is_free(of) {
+            return false;
+        }
+        let _made = self.make(of);
+        true
     }
 
     /// Attempts a move: where an event makes it, the machine shows the state after the event; where

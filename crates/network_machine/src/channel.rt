@@ -1,11 +1,12 @@
 //! A channel, with what stands at its two ends, and what moves make of it.
 
 ghost use Rattle.std.specs.Prelude.{◌≡◌, ◌<◌, ◌^◌, true, false, cond, Some, None};
+ghost use Rattle.std.specs.Prelude.{if◌then◌else◌};
 ghost use Rattle.wormhole.specs.State.{NetLine};
 ghost use Rattle.wormhole.specs.Events.{unlatched};
 ghost use Rattle.network_machine.specs.Lines.{ShowsLine, ChannelHasRoom, TakesFlit, PutsFlit};
 ghost use Rattle.network_machine.specs.Lines.{PutsFrom, Credits, Accepts, Begins, SendsMore};
-ghost use Rattle.network_machine.specs.Lets.{LetsTake, LetsReturn, LetsAccept, LetsBegin, LetsGoOn};
+ghost use Rattle.network_machine.specs.Lets.{LetsTake, LetsReturn, LetsAccept, LetsBegin, LetsGoOn, LetsPut};
 ghost use Rattle.network_machine.specs.Lets.{TellsFlits};
 
 use crate::flit::{head_flit, rest_flit};
@@ -33,6 +34,7 @@ pub struct Channel {
 pub fn take(channel: &mut Channel) -> bool
     requires { ChannelHasRoom channel.old }
     ensures room { ChannelHasRoom channel.new }
+    ensures owner { channel.new.owner ≡ channel.old.owner }
     ensures line { (l : NetLine) → ShowsLine l channel.old → TakesFlit l channel.new result }
 {
     if channel.latch.is_some() || channel.flits.is_empty() {
@@ -49,6 +51,7 @@ pub fn put(channel: &mut Channel, flit: u64) -> bool
     requires { ChannelHasRoom channel.old }
     ensures room { ChannelHasRoom channel.new }
     ensures left { channel.new.left ≡ channel.old.left }
+    ensures owner { channel.new.owner ≡ channel.old.owner }
     ensures line { (l : NetLine) → ShowsLine l channel.old → PutsFlit l channel.new flit result }
 {
     if channel.held == 0 {
@@ -63,6 +66,7 @@ pub fn put(channel: &mut Channel, flit: u64) -> bool
 pub fn credit(channel: &mut Channel) -> bool
     requires { ChannelHasRoom channel.old }
     ensures room { ChannelHasRoom channel.new }
+    ensures owner { channel.new.owner ≡ channel.old.owner }
     ensures line { (l : NetLine) → ShowsLine l channel.old → Credits l channel.new result }
 {
     if channel.returning == 0 {
@@ -84,6 +88,8 @@ fn owner_after(x: usize, is_tail: bool) -> Option<usize>
 pub fn put_from(channel: &mut Channel, flit: u64, x: usize, is_tail: bool) -> bool
     requires { ChannelHasRoom channel.old }
     ensures room { ChannelHasRoom channel.new }
+    ensures owner { channel.new.owner
+        ≡ (if result then cond is_tail None (Some x) else channel.old.owner) }
     ensures line { (l : NetLine) → ShowsLine l channel.old
         → PutsFrom l channel.new flit x is_tail result }
 {
@@ -98,6 +104,7 @@ pub fn put_from(channel: &mut Channel, flit: u64, x: usize, is_tail: bool) -> bo
 pub fn unlatch(channel: &mut Channel)
     requires { ChannelHasRoom channel.old }
     ensures room { ChannelHasRoom channel.new }
+    ensures owner { channel.new.owner ≡ channel.old.owner }
     ensures line { (l : NetLine) → ShowsLine l channel.old → ShowsLine (unlatched l) channel.new }
 {
     channel.latch = None;
@@ -107,6 +114,7 @@ pub fn unlatch(channel: &mut Channel)
 pub fn accept(channel: &mut Channel) -> bool
     requires { ChannelHasRoom channel.old }
     ensures room { ChannelHasRoom channel.new }
+    ensures owner { channel.new.owner ≡ channel.old.owner }
     ensures line { (l : NetLine) → ShowsLine l channel.old → Accepts l channel.new result }
 {
     if channel.flits.is_empty() {
@@ -123,6 +131,7 @@ pub fn begin(channel: &mut Channel, to: usize, length: u64) -> bool
     requires room { ChannelHasRoom channel.old }
     requires to { to < 2 ^ 60 }
     ensures room { ChannelHasRoom channel.new }
+    ensures owner { channel.new.owner ≡ channel.old.owner }
     ensures line { (l : NetLine) → ShowsLine l channel.old → Begins l channel.new to length result }
 {
     if channel.left > 0 || length == 0 {
@@ -139,6 +148,7 @@ pub fn begin(channel: &mut Channel, to: usize, length: u64) -> bool
 pub fn send_more(channel: &mut Channel) -> bool
     requires { ChannelHasRoom channel.old }
     ensures room { ChannelHasRoom channel.new }
+    ensures owner { channel.new.owner ≡ channel.old.owner }
     ensures line { (l : NetLine) → ShowsLine l channel.old → SendsMore l channel.new result }
 {
     if channel.left == 0 {
@@ -162,6 +172,16 @@ pub fn take_hindrance(channel: &Channel, x: usize) -> Option<Hindrance>
         return Some(Hindrance::Empty(x));
     }
     None
+}
+
+/// Why the router behind a channel has no flit to put, where its latch is empty.
+pub fn latch_hindrance(channel: &Channel, x: usize) -> Option<Hindrance>
+    ensures { (l : NetLine) → ShowsLine l channel.now → LetsPut l result }
+{
+    match channel.latch {
+        None => Some(Hindrance::LatchEmpty(x)),
+        Some(_) => None,
+    }
 }
 
 /// Why no credit comes back, where none does.

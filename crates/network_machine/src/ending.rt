@@ -1,7 +1,6 @@
 //! How a run ends.
 
-ghost use Rattle.std.specs.Prelude.{◌≡◌, ◌<◌, ℕ, true, false, length, IfSome, IfNone};
-ghost use Rattle.network_machine.specs.Machine.{Permits, Prevents};
+ghost use Rattle.std.specs.Prelude.{◌<◌, ℕ, length, IfSome, IfNone};
 ghost use Rattle.network_machine.specs.Endings.{IsFirstAt, PreventsAllAt, IsEnding};
 ghost use Rattle.network_machine.specs.Endings.{HoldsFlit, HoldsNoFlit};
 
@@ -24,17 +23,6 @@ fn standing(channels: &[Channel]) -> Option<usize>
 }
 
 impl<'a, A: Allocator> Machine<'a, A> {
-    /// Whether an event makes a move.
-    fn is_free(&self, of: Move) -> bool
-        ensures yes { result ≡ true → Permits self.now of }
-        ensures no { result ≡ false → Prevents self.now of }
-    {
-        match self.hindrance(of) {
-            None => true,
-            Some(_) => false,
-        }
-    }
-
     /// The first move at a channel that an event makes, in the order more, take, put, accept, credit.
     fn first_at(&self, x: usize) -> Option<Move>
         ensures some { IfSome result (IsFirstAt self.now x) }

@@ -6,12 +6,15 @@ mod attempt;
 pub mod channel;
 mod ending;
 pub mod flit;
+mod free;
 mod hindrance;
 pub mod laws;
 pub mod machine;
 pub mod moves;
 mod opening;
 mod output;
+pub mod owned;
+mod pairs;
 mod run;
 mod steps;
 

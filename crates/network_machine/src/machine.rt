@@ -9,6 +9,8 @@ ghost use Rattle.network_machine.specs.Machine.{IsOpened};
 
 use crate::channel::Channel;
 use crate::opening::empty_channels;
+use crate::owned::Owned;
+use crate::pairs::{pair_at, rows_of};
 use network_judge::columns::{columns_of, ends_of};
 use network_judge::walk::{cell, kind_at};
 use network_judge::{Join, Kind, Reply};
@@ -25,6 +27,8 @@ pub struct Machine<'a, A: Allocator = Global> {
     pub(crate) columns: Vec<usize, A>,
     pub(crate) width: usize,
     pub(crate) channels: Vec<Channel, A>,
+    pub(crate) owned: Vec<Owned, A>,
+    pub(crate) pairs: Vec<Vec<bool, A>, A>,
 }
 
 impl<'a, A: Allocator> Model for Machine<'a, A> {
@@ -62,6 +66,8 @@ impl<'a, A: Allocator + Copy> Machine<'a, A> {
         let columns = columns_of(alloc, kinds)?;
         let width = ends_of(alloc, kinds)?.len();
         let channels = empty_channels(alloc, kinds.len(), depth)?;
+        let owned = vec![in alloc; Owned::Nothing; kinds.len()]?;
+        let pairs = rows_of(alloc, kinds, joins)?;
         Ok(Machine {
             kinds,
             joins,
@@ -70,6 +76,8 @@ impl<'a, A: Allocator + Copy> Machine<'a, A> {
             columns,
             width,
             channels,
+            owned,
+            pairs,
         })
     }
 }
@@ -79,9 +87,13 @@ impl<'a, A: Allocator> Machine<'a, A> {
     pub(crate) fn is_joined(&self, from: usize, to: usize) -> bool
         ensures { result ≡ joins_of self.now.table from to }
     {
-        self.joins
-            .iter()
-            .any(|pair| pair.from == from && pair.to == to)
+        match pair_at(&self.pairs, from, to) {
+            Some(is_one) => is_one,
+            None => self
+                .joins
+                .iter()
+                .any(|pair| pair.from == from && pair.to == to),
+        }
     }
 
     /// The kind of a channel, and none beyond the channels.

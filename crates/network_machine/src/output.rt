@@ -7,11 +7,13 @@ ghost use Rattle.network_judge.specs.Table.{channels_of};
 ghost use Rattle.network_machine.specs.Machine.{Prevents};
 ghost use Rattle.network_machine.specs.Outputs.{IsOwnedBy, IsOutputOf, HasNoOutput, IsLatched};
 ghost use Rattle.network_machine.specs.Outputs.{IsWayOut};
+ghost use Rattle.network_machine.specs.Owned.{OwnsWithin};
 
 use crate::channel::Channel;
 use crate::flit::{is_head, told};
 use crate::machine::Machine;
 use crate::moves::Hindrance;
+use crate::owned::Owned;
 use network_judge::walk::is_receiver;
 use std::alloc::Allocator;
 
@@ -24,8 +26,8 @@ fn is_owned_by(channel: &Channel, x: usize, y: usize) -> bool
     x != y && channel.owner == Some(x) && channel.held > 0
 }
 
-/// A channel that channel x owns, with a credit.
-fn owned_by(channels: &[Channel], x: usize) -> Option<usize>
+/// A channel that channel x owns, with a credit, looked for among all channels.
+fn owned_among(channels: &[Channel], x: usize) -> Option<usize>
     ensures some { IfSome result (IsOwnedBy channels.now x) }
     ensures none { IfNone result ((y : ℕ) → IsOwnedBy channels.now x y → ⊥) }
 {
@@ -37,15 +39,43 @@ fn owned_by(channels: &[Channel], x: usize) -> Option<usize>
     None
 }
 
+/// Channel y, if channel x owns it and it has a credit.
+fn owned_at(channels: &[Channel], x: usize, y: usize) -> Option<usize>
+    ensures some { IfSome result (IsOwnedBy channels.now x) }
+    ensures none { IfNone result (IsOwnedBy channels.now x y → ⊥) }
+{
+    if y >= channels.len() {
+        return None;
+    }
+    if is_owned_by(&channels[y], x, y) {
+        return Some(y);
+    }
+    None
+}
+
+/// A channel that channel x owns, with a credit, where so much is known of those that it owns.
+fn owned_by(channels: &[Channel], known: Owned, x: usize) -> Option<usize>
+    requires { OwnsWithin known channels.now x }
+    ensures some { IfSome result (IsOwnedBy channels.now x) }
+    ensures none { IfNone result ((y : ℕ) → IsOwnedBy channels.now x y → ⊥) }
+{
+    match known {
+        Owned::Nothing => None,
+        Owned::Only(y) => owned_at(channels, x, y),
+        Owned::Any => owned_among(channels, x),
+    }
+}
+
 impl<'a, A: Allocator> Machine<'a, A> {
     /// The output of a flit behind channel x.
     fn output(&self, x: usize, flit: u64) -> Option<usize>
+        requires { x < length self.now.channels }
         ensures some { IfSome result (IsOutputOf self.now.table self.now.channels x flit) }
         ensures none { IfNone result (HasNoOutput self.now.table self.now.channels x flit) }
         ensures size { length self.now.channels ≡ channels_of self.now.table }
     {
         if !is_head(flit) {
-            return owned_by(&self.channels, x);
+            return owned_by(&self.channels, self.owned[x], x);
         }
         match self.choice(x, told(flit)) {
             None => None,

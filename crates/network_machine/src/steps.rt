@@ -7,10 +7,12 @@ ghost use Rattle.wormhole.specs.Events.{unlatched};
 ghost use Rattle.network_machine.specs.declared.moves.Move.TheVariants.{Send, More, Take, Credit, Accept};
 ghost use Rattle.network_machine.specs.Moves.{ShowAll, ChannelsHaveRoom, MakesEvent};
 ghost use Rattle.network_machine.specs.Packets.{packet_of};
+ghost use Rattle.network_machine.specs.Owned.{SameOwners, OwnersAfter, AreOwned};
 ghost use Rattle.network_machine.specs.Forwards.{PutsAt, IsLatchOutput, Forwards};
 
 use crate::channel::{Channel, accept, begin, credit, put_from, send_more, take, unlatch};
 use crate::moves::Packet;
+use crate::owned::{Owned, owned_after};
 
 /// The sender of a packet's injection channel begins it, if none is in course and it holds a credit.
 pub(crate) fn begin_at(channels: &mut [Channel], packet: Packet) -> bool
@@ -19,6 +21,7 @@ pub(crate) fn begin_at(channels: &mut [Channel], packet: Packet) -> bool
     requires room { ChannelsHaveRoom channels.old }
     ensures count { length channels.new ≡ length channels.old }
     ensures room { ChannelsHaveRoom channels.new }
+    ensures owners { SameOwners channels.old channels.new }
     ensures lines { (n : Net) (ls : ℕ → NetLine) → packet.from < n.channels
         → n.injects packet.from ≡ true
         → (0 < packet.length → IsParcel n (packet_of packet.from packet.to packet.length))
@@ -33,6 +36,7 @@ pub(crate) fn send_more_at(channels: &mut [Channel], x: usize) -> bool
     requires room { ChannelsHaveRoom channels.old }
     ensures count { length channels.new ≡ length channels.old }
     ensures room { ChannelsHaveRoom channels.new }
+    ensures owners { SameOwners channels.old channels.new }
     ensures lines { (n : Net) (ls : ℕ → NetLine) → x < n.channels → n.injects x ≡ true
         → ShowAll ls channels.old → MakesEvent n ls (More x) channels.new result }
 {
@@ -46,6 +50,7 @@ pub(crate) fn take_at(channels: &mut [Channel], x: usize) -> bool
     requires room { ChannelsHaveRoom channels.old }
     ensures count { length channels.new ≡ length channels.old }
     ensures room { ChannelsHaveRoom channels.new }
+    ensures owners { SameOwners channels.old channels.new }
     ensures lines { (n : Net) (ls : ℕ → NetLine) → x < n.channels → n.ejects x ≡ false
         → ShowAll ls channels.old → MakesEvent n ls (Take x) channels.new result }
 {
@@ -58,6 +63,7 @@ pub(crate) fn credit_at(channels: &mut [Channel], x: usize) -> bool
     requires room { ChannelsHaveRoom channels.old }
     ensures count { length channels.new ≡ length channels.old }
     ensures room { ChannelsHaveRoom channels.new }
+    ensures owners { SameOwners channels.old channels.new }
     ensures lines { (n : Net) (ls : ℕ → NetLine) → x < n.channels
         → ShowAll ls channels.old → MakesEvent n ls (Credit x) channels.new result }
 {
@@ -70,6 +76,7 @@ pub(crate) fn accept_at(channels: &mut [Channel], x: usize) -> bool
     requires room { ChannelsHaveRoom channels.old }
     ensures count { length channels.new ≡ length channels.old }
     ensures room { ChannelsHaveRoom channels.new }
+    ensures owners { SameOwners channels.old channels.new }
     ensures lines { (n : Net) (ls : ℕ → NetLine) → x < n.channels → n.ejects x ≡ true
         → ShowAll ls channels.old → MakesEvent n ls (Accept x) channels.new result }
 {
@@ -82,6 +89,7 @@ fn put_at(channels: &mut [Channel], y: usize, flit: u64, x: usize, is_tail: bool
     requires room { ChannelsHaveRoom channels.old }
     ensures count { length channels.new ≡ length channels.old }
     ensures room { ChannelsHaveRoom channels.new }
+    ensures owners { OwnersAfter channels.old channels.new x y is_tail result }
     ensures lines { (ls : ℕ → NetLine) → ShowAll ls channels.old
         → PutsAt ls channels.new y flit x is_tail result }
 {
@@ -94,6 +102,7 @@ fn unlatch_at(channels: &mut [Channel], x: usize)
     requires room { ChannelsHaveRoom channels.old }
     ensures count { length channels.new ≡ length channels.old }
     ensures room { ChannelsHaveRoom channels.new }
+    ensures owners { SameOwners channels.old channels.new }
     ensures lines { (ls : ℕ → NetLine) → ShowAll ls channels.old
         → ShowAll (update ls x (unlatched (ls x))) channels.new }
 {
@@ -109,7 +118,7 @@ fn owner_before(is_head: bool, x: usize) -> Option<usize>
 
 /// The flit in the latch behind channel x goes into channel y, if its owner allows it and a credit
 /// is held.
-pub(crate) fn forward_at(
+fn forward_at(
     channels: &mut [Channel],
     x: usize,
     y: usize,
@@ -123,6 +132,7 @@ pub(crate) fn forward_at(
     requires room { ChannelsHaveRoom channels.old }
     ensures count { length channels.new ≡ length channels.old }
     ensures room { ChannelsHaveRoom channels.new }
+    ensures owners { OwnersAfter channels.old channels.new x y is_tail result }
     ensures lines { (n : Net) (ls : ℕ → NetLine) → IsLatchOutput n ls x y flit is_head is_tail
         → ShowAll ls channels.old → Forwards n ls channels.new x y flit is_head result }
 {
@@ -134,5 +144,35 @@ pub(crate) fn forward_at(
         return false;
     }
     unlatch_at(channels, x);
+    true
+}
+
+/// The same, with what is known of the channels that inputs own.
+pub(crate) fn forward_known(
+    channels: &mut [Channel],
+    known: &mut [Owned],
+    x: usize,
+    y: usize,
+    flit: u64,
+    is_head: bool,
+    is_tail: bool,
+) -> bool
+    requires x { x < length channels.old }
+    requires y { y < length channels.old }
+    requires apart { x ≢ y }
+    requires room { ChannelsHaveRoom channels.old }
+    requires many { x < length known.old }
+    requires owned { AreOwned known.old channels.old }
+    ensures count { length channels.new ≡ length channels.old }
+    ensures room { ChannelsHaveRoom channels.new }
+    ensures many { length known.new ≡ length known.old }
+    ensures owned { AreOwned known.new channels.new }
+    ensures lines { (n : Net) (ls : ℕ → NetLine) → IsLatchOutput n ls x y flit is_head is_tail
+        → ShowAll ls channels.old → Forwards n ls channels.new x y flit is_head result }
+{
+    if !forward_at(channels, x, y, flit, is_head, is_tail) {
+        return false;
+    }
+    known[x] = owned_after(known[x], y, is_tail);
     true
 }

@@ -21,13 +21,11 @@ fn attempt_one<A: Allocator>(
         (take result made.new) }
     ensures same { SameTables machine.old machine.new }
 {
-    match machine.attempt(of) {
-        Err(_) => count,
-        Ok(()) => {
-            made[count] = of;
-            count + 1
-        }
+    if !machine.try_move(of) {
+        return count;
     }
+    made[count] = of;
+    count + 1
 }
 
 /// Attempts some moves, in their order, writes those that are made, and answers how many these are.

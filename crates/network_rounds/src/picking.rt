@@ -22,13 +22,11 @@ fn pick_one<A: Allocator>(
     ensures adds { AddsEnabled machine.now (of ∷ []) (take count enabled.old)
         (take result enabled.new) }
 {
-    match machine.hindrance(of) {
-        Some(_) => count,
-        None => {
-            enabled[count] = of;
-            count + 1
-        }
+    if !machine.is_free(of) {
+        return count;
     }
+    enabled[count] = of;
+    count + 1
 }
 
 /// Adds those of some moves that are enabled, in their order.

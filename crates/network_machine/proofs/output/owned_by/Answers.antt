@@ -1,14 +1,18 @@
-use Rattle.std.proofs.Common.{arith}
+use Rattle.std.proofs.Common.{◌≡◌, subst, ◌<◌, length}
+use Rattle.network_machine.specs.declared.channel.Channel.{Channel}
 use Rattle.network_machine.specs.Outputs.{IsOwnedBy}
-use Rattle.network_machine.proofs.Owners.{not_owned, one_more}
+use Rattle.network_machine.specs.Owned.{MayOwn}
+use Rattle.network_machine.proofs.Owners.{if_none}
+use Rattle.network_machine.proofs.Knowing.{may_own}
 use Rattle.network_machine.proofs.output.owned_by.Goals as goal
 
-pub loop-y-preserved : goal.loop-y-preserved
-loop-y-preserved c = record {
-  clear = one_more (λ z. IsOwnedBy c.args.channels.now c.args.x z → ⊥) c.loop-y.y c.loop-y.invariant.clear
-      (not_owned c.args.channels.now c.args.x c.loop-y.y c.index-channels-y.result c.index-channels-y.is (c.is_owned_by.ensures.no c.if-is_owned_by.false));
-}
+pub returns-in-Nothing-clause-none : goal.returns-in-Nothing-clause-none
+returns-in-Nothing-clause-none c = λ y own.
+    subst (λ k. MayOwn k y) c.in-Nothing.is (may_own c.args.known c.args.channels.now c.args.x y c.requires own)
 
-pub returns-clause-none : goal.returns-clause-none
-returns-clause-none c = λ y own.
-    (let here = own.here in let end = c.loop-y-test.false in c.loop-y.invariant.clear y (omega arith) own)
+pub returns-in-Only-clause-none : goal.returns-in-Only-clause-none
+returns-in-Only-clause-none c =
+    if_none c.owned_at.result (IsOwnedBy c.args.channels.now c.args.x c.in-Only.y → ⊥) _
+    (λ none y own. none (subst (IsOwnedBy c.args.channels.now c.args.x)
+    (subst (λ k. MayOwn k y) c.in-Only.is (may_own c.args.known c.args.channels.now c.args.x y c.requires own)) own))
+    c.owned_at.ensures.none

@@ -1,9 +1,11 @@
-use Rattle.std.proofs.Common.{◌≡◌, length, sym, ◌∙◌, subst, ap, arith, ◌<◌, drop}
+use Rattle.std.proofs.Common.{◌≡◌, refl, length, sym, ◌∙◌, subst, ap, arith, ◌<◌, drop}
 use Rattle.wormhole.specs.Net.{Net}
 use Rattle.network_judge.specs.Table.{channels_of}
 use Rattle.network_machine.specs.Moves.{ShowAll}
 use Rattle.network_machine.specs.Machine.{NetworkMachineSpec, plain_network}
+use Rattle.network_machine.specs.Owned.{AreOwned}
 use Rattle.network_machine.proofs.Making.{made_by}
+use Rattle.network_machine.proofs.Knowing.{goes_on_known}
 use Rattle.network_machine.specs.declared.moves.Move.TheVariants.{Put}
 use Rattle.network_jam.specs.LockUps.{plain_format}
 use Rattle.network_machine.specs.Outputs.{IsWayOut}
@@ -19,8 +21,8 @@ returns-in-Ok-clause-made g c = λ number top depth s shows.
     let same : c.deref_mut.result.now ≡ m.channels = c.deref_mut.ensures.value ∙ ap (λ (k : NetworkMachineSpec). k.channels) c.self.view_is in
     let all : ShowAll s.lines c.deref_mut.result.now = subst (λ cs. ShowAll s.lines cs) (sym same) shows.lines in
     let size : length m.channels ≡ channels_of m.table = subst (λ (m : NetworkMachineSpec). length m.channels ≡ channels_of m.table) c.self.view_is c.self.invariant.size in
-    let count : length c.forward_at.new.channels ≡ c.self.inside.channels.len =
-    (let a = c.forward_at.ensures.count in let b = ap length c.deref_mut.ensures.value in let d = c.self.inside.channels.ok.0 in omega arith) in
+    let count : length c.forward_known.new.channels ≡ c.self.inside.channels.len =
+    (let a = c.forward_known.ensures.count in let b = ap length c.deref_mut.ensures.value in let d = c.self.inside.channels.ok.0 in omega arith) in
     let here : c.args.x < channels_of m.table = subst (λ z. c.args.x < z) size c.requires in
     let x = c.args.x in
     let flit = c.in-Ok.flit in
@@ -36,6 +38,20 @@ returns-in-Ok-clause-made g c = λ number top depth s shows.
       tail = sym c.is_tail.ensures;
       output = λ e. way.1.head (head ∙ e);
     } in
-    made_by n s.lines (Put c.args.x) c.forward_at.result c.forward_at.new.channels (drop (length c.forward_at.new.channels) c.self.inside.channels.items) c.self.inside.channels.len count
-    (puts_make m x flit y way some c.forward_at.new.channels number top depth s shows c.is_head-head.result head c.forward_at.result
-    (c.forward_at.ensures.lines n s.lines output all)))
+    made_by n s.lines (Put c.args.x) c.forward_known.result c.forward_known.new.channels (drop (length c.forward_known.new.channels) c.self.inside.channels.items) c.self.inside.channels.len count
+    (puts_make m x flit y way some c.forward_known.new.channels number top depth s shows c.is_head-head.result head c.forward_known.result
+    (c.forward_known.ensures.lines n s.lines output all)))
+
+pub forward_known-requires-clause-owned : goal.forward_known-requires-clause-owned
+forward_known-requires-clause-owned g c =
+    subst (λ ks. AreOwned ks c.deref_mut.result.now) (sym c.deref_mut-in-Ok.ensures.value)
+    (subst (λ cs. AreOwned c.self.inside.owned.items cs) (sym c.deref_mut.ensures.value) c.self.invariant.owned)
+
+pub invariant_of-self : goal.invariant_of-self
+invariant_of-self g c =
+    (let size : length c.forward_known.new.channels ≡ length c.self.inside.channels.items = c.forward_known.ensures.count ∙ ap length c.deref_mut.ensures.value in
+    let many : length c.forward_known.new.known ≡ length c.self.inside.owned.items = c.forward_known.ensures.many ∙ ap length c.deref_mut-in-Ok.ensures.value in
+    let long : length c.forward_known.new.channels ≡ c.self.inside.channels.len = (let d = c.self.inside.channels.ok.0 in omega (arith, size)) in
+    let long_2 : length c.forward_known.new.known ≡ c.self.inside.owned.len = (let d = c.self.inside.owned.ok.0 in omega (arith, many)) in
+    goes_on_known c.self.inside c.self.invariant c.forward_known.new.channels size c.forward_known.ensures.room long _ refl
+    c.forward_known.new.known c.forward_known.ensures.owned many long_2 _ refl)

@@ -1,9 +1,10 @@
-use Rattle.std.proofs.Common.{◌≡◌, length, sym, ◌∙◌, subst, ap, arith, false, ◌<◌, drop}
+use Rattle.std.proofs.Common.{◌≡◌, refl, length, sym, ◌∙◌, subst, ap, arith, false, ◌<◌, drop}
 use Rattle.wormhole.specs.Net.{Net}
 use Rattle.network_judge.specs.Table.{channels_of, kind_of, is_receiver}
 use Rattle.network_machine.specs.Moves.{ShowAll}
 use Rattle.network_machine.specs.Machine.{NetworkMachineSpec, plain_network}
 use Rattle.network_machine.proofs.Making.{made_by}
+use Rattle.network_machine.proofs.Knowing.{goes_on}
 use Rattle.network_machine.specs.declared.moves.Move.TheVariants.{Take}
 use Rattle.network_machine.proofs.machine.Machine.make_take.Goals as goal
 
@@ -23,3 +24,10 @@ returns-clause-made g c = λ number top depth s shows.
     let is : is_receiver (kind_of m.table c.args.x) ≡ false = ap is_receiver kind ∙ (sym c.is_receiver.ensures ∙ c.if-is_receiver.false) in
     made_by n s.lines (Take c.args.x) c.take_at.result c.take_at.new.channels (drop (length c.take_at.new.channels) c.self.inside.channels.items) c.self.inside.channels.len count
     (c.take_at.ensures.lines n s.lines here is all))
+
+pub invariant_of-self : goal.invariant_of-self
+invariant_of-self g c =
+    (let count : length c.take_at.new.channels ≡ c.self.inside.channels.len =
+    (let a = c.take_at.ensures.count in let b = ap length c.deref_mut.ensures.value in let d = c.self.inside.channels.ok.0 in omega arith) in
+    goes_on c.self.inside c.self.invariant c.deref_mut.result.now c.take_at.new.channels c.deref_mut.ensures.value c.take_at.ensures.count c.take_at.ensures.room
+    c.take_at.ensures.owners count _ refl)

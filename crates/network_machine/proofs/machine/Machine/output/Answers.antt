@@ -1,7 +1,8 @@
-use Rattle.std.proofs.Common.{◌≡◌, sym, ◌∙◌, ap, subst, false}
+use Rattle.std.proofs.Common.{◌≡◌, ◌<◌, length, arith, sym, ◌∙◌, ap, subst, false}
 use Rattle.network_jam.specs.LockUps.{plain_format}
 use Rattle.network_machine.specs.Machine.{NetworkMachineSpec}
 use Rattle.network_machine.specs.Outputs.{IsOwnedBy, HasNoOutput}
+use Rattle.network_machine.specs.Owned.{OwnsWithin}
 use Rattle.network_machine.proofs.Owners.{if_none}
 use Rattle.network_machine.proofs.machine.Machine.output.Goals as goal
 
@@ -15,3 +16,11 @@ returns-then-not-is_head-clause-none g c =
       head = λ head. absurd (cc);
       rest = λ rest y own. none y (subst (λ cs. IsOwnedBy cs c.args.x y) (sym same) own);
     }) c.owned_by.ensures.none)
+
+pub owned_by-requires : goal.owned_by-requires
+owned_by-requires g c =
+    (let view : length c.self.inside.channels.items ≡ length c.args.self.now.channels = ap (λ (k : NetworkMachineSpec). length k.channels) c.self.view_is in
+    let low : c.args.x < length c.self.inside.owned.items =
+    (let a = c.requires in let b = c.self.invariant.size in let d = c.self.invariant.many in omega (arith, a, view, b, d)) in
+    subst (λ cs. OwnsWithin c.index.result.now cs c.args.x) (sym c.deref.ensures.value)
+    (subst (λ k. OwnsWithin k c.self.inside.channels.items c.args.x) (sym c.index.ensures) (c.self.invariant.owned c.args.x c.index.result.now low)))
