@@ -19,6 +19,8 @@ mod trace_texts;
 #[cfg(test)]
 mod watch_memory;
 #[cfg(test)]
+mod watched_barrier;
+#[cfg(test)]
 mod watched_drawn;
 #[cfg(test)]
 mod watched_traces;

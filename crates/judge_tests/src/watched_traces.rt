@@ -157,7 +157,8 @@ fn histories_are_watched(rt: HostRuntime) {
     assert!(rt; first_unlike(rt.alloc(), &HISTORIES).is_none());
 }
 
-/// A sum that is answered while three others are pending on its word.
+/// A sum that is answered while three others are pending on its word, of which none took effect before it, or
+/// one, two or three did: they ask the same, and so they are counted.
 const BESIDE_SUMS: &[Event] = &[
     issued!(0, 0, Op::Add(1)),
     issued!(1, 0, Op::Add(1)),
@@ -166,11 +167,11 @@ const BESIDE_SUMS: &[Event] = &[
     found!(0, 0),
 ];
 
-/// One operation at a time, which needs two configurations: before it took effect, and after it.
+/// One operation at a time, which needs one configuration: before it took effect.
 const ALONE: &[Event] = &[issued!(1, 0, Op::Store(1)), done!(1)];
 
-/// A swap that is answered while six others are pending on its word. In 1957 ways some of the six took effect,
-/// in some order; and then the answered one did, or didn't yet.
+/// A swap that is answered while six others are pending on its word. In 1957 ways some of the six took effect
+/// before it, in some order.
 const BESIDE_SWAPS: &[Event] = &[
     issued!(0, 0, Op::Swap(1)),
     issued!(1, 0, Op::Swap(2)),
@@ -184,12 +185,12 @@ const BESIDE_SWAPS: &[Event] = &[
 
 /// Events, a bound of the configurations, and what is told.
 const BOUNDED: [(&[Event], usize, Told); 6] = [
-    (BESIDE_SUMS, 1, Told::Full(4, Full::Configurations)),
-    (BESIDE_SUMS, 1000, Told::Taken),
-    (ALONE, 2, Told::Taken),
-    (ALONE, 1, Told::Full(1, Full::Configurations)),
-    (BESIDE_SWAPS, 3913, Told::Full(7, Full::Configurations)),
-    (BESIDE_SWAPS, 3914, Told::Taken),
+    (BESIDE_SUMS, 3, Told::Full(4, Full::Configurations)),
+    (BESIDE_SUMS, 4, Told::Taken),
+    (ALONE, 1, Told::Taken),
+    (ALONE, 0, Told::Full(1, Full::Configurations)),
+    (BESIDE_SWAPS, 1956, Told::Full(7, Full::Configurations)),
+    (BESIDE_SWAPS, 1957, Told::Taken),
 ];
 
 /// The first of them of which something else is told.

@@ -46,8 +46,7 @@ pub record HasNoLessRoom (old new : Room) : Type 0 where
   pub rows : old.rows ≤ new.rows
   pub actions : old.actions ≤ new.actions
 
--- why a record can't keep an action: no number names it, or there was no room for one more, and memory
--- was refused
+-- why a record ends at an action: no number names it, or its room had no place for one more
 abbrev pub EndsAtAction : Action → Option Recording → Room → Type 0
 EndsAtAction a old room =
     (is_narrow a ≡ false) ⊎ IfSome old (λ r. room.actions ≤ length r.actions)
@@ -59,7 +58,7 @@ KeepsAction a old room new after =
     × HasNoLessRoom room after)
     ⊎ (EndsAtAction a old room × (new ≡ None))
 
--- why a record can't keep a line: no number names one more, or there was no room, and memory was refused
+-- why a record ends at a line: no number names one more, or its room had no place for one more
 abbrev pub EndsAtLine : Option Recording → Room → Type 0
 EndsAtLine old room = IfSome old (λ r. (268435456 ≤ length r.rows) ⊎ (room.rows ≤ length r.rows)
     ⊎ (room.actions ≤ length r.actions))

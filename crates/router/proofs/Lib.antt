@@ -4,3 +4,5 @@ pub mod WantedPorts
 pub mod Begins
 pub mod EmptyChannels
 mod WrongOnes
+pub mod Words
+pub mod Latched

@@ -1,5 +1,5 @@
 -- The output of a packet, by that of one that was injected at the same tile.
-use Rattle.std.proofs.Common.{◌≡◌, ℕ, suc, ◌*◌, ◌/◌, ◌%◌, ◌<◌, Bool, true, false, cond, List, [], ◌∷◌, length, get_or, Option, Some, None, inl, inr, refl}
+use Rattle.std.proofs.Common.{◌≡◌, ℕ, suc, ◌+◌, ◌*◌, ◌/◌, ◌%◌, ◌<◌, Bool, true, false, cond, List, [], ◌∷◌, length, get_or, Option, Some, None, inl, inr, refl}
 use Rattle.std.proofs.Common.{sym, ap, subst, ◌∙◌, arith}
 use Rattle.std.specs.Prelude.{◌==◌, ◌||◌, ◌&&◌, not, IfSome}
 use Rattle.std.specs.List.{find, range_with_len}
@@ -9,15 +9,18 @@ use Rattle.std.proofs.lemmas.List.FromFn.{length-range_with_len, get_or-range_wi
 use Rattle.torus.specs.Shape.{Shape, dims_of, tiles_of, digit_of, radix_of}
 use Rattle.dateline_route.specs.declared.channel.Input.TheVariants.{Inject}
 use Rattle.dateline_route.specs.declared.channel.Output.{Output}
-use Rattle.dateline_route.specs.declared.channel.Output.TheVariants.{Hop as To}
+use Rattle.dateline_route.specs.declared.channel.Output.TheVariants.{Eject, Hop as To}
 use Rattle.dateline_route.specs.Next.{next_of, output_in, first_apart, is_dateline_hop, came_on_one}
 use Rattle.dateline_route.specs.Ring.{shorter_way}
 use Rattle.torus.specs.declared.shape.Dir.{Dir}
+use Rattle.torus.specs.declared.shape.Dir.TheVariants.{Plus, Minus}
+use Rattle.torus.specs.declared.shape.Class.TheVariants.{Request}
+use Rattle.channel_number.specs.Order.{dir_at}
 use Rattle.packet.specs.declared.heading.Head.{Head}
 use Rattle.packet.specs.Flits.{head_of}
 use Rattle.channel_number.specs.Ports.{input_numbered, output_number}
 use Rattle.router.specs.Table.{RouterState, output_for, way_of, is_owned, NamesTile}
-use Rattle.router.specs.Ways.{onward, HasDimension}
+use Rattle.router.specs.Ways.{onward, output_numbered, HasDimension}
 
 -- what is found stands in the list
 found_step : (p : ℕ → Bool) (x : ℕ) (xs : List ℕ) (d : ℕ) (b : Bool) → p x ≡ b → (find p xs ≡ Some d → (i : ℕ) × (i < length xs) × (get_or xs i 0 ≡ d))
@@ -76,3 +79,40 @@ module _ (s : Shape) (t : ℕ) (r : RouterState) (i : ℕ) (head : Head) (number
 
 pub named_tile : (s : Shape) (flit : ℕ) (head : Head) → NamesTile s flit → head_of flit ≡ Some head → head.destination < tiles_of s
 named_tile s flit head names is = subst (λ (o : Option Head). IfSome o (λ h. h.destination < tiles_of s)) is names
+
+module _ (dims n d : ℕ) (dir : Dir) (bit : Bool) (low : n < 8 * dims) (dim : n / 8 ≡ d) (way : dir_at (n / 4 % 2) ≡ dir) (on : (n % 2 == 1) ≡ bit) where
+  hop_numbered : output_numbered dims n ≡ To d dir bit
+  hop_numbered = rw (lt-ltb n (8 * dims) low, dim, way, on) refl
+
+-- the number of an output for requests tells the output
+pub numbered_back : (dims : ℕ) (o : Output) → HasDimension dims o → output_numbered dims (output_number dims Request o) ≡ o
+numbered_back dims Eject is = rw (le-ltb (8 * dims + 0) (8 * dims) (omega arith)) refl
+numbered_back dims (To d Plus false) is =
+    let n : ℕ = 8 * d + 4 * 0 + 2 * 0 + 0 in
+    hop_numbered dims n d Plus false (omega (arith, is)) (omega arith)
+    (let e : n / 4 % 2 ≡ 0 = omega arith in ap dir_at e) (let e : n % 2 ≡ 0 = omega arith in ap (λ k. k == 1) e)
+numbered_back dims (To d Plus true) is =
+    let n : ℕ = 8 * d + 4 * 0 + 2 * 0 + 1 in
+    hop_numbered dims n d Plus true (omega (arith, is)) (omega arith)
+    (let e : n / 4 % 2 ≡ 0 = omega arith in ap dir_at e) (let e : n % 2 ≡ 1 = omega arith in ap (λ k. k == 1) e)
+numbered_back dims (To d Minus false) is =
+    let n : ℕ = 8 * d + 4 * 1 + 2 * 0 + 0 in
+    hop_numbered dims n d Minus false (omega (arith, is)) (omega arith)
+    (let e : n / 4 % 2 ≡ 1 = omega arith in ap dir_at e) (let e : n % 2 ≡ 0 = omega arith in ap (λ k. k == 1) e)
+numbered_back dims (To d Minus true) is =
+    let n : ℕ = 8 * d + 4 * 1 + 2 * 0 + 1 in
+    hop_numbered dims n d Minus true (omega (arith, is)) (omega arith)
+    (let e : n / 4 % 2 ≡ 1 = omega arith in ap dir_at e) (let e : n % 2 ≡ 1 = omega arith in ap (λ k. k == 1) e)
+
+undo_onward : (dims i : ℕ) (o : Output) → HasDimension dims (onward i o) → HasDimension dims o
+undo_onward dims i Eject is = tt
+undo_onward dims i (To d dir bit) is = is
+
+pub next_is_output : (s : Shape) (t dst : ℕ) → HasDimension (dims_of s) (next_of s t Inject dst)
+next_is_output s t dst = undo_onward (dims_of s) 0 (next_of s t Inject dst) (onward_is_output s t 0 dst)
+
+-- the number that a table of ways holds tells the way
+pub way_numbered : (s : Shape) (t dst w : ℕ) → w ≡ output_number (dims_of s) Request (next_of s t Inject dst)
+    → output_numbered (dims_of s) w ≡ next_of s t Inject dst
+way_numbered s t dst w is =
+    ap (output_numbered (dims_of s)) is ∙ numbered_back (dims_of s) (next_of s t Inject dst) (next_is_output s t dst)

@@ -1,61 +1,120 @@
 //! Which input owns which output.
 
-ghost use Rattle.std.specs.Prelude.{◌≡◌, ◌<◌, ℕ, if◌then◌else◌, length, replicate, slice_index_or, slice_set, Some};
-ghost use Rattle.std.specs.Prelude.{None, false, IfOk, IfSome};
+ghost use Rattle.std.specs.Prelude.{◌≡◌, ◌<◌, ◌≤◌, ◌^◌, ℕ, if◌then◌else◌, length, replicate, slice_index_or, slice_set};
+ghost use Rattle.std.specs.Prelude.{Some, None, false, IfSome};
 ghost use Rattle.router.specs.Table.{is_among, is_output};
 ghost use Rattle.router.specs.Owned.{MayPass};
 
-use std::alloc::{AllocError, Allocator, Global};
+use crate::ports::{ByPort, filled};
 use std::marker::Model;
 
-/// The output that each input owns: no two own the same one.
+/// By input or output the number of an output or input, or none.
 #[derive(Drop)]
-pub(crate) struct Owners<A: Allocator = Global> {
-    /// By input the output that it owns.
-    owned: Vec<Option<u32>, A>,
-    /// By output the input that owns it, so that no search is needed.
-    owner: Vec<Option<u32>, A>,
+struct PortNumbers {
+    numbers: ByPort<Option<u8>>,
 }
 
-impl<A: Allocator> Model for Owners<A> {
+impl Model for PortNumbers {
     ghost use Rattle.std.specs.Prelude.{ℕ, List, Option};
 
     ghost Value = { List (Option ℕ) };
 
-    ghost use Rattle.router.specs.Owned.{AreInverse};
-
-    ghost view = { λ a. a.owned.items };
-
-    ghost invariant = { λ a. AreInverse a.owned.items a.owner.items };
+    ghost view = { λ a. a.numbers.items };
 }
 
-impl<A: Allocator + Copy> Owners<A> {
-    /// Of as many inputs and outputs, none of which is owned.
-    pub(crate) fn new(alloc: A, count: usize) -> Result<Owners<A>, AllocError>
-        ensures { IfOk result (λ a. a ≡ replicate count None) }
+impl PortNumbers {
+    /// So many, all none.
+    fn new(count: usize) -> PortNumbers
+        requires { count ≤ 26 }
+        ensures { result ≡ replicate count None }
     {
-        let owned = vec![in alloc; None; count]?;
-        let owner = vec![in alloc; None; count]?;
-        Ok(Owners { owned, owner })
+        PortNumbers {
+            numbers: filled(None, count),
+        }
+    }
+
+    /// The number at a port.
+    #[inline(always)]
+    fn of(&self, port: u32) -> Option<u32>
+        requires { port < length self.now }
+        ensures { result ≡ slice_index_or self.now port None }
+    {
+        match self.numbers[port as usize] {
+            Some(number) => Some(u32::from(number)),
+            None => None,
+        }
+    }
+
+    /// Writes a number at a port.
+    #[inline(always)]
+    fn set(&mut self, port: u32, number: u32)
+        requires port { port < length self.old }
+        requires number { number < 26 }
+        ensures { self.new ≡ slice_set self.old port (Some number) }
+    {
+        self.numbers[port as usize] = Some(number as u8);
+    }
+
+    /// Takes the number at a port away.
+    #[inline(always)]
+    fn clear(&mut self, port: u32)
+        requires { port < length self.old }
+        ensures { self.new ≡ slice_set self.old port None }
+    {
+        self.numbers[port as usize] = None;
     }
 }
 
-impl<A: Allocator> Owners<A> {
+/// The output that each input owns: no two own the same one.
+#[derive(Drop)]
+pub(crate) struct Owners {
+    /// By input the output that it owns.
+    owned: PortNumbers,
+    /// By output the input that owns it, so that no search is needed.
+    owner: PortNumbers,
+}
+
+impl Model for Owners {
+    ghost use Rattle.std.specs.Prelude.{ℕ, List, Option};
+
+    ghost Value = { List (Option ℕ) };
+
+    ghost use Rattle.router.specs.Owned.{AreFewInverse};
+
+    ghost view = { λ a. a.owned };
+
+    ghost invariant = { λ a. AreFewInverse a.owned a.owner };
+}
+
+impl Owners {
+    /// Of as many inputs and outputs, none of which is owned.
+    pub(crate) fn new(count: usize) -> Owners
+        requires { count ≤ 26 }
+        ensures { result ≡ replicate count None }
+    {
+        Owners {
+            owned: PortNumbers::new(count),
+            owner: PortNumbers::new(count),
+        }
+    }
+
     /// The output that an input owns.
+    #[inline(always)]
     pub(crate) fn output_of(&self, input: u32) -> Option<u32>
         requires { input < length self.now }
         ensures value { result ≡ slice_index_or self.now input None }
         ensures within { IfSome result (λ output. output < length self.now) }
     {
-        self.owned[input as usize]
+        self.owned.of(input)
     }
 
     /// Whether some input owns an output.
+    #[inline(always)]
     pub(crate) fn is_owned(&self, output: u32) -> bool
         requires { output < length self.now }
         ensures { result ≡ is_among self.now output }
     {
-        self.owner[output as usize].is_some()
+        self.owner.of(output).is_some()
     }
 
     /// An input gives its output back, if it owns one.
@@ -63,9 +122,9 @@ impl<A: Allocator> Owners<A> {
         requires { input < length self.old }
         ensures { self.new ≡ slice_set self.old input None }
     {
-        if let Some(output) = self.owned[input as usize] {
-            self.owner[output as usize] = None;
-            self.owned[input as usize] = None;
+        if let Some(output) = self.owned.of(input) {
+            self.owner.clear(output);
+            self.owned.clear(input);
         }
     }
 
@@ -77,8 +136,8 @@ impl<A: Allocator> Owners<A> {
         ensures { self.new ≡ slice_set self.old input (Some output) }
     {
         self.free(input);
-        self.owner[output as usize] = Some(input);
-        self.owned[input as usize] = Some(output);
+        self.owner.set(output, input);
+        self.owned.set(input, output);
     }
 
     /// Whether an input owns an output.
@@ -86,7 +145,7 @@ impl<A: Allocator> Owners<A> {
         requires { input < length self.now }
         ensures { result ≡ is_output (slice_index_or self.now input None) output }
     {
-        match self.owned[input as usize] {
+        match self.owned.of(input) {
             Some(owned) => owned == output,
             None => false,
         }
@@ -94,7 +153,7 @@ impl<A: Allocator> Owners<A> {
 
     /// A flit of an input goes to an output, which this input owns or none does. Afterwards it owns
     /// the output, or after a tail none.
-    #[inline(never)]
+    #[inline(always)]
     pub(crate) fn pass(&mut self, input: u32, output: u32, tail: bool)
         requires input { input < length self.old }
         requires output { output < length self.old }

@@ -1,4 +1,4 @@
-ghost use Rattle.std.specs.Prelude.{◌≡◌, ℕ, ◌<◌, ◌≤◌, length, IsTrue, ◌↔◌, vec_len, slice_index, slice_index_or};
+ghost use Rattle.std.specs.Prelude.{◌≡◌, ◌<◌, ◌≤◌, IsTrue, ◌↔◌, vec_len, slice_index};
 ghost use Rattle.std.specs.Prelude.{Some, None, IfOk, IfSome, IsSome, MatchOption, is_some};
 ghost use Rattle.torus.specs.Shape.{tiles_of, dims_of};
 ghost use Rattle.torus.specs.declared.step.Stepped.TheVariants as stepped;
@@ -6,36 +6,36 @@ ghost use Rattle.flit_buffer.specs.Agent.{next_op, absorbed, attempted};
 ghost use Rattle.flit_buffer.specs.Tries.{performed_by};
 ghost use Rattle.flit_buffer.specs.Words.{word_of};
 ghost use Rattle.flit_buffer.specs.Wants.{HasPort};
-ghost use Rattle.dateline_route.specs.declared.channel.Input.TheVariants.{Inject};
-ghost use Rattle.dateline_route.specs.declared.channel.Output.TheVariants.{Eject};
-ghost use Rattle.dateline_route.specs.Next.{next_of};
-ghost use Rattle.packet.specs.Flits.{head_of};
-ghost use Rattle.channel_number.specs.Ports.{port_count, output_number};
+ghost use Rattle.channel_number.specs.Ports.{port_count};
 ghost use Rattle.router.specs.Beginning.{router_ports};
-ghost use Rattle.router.specs.Table.{empty_router, output_for, router_wants, router_after, IsRoutable, NamesTile};
+ghost use Rattle.router.specs.Table.{empty_router, router_wants, router_after, IsRoutable, NamesTile};
 ghost use Rattle.router.specs.Table.{router_with_agent};
-ghost use Rattle.router.specs.Ways.{onward};
+ghost use Rattle.router.specs.Kept.{IsOfChoice, IsFlitOf};
 
-use crate::outputs::{onward, output_number};
+use crate::latches::Latches;
 use crate::owners::Owners;
+use crate::ports::{ByPort, NetworkPorts, filled};
 use crate::start::router_ports;
-use dateline_route::{Input, Output, next};
-use flit_buffer::{Ports, Want, WordOp};
-use packet::{head, is_tail};
+use crate::steering::ways_from;
+use flit_buffer::{Want, WordOp};
+use packet::head;
 use std::alloc::{AllocError, Allocator, Global};
 use std::marker::Model;
-use torus::{Choice, Class, Stepped, Torus};
+use torus::{Choice, Stepped, Torus};
 
 /// The router of a tile: a latch for each input, the output that each input owns, and the ends of
 /// the channels at its inputs and outputs.
 #[derive(Drop)]
 pub struct Router<A: Allocator = Global> {
-    torus: Torus,
-    tile: u32,
-    latches: Vec<Option<u64>, A>,
-    owners: Owners<A>,
-    ways: Vec<Output, A>,
-    ports: Ports<A>,
+    pub(crate) torus: Torus,
+    pub(crate) tile: u32,
+    pub(crate) latches: Latches,
+    pub(crate) owners: Owners,
+    /// By input the output for the head flit in its latch.
+    pub(crate) targets: ByPort<u8>,
+    pub(crate) ports: NetworkPorts,
+    /// By tile the output for requests to it that are injected here.
+    pub(crate) ways: Vec<u8, A>,
 }
 
 impl<A: Allocator> Model for Router<A> {
@@ -49,25 +49,6 @@ impl<A: Allocator> Model for Router<A> {
     ghost view = { router_place_of };
 
     ghost invariant = { IsRouter };
-}
-
-/// The next channel of the ways from a tile to each tile, for packets that are injected there.
-fn ways_from<A: Allocator + Copy>(
-    alloc: A,
-    torus: &Torus,
-    tile: u32,
-) -> Result<Vec<Output, A>, AllocError>
-    requires { tile < tiles_of torus.now }
-    ensures { IfOk result
-        (λ ways. (length ways.items ≡ tiles_of torus.now)
-        × ((dst : ℕ) → dst < tiles_of torus.now
-        → slice_index_or ways.items dst Eject ≡ next_of torus.now tile Inject dst)) }
-{
-    let mut ways = Vec::new(alloc);
-    for dst in 0..torus.tiles() {
-        ways.push(next(torus, tile, Input::Inject, dst, Class::Request))?;
-    }
-    Ok(ways)
 }
 
 impl<A: Allocator + Copy> Router<A> {
@@ -91,61 +72,40 @@ impl<A: Allocator + Copy> Router<A> {
             }) }
     {
         let count = 8 * torus.dims() as usize + 2;
-        let latches = vec![in alloc; None; count]?;
-        let owners = Owners::new(alloc, count)?;
         let ways = ways_from(alloc, &torus, tile)?;
-        let ports = router_ports(alloc, &torus, tile, depth)?;
+        let ports = router_ports(&torus, tile, depth);
         Ok(Router {
             torus,
             tile,
-            latches,
-            owners,
-            ways,
+            latches: Latches::new(count),
+            owners: Owners::new(count),
+            targets: filled(0, count),
             ports,
+            ways,
         })
     }
 }
 
 impl<A: Allocator> Router<A> {
-    /// The output to which the flit of an input may go; None where no output is its own or free.
-    #[inline(never)]
-    fn output_for(&self, input: u32, flit: u64) -> Option<u32>
-        requires input { input < port_count (dims_of self.now.torus) }
-        requires flit { NamesTile self.now.torus flit }
-        ensures value { result
-            ≡ output_for self.now.torus self.now.tile self.now.agent.state input (head_of flit) }
-        ensures within { IfSome result (λ output. output < port_count (dims_of self.now.torus)) }
-    {
-        let Some(head) = head(flit) else {
-            return self.owners.output_of(input);
-        };
-        let output = onward(input, self.ways[head.destination as usize]);
-        let output = output_number(self.torus.dims(), head.class, output);
-        if self.owners.is_owned(output) {
-            None
-        } else {
-            Some(output)
-        }
-    }
-
     /// What a choice wants.
     #[inline(always)]
     fn wants(&self, choice: Choice) -> Option<Want>
         ensures value { result
             ≡ router_wants self.now.torus self.now.tile self.now.agent.state choice }
         ensures port { IfSome result (HasPort self.now.agent.ports) }
+        ensures kind { IfSome result (IsOfChoice choice) }
     {
         match choice {
             Choice::TakeFrom(input) => {
-                if (input as usize) < self.latches.len() && self.latches[input as usize].is_none() {
+                if (input as usize) < self.latches.count() && self.latches.flit(input).is_none() {
                     Some(Want::Take(input))
                 } else {
                     None
                 }
             }
             Choice::Put(input) => {
-                if (input as usize) < self.latches.len() {
-                    let flit = self.latches[input as usize]?;
+                if (input as usize) < self.latches.count() {
+                    let flit = self.latches.flit(input)?;
                     let output = self.output_for(input, flit)?;
                     Some(Want::Put(output, flit))
                 } else {
@@ -153,7 +113,7 @@ impl<A: Allocator> Router<A> {
                 }
             }
             Choice::CreditOf(output) => {
-                if (output as usize) < self.latches.len() {
+                if (output as usize) < self.latches.count() {
                     Some(Want::Credit(output))
                 } else {
                     None
@@ -186,6 +146,7 @@ impl<A: Allocator> Router<A> {
 
     /// Takes the word that the operation of a choice found. A head flit that is taken names a tile.
     #[inline(always)]
+    #[tactic(auto, using(crate::proofs::Latched::flit_learned))]
     pub fn absorb(&mut self, choice: Choice, got: u64) -> Stepped
         requires tried { IsSome
             (next_op (router_wants self.old.torus self.old.tile) self.old.agent choice) }
@@ -208,6 +169,7 @@ impl<A: Allocator> Router<A> {
     /// Tries a choice over a row, at once: performs its operation, if it has one, and takes the word
     /// found. Answers the operation by which the choice moved; None exactly where it is idle.
     #[inline(always)]
+    #[tactic(auto, using(crate::proofs::Latched::flit_tried))]
     pub fn attempt<B: Allocator>(&mut self, choice: Choice, row: &mut Vec<u64, B>) -> Option<WordOp>
         requires room { IfSome
             (next_op (router_wants self.old.torus self.old.tile) self.old.agent choice)
@@ -249,11 +211,13 @@ impl<A: Allocator> Router<A> {
     }
 
     /// What follows in the router once a want of a choice is granted.
+    #[inline(always)]
     fn note(&mut self, choice: Choice, want: Want, learned: u64)
         requires wanted { router_wants self.old.torus self.old.tile self.old.agent.state choice
             ≡ Some want }
         requires port { HasPort self.old.agent.ports want }
         requires flit { IsRoutable self.old.torus choice learned }
+        requires some { IsFlitOf choice learned }
         ensures { self.new
             ≡ router_with_agent self.old (record {
               state =
@@ -262,11 +226,8 @@ impl<A: Allocator> Router<A> {
             }) }
     {
         match (choice, want) {
-            (Choice::TakeFrom(input), _) => self.latches[input as usize] = Some(learned),
-            (Choice::Put(input), Want::Put(output, flit)) => {
-                self.latches[input as usize] = None;
-                self.owners.pass(input, output, is_tail(flit));
-            }
+            (Choice::TakeFrom(input), _) => self.latch(input, learned),
+            (Choice::Put(input), Want::Put(output, flit)) => self.pass(input, output, flit),
             _ => {}
         }
     }

@@ -13,4 +13,6 @@ mod schedules;
 #[cfg(test)]
 mod seats;
 #[cfg(test)]
+mod sleepers;
+#[cfg(test)]
 mod workers;

@@ -22,7 +22,7 @@ pub record IsRead {A : Type 0} (watch : Watch A) (call : Call) (id : ℕ) (reply
   pub on : IsIn watch.pending.items call
   pub number : call.id ≡ id
   pub here : (c : Call) → IsIn calls c ↔ (IsIn watch.pending.items c × (c.operation.address ≡ call.operation.address))
-  pub by : IsAnsweredBy id reply calls (states_of watch.words.items call.operation.address) new
+  pub by : IsAnsweredBy call reply calls (states_of watch.words.items call.operation.address) new
 
 pub is_read : {A : Type 0} (watch : Watch A) (call : Call) (id : ℕ) (reply : Reply) (p q calls cs : List Call)
     (v : Vec (State A) A) (ss : List (State A)) (new : List Config)
@@ -30,16 +30,16 @@ pub is_read : {A : Type 0} (watch : Watch A) (call : Call) (id : ℕ) (reply : R
     → v ≡ get_or watch.words.items call.operation.address v → call.operation.address < length watch.words.items
     → IsIn p call × (call.id ≡ id)
     → ((c : Call) → IsIn calls c ↔ (IsIn q c × (c.operation.address ≡ call.operation.address)))
-    → IsAnsweredBy id reply cs (configs_of ss) new → IsRead watch call id reply calls new
+    → IsAnsweredBy call reply cs (configs_of ss) new → IsRead watch call id reply calls new
 is_read {A} watch call id reply p q calls cs v ss new same also listed items read inside on here by = record {
   on = subst (λ (xs : List Call). IsIn xs call) same on.0;
   number = on.1;
   here = subst
       (λ (xs : List Call). (c : Call) → IsIn calls c ↔ (IsIn xs c × (c.operation.address ≡ call.operation.address)))
       also here;
-  by = subst (λ (xs : List Config). IsAnsweredBy id reply calls xs new)
+  by = subst (λ (xs : List Config). IsAnsweredBy call reply calls xs new)
       (ap (λ (xs : List (State A)). configs_of xs) items ∙ states_read watch.words.items call.operation.address v inside read)
-      (subst (λ (xs : List Call). IsAnsweredBy id reply xs (configs_of ss) new) listed by);
+      (subst (λ (xs : List Call). IsAnsweredBy call reply xs (configs_of ss) new) listed by);
 }
 
 some_config : {A : Type 0} (states : List (State A)) → 0 < length states → (c : Config) × IsIn (configs_of states) c

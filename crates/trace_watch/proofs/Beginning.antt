@@ -8,7 +8,8 @@ use Rattle.trace_laws.specs.Locality.{IsOrderOn}
 use Rattle.trace_laws.specs.Configs.{IsIn}
 use Rattle.trace_watch.specs.declared.state.State.{State}
 use Rattle.trace_watch.specs.States.{Config, configs_of}
-use Rattle.trace_watch.specs.Known.{Explains, Knows, ArePending}
+use Rattle.trace_watch.specs.Named.{named_config}
+use Rattle.trace_watch.specs.Known.{Explains, IsExplained, Knows, ArePending}
 use Rattle.trace_watch.specs.Follows.{Tracks, states_of}
 use Rattle.trace_watch.proofs.Events.{trace_none}
 
@@ -26,7 +27,8 @@ nothing_on opening w = record {
   replies = λ i x c r h k. absurd (let e : None ≡ Some c = h in cc);
 }
 
-nothing_explained : (opening : List ℕ) (w : ℕ) → Explains opening [] w [] (first_config (get_or opening w 0))
+nothing_explained : (opening : List ℕ) (w : ℕ)
+    → Explains opening [] w [] (named_config (first_config (get_or opening w 0)) [])
 nothing_explained opening w = record {
   legal = nothing_on opening w;
   word = refl;
@@ -35,10 +37,26 @@ nothing_explained opening w = record {
   all = λ x c h never. absurd (let e : None ≡ Some c = h in cc);
 }
 
+first_explained : (opening : List ℕ) (w : ℕ) → IsExplained opening [] w (first_config (get_or opening w 0))
+first_explained opening w = record {
+  fits = ([], tt);
+  explained = λ calls m. ([], nothing_explained opening w);
+  issued = λ e on. absurd (let h : None ≡ Some e = on.1 in cc);
+}
+
 knows_none : (opening : List ℕ) (w : ℕ) → Knows opening [] w (first_config (get_or opening w 0) ∷ [])
 knows_none opening w = record {
-  sound = λ c on. ([], subst (λ (d : Config). Explains opening [] w [] d) (one c on.0 on.1) (nothing_explained opening w));
-  complete = λ order o. (0, first_config (get_or opening w 0), (0, refl), nothing_explained opening w);
+  sound = λ c on. subst (λ (d : Config). IsExplained opening [] w d) (one c on.0 on.1) (first_explained opening w);
+  complete = λ order o. (
+    0,
+    record {
+      config = first_config (get_or opening w 0);
+      on = (0, refl);
+      calls = [];
+      matches = tt;
+      explains = nothing_explained opening w;
+    },
+  );
 }
   where
     one : (c : Config) (k : ℕ) → slice_get (first_config (get_or opening w 0) ∷ []) k ≡ Some c

@@ -8,17 +8,19 @@ use Rattle.std.proofs.lemmas.Bool.{cases_eq}
 use Rattle.std.proofs.lemmas.Nat.{or_lt}
 use Rattle.std.proofs.Math.Nat.{mod-lt}
 use Rattle.std.proofs.lemmas.Nat.Bits.{bit_at_set_same, bit_at_set_other, bit_at-zero, same_from_bits_below}
+use Rattle.packet.specs.declared.kinds.Op.{Op}
+use Rattle.packet.specs.declared.kinds.Reply.{Reply}
 use Rattle.trace_laws.proofs.Lists.{get_push_cases, get_append_left, get_push, get_within, within_length, get_set_same, get_set_other}
 use Rattle.trace_laws.specs.Configs.{IsIn}
 use Rattle.trace_laws.proofs.Bits.{bit_cases, not_both}
 use Rattle.trace_watch.specs.declared.state.Effect.{Effect}
 use Rattle.trace_watch.specs.declared.index.Index.{Index}
-use Rattle.trace_watch.specs.States.{Config, IsLike, IsAmong, config_of, configs_of}
+use Rattle.trace_watch.specs.States.{AreCovered, Config, Covers, IsAmong, config_of, configs_of, rank, told_word}
 use Rattle.trace_watch.specs.Crowds.{AreUnlike, IsCrowd}
 use Rattle.trace_watch.specs.Chains.{IsMask, IsChain, AreChained, IsIndexed, place_of, spot_of}
 use Rattle.trace_watch.specs.declared.state.State.{State}
-use Rattle.trace_watch.proofs.Growth.{like_self, goes_back, goes_push, get_config, configs_push, long_configs}
-use Rattle.trace_watch.proofs.Crowding.{config_at}
+use Rattle.trace_watch.proofs.Growth.{goes_back, goes_push, get_config, configs_push, long_configs}
+use Rattle.trace_watch.proofs.Loops.{config_at}
 
 -- the bits of effects, up to place i
 pub record Marking (effects : List Effect) (i mask : ℕ) : Type 0 where
@@ -77,9 +79,9 @@ marking_all effects i mask all was = record {
   only = was.only;
 }
 
--- configurations that say the same have one mask
-pub one_mask : (c d : Config) (m n : ℕ) → IsLike c d → IsMask c.effects m → IsMask d.effects n → m ≡ n
-one_mask c d m n like a b = same_from_bits_below 64 m n a.low b.low (λ i l. same i)
+-- effects have one mask
+pub one_mask : (es : List Effect) (m n : ℕ) → IsMask es m → IsMask es n → m ≡ n
+one_mask es m n a b = same_from_bits_below 64 m n a.low b.low (λ i l. same i)
   where
     same : (i : ℕ) → bit_at m i ≡ bit_at n i
     same i = ⊎_elim {C = bit_at m i ≡ bit_at n i}
@@ -87,12 +89,12 @@ one_mask c d m n like a b = same_from_bits_below 64 m n a.low b.low (λ i l. sam
         (λ (y : bit_at n i ≡ 0). z ∙ sym y)
         (λ (o : bit_at n i ≡ 1).
         let e = b.only i o in
-        absurd (not_both (bit_at m i) z (subst (λ (k : ℕ). bit_at m k ≡ 1) e.2 (a.marked e.0 ((like.effects e.0).1 e.1)))))
+        absurd (not_both (bit_at m i) z (subst (λ (k : ℕ). bit_at m k ≡ 1) e.2 (a.marked e.0 e.1))))
         (bit_cases n i))
         (λ (o : bit_at m i ≡ 1). ⊎_elim {C = bit_at m i ≡ bit_at n i}
         (λ (y : bit_at n i ≡ 0).
         let e = a.only i o in
-        absurd (not_both (bit_at n i) y (subst (λ (k : ℕ). bit_at n k ≡ 1) e.2 (b.marked e.0 ((like.effects e.0).0 e.1)))))
+        absurd (not_both (bit_at n i) y (subst (λ (k : ℕ). bit_at n k ≡ 1) e.2 (b.marked e.0 e.1))))
         (λ (p : bit_at n i ≡ 1). o ∙ sym p)
         (bit_cases n i))
         (bit_cases m i)
@@ -183,7 +185,8 @@ chained_more heads links found word mask head c later more some is masked there 
     fresh d m h on is_mask e =
         let one : c ≡ d = cc in
         let same_word : d.word ≡ word = ap (λ (x : Config). x.word) (sym one) ∙ is in
-        let same_mask : m ≡ mask = one_mask d c m mask (subst (λ (x : Config). IsLike d x) (sym one) (like_self d)) is_mask masked in
+        let same_mask : m ≡ mask = one_mask c.effects m mask
+        (subst (λ (x : Config). IsMask x.effects m) (sym one) is_mask) masked in
         let same : place_of (length heads) d.word m ≡ p =
         ap (λ (w : ℕ). place_of (length heads) w m) same_word ∙ ap (λ (k : ℕ). place_of (length heads) word k) same_mask in
         get_set_same heads p head n h there (read (place_of (length heads) d.word m) h e same)
@@ -213,7 +216,7 @@ unlike_push found c none was i j a b l m h k like = ⊎_elim {C = ⊥}
     let n = get_within found j b old in
     was i j a b l n (goes_back found (found ++ c ∷ []) i a (goes_push found c) (omega arith) h) old like)
     (λ (new : (j ≡ length found) × (c ≡ b)).
-    none (a, (i, goes_back found (found ++ c ∷ []) i a (goes_push found c) (omega (arith, l, new.0)) h), subst (λ (d : Config). IsLike a d) (sym new.1) like))
+    none (a, (i, goes_back found (found ++ c ∷ []) i a (goes_push found c) (omega (arith, l, new.0)) h), subst (λ (d : Config). Covers a d) (sym new.1) like))
     (get_push_cases found c j b k)
 
 -- one more is found
@@ -232,19 +235,50 @@ indexed_push {A} index later old new c none places long chained pushed was =
       unlike = unlike_push old c none was.unlike;
     })
 
--- what says the same has the mask
-like_mask : (c d : Config) (mask : ℕ) → IsLike c d → IsMask d.effects mask → IsMask c.effects mask
+-- covered effects have the same bits
+same_spot : (e f : Effect) → e.op ≡ f.op → e.reply ≡ f.reply → spot_of e ≡ spot_of f
+same_spot e f o r =
+    ap (λ (p : Op). (rank p + told_word e.reply % 64 * 11) % 64) o
+    ∙ ap (λ (q : Reply). (rank f.op + told_word q % 64 * 11) % 64) r
+
+covered_spot : (es fs : List Effect) (n : ℕ) (e : Effect) → AreCovered es fs → slice_get es n ≡ Some e
+    → (f : Effect) × IsIn fs f × (spot_of e ≡ spot_of f)
+covered_spot [] fs n e a h = absurd (let x : None ≡ Some e = h in cc)
+covered_spot (d ∷ es) [] n e a h = absurd a
+covered_spot (d ∷ es) (f ∷ fs) zero e a h =
+    let same : d ≡ e = cc in
+    (f, (zero, refl), subst (λ (x : Effect). spot_of x ≡ spot_of f) same (same_spot d f a.0 a.1))
+covered_spot (d ∷ es) (f ∷ fs) (suc n) e a h =
+    let r = covered_spot es fs n e a.3 h in (r.0, (suc r.1.0, r.1.1), r.2)
+
+covering_spot : (es fs : List Effect) (n : ℕ) (f : Effect) → AreCovered es fs → slice_get fs n ≡ Some f
+    → (e : Effect) × IsIn es e × (spot_of e ≡ spot_of f)
+covering_spot es [] n f a h = absurd (let x : None ≡ Some f = h in cc)
+covering_spot [] (d ∷ fs) n f a h = absurd a
+covering_spot (e ∷ es) (d ∷ fs) zero f a h =
+    let same : d ≡ f = cc in
+    (e, (zero, refl), subst (λ (x : Effect). spot_of e ≡ spot_of x) same (same_spot e d a.0 a.1))
+covering_spot (e ∷ es) (d ∷ fs) (suc n) f a h =
+    let r = covering_spot es fs n f a.3 h in (r.0, (suc r.1.0, r.1.1), r.2)
+
+-- what tells of as much has the mask
+like_mask : (c d : Config) (mask : ℕ) → Covers c d → IsMask d.effects mask → IsMask c.effects mask
 like_mask c d mask like is = record {
   low = is.low;
-  marked = λ e on. is.marked e ((like.effects e).0 on);
-  only = λ b one. let e = is.only b one in (e.0, (like.effects e.0).1 e.1, e.2);
+  marked = λ e on.
+      let r = covered_spot c.effects d.effects on.0 e like.effects on.1 in
+      subst (λ (b : ℕ). bit_at mask b ≡ 1) (sym r.2) (is.marked r.0 r.1);
+  only = λ b one.
+      let e = is.only b one in
+      let r = covering_spot c.effects d.effects e.1.0 e.0 like.effects e.1.1 in
+      (r.0, r.1, r.2 ∙ e.2);
 }
 
--- whatever says the same as a configuration is in the chain of its place
+-- whatever tells of as much as a configuration is in the chain of its place
 pub chain_begun : (heads links : List ℕ) (found : List Config) (d : Config) (count p h : ℕ)
     → count ≡ length heads → ((mask : ℕ) × IsMask d.effects mask × (p ≡ place_of count d.word mask))
     → slice_get heads p ≡ Some h → length links ≡ length found → AreChained heads links found
-    → (i : ℕ) (c : Config) → slice_get found i ≡ Some c → IsLike c d → (way : List ℕ) × IsChain links h i way
+    → (i : ℕ) (c : Config) → slice_get found i ≡ Some c → Covers c d → (way : List ℕ) × IsChain links h i way
 chain_begun heads links found d count p h sized masked there long are i c on like =
     are.chained i c masked.0 h (let l = get_within found i c on in omega arith) on
     (like_mask c d masked.0 like masked.1)
@@ -252,23 +286,23 @@ chain_begun heads links found d count p h sized masked there long are i c on lik
     ∙ (ap (λ (k : ℕ). slice_get heads (place_of k d.word masked.0)) (sym sized)
     ∙ (ap (λ (k : ℕ). slice_get heads k) (sym masked.2) ∙ there)))
 
--- and behind a state that doesn't say the same
+-- and behind a state that doesn't tell of as much
 pub chain_skip : {A : Type 0} (links : List ℕ) (found : List (State A)) (d : Config) (s : State A) (next at l : ℕ)
-    → next ≡ at + 1 → slice_get found at ≡ Some s → (IsLike (config_of s) d → ⊥) → slice_get links at ≡ Some l
-    → ((i : ℕ) (c : Config) → slice_get (configs_of found) i ≡ Some c → IsLike c d
+    → next ≡ at + 1 → slice_get found at ≡ Some s → (Covers (config_of s) d → ⊥) → slice_get links at ≡ Some l
+    → ((i : ℕ) (c : Config) → slice_get (configs_of found) i ≡ Some c → Covers c d
     → (way : List ℕ) × IsChain links next i way)
-    → (i : ℕ) (c : Config) → slice_get (configs_of found) i ≡ Some c → IsLike c d
+    → (i : ℕ) (c : Config) → slice_get (configs_of found) i ≡ Some c → Covers c d
     → (way : List ℕ) × IsChain links l i way
 chain_skip {A} links found d s next at l is there never linked was i c on like =
     let r = was i c on like in
     chain_on links at l i r.0 linked
-    (λ e. never (subst (λ (x : Config). IsLike x d)
+    (λ e. never (subst (λ (x : Config). Covers x d)
     (sym (config_at found at s c there (ap (λ (k : ℕ). slice_get (configs_of found) k) (sym e) ∙ on))) like))
     (subst (λ (n : ℕ). IsChain links n i r.0) is r.1)
 
--- a chain that has ended has none that says the same
+-- a chain that has ended has none that tells of as much
 pub chain_ended : (links : List ℕ) (found : List Config) (d : Config) (next : ℕ) → next ≡ 0
-    → ((i : ℕ) (c : Config) → slice_get found i ≡ Some c → IsLike c d → (way : List ℕ) × IsChain links next i way)
+    → ((i : ℕ) (c : Config) → slice_get found i ≡ Some c → Covers c d → (way : List ℕ) × IsChain links next i way)
     → IsAmong found d → ⊥
 chain_ended links found d next none was among =
     let r = was among.1.0 among.0 among.1.1 among.2 in

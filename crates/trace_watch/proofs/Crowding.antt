@@ -12,92 +12,67 @@ use Rattle.trace_watch.specs.declared.state.State.{State}
 use Rattle.trace_watch.specs.declared.watch.Watch.{Watch}
 use Rattle.trace_watch.specs.declared.watch.Full.{Full}
 use Rattle.trace_watch.specs.declared.watch.Full.TheVariants.{Memory, Configurations}
-use Rattle.trace_watch.specs.States.{Config, IsLike, config_of, configs_of}
+use Rattle.trace_watch.specs.States.{Config, config_of, configs_of}
+use Rattle.trace_watch.specs.Matchings.{IsPart}
 use Rattle.trace_watch.specs.Known.{ArePendingOn}
-use Rattle.trace_watch.specs.Closed.{IsOneMore, Expands, Copies}
-use Rattle.trace_watch.specs.Crowds.{AreUnlike, IsCrowd, GivesUp, IsOverfull}
+use Rattle.trace_watch.specs.Closed.{IsOneMore, Expands}
+use Rattle.trace_watch.specs.Crowds.{IsCrowd, GivesUp, IsOverfull}
 use Rattle.trace_watch.specs.Follows.{Tracks, AnswersMany, TellsFull, states_of}
-use Rattle.trace_watch.proofs.Growth.{one_in, get_config, long_configs, Expanding, Copying, copying_more, Closing}
+use Rattle.trace_watch.proofs.Growth.{one_in, get_config, Expanding, Catching, Closing, added_sound}
 use Rattle.trace_watch.proofs.Watching.{states_read}
 
--- what stands at a place of states says what stands there of their configurations
-pub config_at : {A : Type 0} (states : List (State A)) (k : ℕ) (s : State A) (c : Config)
-    → slice_get states k ≡ Some s → slice_get (configs_of states) k ≡ Some c → config_of s ≡ c
-config_at states k s c there is = let e = get_config states k s there in cc
-
--- a configuration has an effect that the other one doesn't have
-pub more_unlike : (c d : Config) (es fs : List Effect) → es ≡ c.effects → fs ≡ d.effects
-    → ((e : Effect) × IsIn es e × (IsIn fs e → ⊥)) → IsLike c d → ⊥
-more_unlike c d es fs here there has like =
-    has.2 (subst (λ (gs : List Effect). IsIn gs has.0) (sym there)
-    ((like.effects has.0).0 (subst (λ (gs : List Effect). IsIn gs has.0) here has.1)))
-
-pub less_unlike : (c d : Config) (es fs : List Effect) → es ≡ d.effects → fs ≡ c.effects
-    → ((e : Effect) × IsIn es e × (IsIn fs e → ⊥)) → IsLike c d → ⊥
-less_unlike c d es fs here there has like =
-    has.2 (subst (λ (gs : List Effect). IsIn gs has.0) (sym there)
-    ((like.effects has.0).1 (subst (λ (gs : List Effect). IsIn gs has.0) here has.1)))
-
--- each effect of either is one of the other
-pub both_like : (c d : Config) (es fs gs hs : List Effect) → es ≡ c.effects → fs ≡ d.effects → gs ≡ d.effects
-    → hs ≡ c.effects → c.word ≡ d.word → ((k : ℕ) (e : Effect) → slice_get es k ≡ Some e → IsIn fs e)
-    → ((k : ℕ) (e : Effect) → slice_get gs k ≡ Some e → IsIn hs e) → IsLike c d
-both_like c d es fs gs hs here there back again word in_d in_c = record {
-  word = word;
-  effects = λ e. (
-    (λ on.
-        let h : IsIn es e = subst (λ (xs : List Effect). IsIn xs e) (sym here) on in
-        subst (λ (xs : List Effect). IsIn xs e) there (in_d h.0 e h.1)),
-    (λ on.
-        let h : IsIn gs e = subst (λ (xs : List Effect). IsIn xs e) (sym back) on in
-        subst (λ (xs : List Effect). IsIn xs e) again (in_c h.0 e h.1)),
-  );
-}
-
 -- an operation takes effect, and there are too many
-pub one_gives_up : (at : ℕ) (call : Call) (bound : ℕ) (old new : List Config) → Expands at (call ∷ []) old new
-    → IsCrowd bound new → GivesUp (call ∷ []) bound old new
-one_gives_up at call bound old new expands crowd = record { sound = expands.sound; crowd = crowd }
+pub one_gives_up : (at : ℕ) (calls : List Call) (call : Call) (bound : ℕ) (old new : List Config)
+    → Expands at calls (call ∷ []) old new → IsCrowd bound new → GivesUp calls (call ∷ []) bound old new
+one_gives_up at calls call bound old new expands crowd = record { sound = expands.sound; crowd = crowd }
 
-pub more_give_up : (at : ℕ) (calls : List Call) (bound : ℕ) (old : List Config) (i : ℕ) (new later : List Config)
-    (call : Call) → slice_get calls i ≡ Some call → GivesUp (call ∷ []) bound new later
-    → Expanding at calls old i new → GivesUp calls bound old later
-more_give_up at calls bound old i new later call here next was = record {
-  sound = λ all among opening trace w inside pending explained.
-      next.sound all (λ c on. subst (λ (d : Call). IsIn all d) (one_in call c on) (among call (i, here))) opening trace w
-      inside pending (was.sound all among opening trace w inside pending explained);
+pub more_give_up : (at : ℕ) (calls newest : List Call) (bound : ℕ) (old : List Config) (i : ℕ) (new later : List Config)
+    (call : Call) → slice_get newest i ≡ Some call → GivesUp calls (call ∷ []) bound new later
+    → Expanding at calls newest old i new → GivesUp calls newest bound old later
+more_give_up at calls newest bound old i new later call here next was = record {
+  sound = λ all among also opening trace w inside pending explained.
+      next.sound all among (λ c on. subst (λ (d : Call). IsIn all d) (one_in call c on) (also call (i, here))) opening trace w
+      inside pending (was.sound all among also opening trace w inside pending explained);
   crowd = next.crowd;
 }
 
--- copies are too many
-pub copies_overfull : (bound : ℕ) (old : List Config) (i : ℕ) (new later : List Config) (c : Config)
-    → slice_get old i ≡ Some c → IsOneMore new c later → IsCrowd bound later → Copying old i new
-    → (calls : List Call) → IsOverfull calls bound old
-copies_overfull bound old i new later c here more crowd was calls = record {
-  found = later;
-  sound = λ opening trace w inside pending explained d on.
-      explained d ((copying_more old i new later c here more was).from d on);
+pub catching_gives_up : (from : ℕ) (calls newest : List Call) (bound : ℕ) (begun : List Config) (next : ℕ)
+    (found later : List Config) → GivesUp calls newest bound found later → Catching from calls newest begun next found
+    → GivesUp calls newest bound begun later
+catching_gives_up from calls newest bound begun next found later up was = record {
+  sound = λ all among also opening trace w inside pending explained.
+      up.sound all among also opening trace w inside pending
+      (was.sound all among also opening trace w inside pending explained);
+  crowd = up.crowd;
+}
+
+-- with one more of the configurations there are too many
+pub add_overfull : {A : Type 0} (calls newest : List Call) (bound : ℕ) (states : List (State A)) (i : ℕ)
+    (found more : List (State A)) (s copy : State A) → slice_get states i ≡ Some s → config_of copy ≡ config_of s
+    → IsOneMore (configs_of found) (config_of copy) (configs_of more) → IsCrowd bound (configs_of more)
+    → Closing calls newest (configs_of states) i (configs_of found)
+    → (all : List Call) → IsPart calls all → IsPart newest all → IsOverfull all bound (configs_of states)
+add_overfull calls newest bound states i found more s copy there same one crowd was all among also = record {
+  found = configs_of more;
+  sound = added_sound calls newest (configs_of states) i (configs_of found) (configs_of more) (config_of copy)
+      (get_config states i s there ∙ ap (λ (c : Config). Some c) (sym same)) one was all among also;
   crowd = crowd;
 }
 
-pub copies_full : {A : Type 0} (bound : ℕ) (states : List (State A)) (i : ℕ) (found later : List (State A))
-    (s copy : State A) → slice_get states i ≡ Some s → config_of copy ≡ config_of s
-    → IsOneMore (configs_of found) (config_of copy) (configs_of later) → IsCrowd bound (configs_of later)
-    → Copying (configs_of states) i (configs_of found)
-    → (calls : List Call) → IsOverfull calls bound (configs_of states)
-copies_full bound states i found later s copy there same more crowd was =
-    copies_overfull bound (configs_of states) i (configs_of found) (configs_of later) (config_of copy)
-    (get_config states i s there ∙ ap (λ (c : Config). Some c) (sym same)) more crowd was
-
--- what open operations lead to is too many
-pub closing_overfull : (id : ℕ) (calls : List Call) (bound : ℕ) (states begun : List Config) (next : ℕ)
-    (found later : List Config) → Copies states begun → GivesUp calls bound found later
-    → Closing id calls begun next found → IsOverfull calls bound states
-closing_overfull id calls bound states begun next found later copies up was = record {
-  found = later;
+-- with what it leads to
+pub close_overfull : {A : Type 0} (calls newest : List Call) (bound : ℕ) (states : List (State A)) (i : ℕ)
+    (found more later : List (State A)) (s copy : State A) → slice_get states i ≡ Some s → config_of copy ≡ config_of s
+    → IsOneMore (configs_of found) (config_of copy) (configs_of more)
+    → GivesUp calls newest bound (configs_of more) (configs_of later)
+    → Closing calls newest (configs_of states) i (configs_of found)
+    → (all : List Call) → IsPart calls all → IsPart newest all → IsOverfull all bound (configs_of states)
+close_overfull calls newest bound states i found more later s copy there same one up was all among also = record {
+  found = configs_of later;
   sound = λ opening trace w inside pending explained.
-      up.sound calls (λ c on. on) opening trace w inside pending
-      (was.sound opening trace w inside pending (λ c on. explained c (copies.from c on)));
+      up.sound all among also opening trace w inside pending
+      (added_sound calls newest (configs_of states) i (configs_of found) (configs_of more) (config_of copy)
+      (get_config states i s there ∙ ap (λ (c : Config). Some c) (sym same)) one was all among also
+      opening trace w inside pending explained);
   crowd = up.crowd;
 }
 

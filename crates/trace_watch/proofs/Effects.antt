@@ -13,13 +13,12 @@ use Rattle.trace_laws.specs.Locality.{IsOrderOn}
 use Rattle.trace_laws.proofs.Lists.{get_push_cases, get_append_left, get_push, get_within}
 use Rattle.trace_laws.proofs.Memory.{word_changed}
 use Rattle.trace_laws.specs.Configs.{IsIn}
-use Rattle.trace_watch.specs.declared.state.Effect.{Effect}
-use Rattle.trace_watch.specs.States.{Config, HasEffect, IsLike, IsWithout, after}
+use Rattle.trace_watch.specs.Named.{NamedConfig, NamedEffect, HasEffect, IsLike, IsWithout, named_after}
 use Rattle.trace_watch.specs.Known.{IsReplied, Explains, IsPending}
 use Rattle.trace_watch.proofs.Events.{issue_up, answered_up, answer_cases, same_number, issue_down}
 
 -- what says the same is explained by the same order
-pub explains_like : (opening : List ℕ) (t : List Event) (w : ℕ) (order : List Call) (c d : Config) → IsLike d c
+pub explains_like : (opening : List ℕ) (t : List Event) (w : ℕ) (order : List Call) (c d : NamedConfig) → IsLike d c
     → Explains opening t w order c → Explains opening t w order d
 explains_like opening t w order c d like x = record {
   legal = x.legal;
@@ -30,7 +29,7 @@ explains_like opening t w order c d like x = record {
 }
 
 -- an operation's reply stays what it was in a longer order
-replied_later : (opening : List ℕ) (order : List Call) (b : Call) (e : Effect) → IsReplied opening order e
+replied_later : (opening : List ℕ) (order : List Call) (b : Call) (e : NamedEffect) → IsReplied opening order e
     → IsReplied opening (order ++ b ∷ []) e
 replied_later opening order b e r =
     let short = get_within order r.at r.call r.there in
@@ -44,9 +43,9 @@ replied_later opening order b e r =
     }
 
 -- an open operation takes effect
-pub explains_after : (opening : List ℕ) (t : List Event) (w : ℕ) (order : List Call) (c : Config) (b : Call)
+pub explains_after : (opening : List ℕ) (t : List Event) (w : ℕ) (order : List Call) (c : NamedConfig) (b : Call)
     → w < length opening → IsPending t b → b.operation.address ≡ w → (HasEffect c b.id → ⊥)
-    → Explains opening t w order c → Explains opening t w (order ++ b ∷ []) (after c b)
+    → Explains opening t w order c → Explains opening t w (order ++ b ∷ []) (named_after c b)
 explains_after opening t w order c b inside waits here none x =
     let o = x.legal in
     let apart : (p : ℕ) (d : Call) → slice_get order p ≡ Some d → d.id ≢ b.id = λ p d h e.
@@ -95,7 +94,7 @@ explains_after opening t w order c b inside waits here none x =
           (λ (new : (p ≡ length order) × (b ≡ d)). absurd (silent d i r new.1 told))
           (get_push_cases order b p d h);
     } in
-    let effect : Effect = record { id = b.id; reply = reply_to b.operation.op c.word } in
+    let effect : NamedEffect = record { id = b.id; reply = reply_to b.operation.op c.word } in
     let told : IsReplied opening (order ++ b ∷ []) effect = record {
       at = length order;
       call = b;
@@ -112,14 +111,14 @@ explains_after opening t w order c b inside waits here none x =
       pending = λ e on a. ⊎_elim {C = ⊥}
           (λ (old : slice_get c.effects on.0 ≡ Some e). x.pending e (on.0, old) a)
           (λ (new : (on.0 ≡ length c.effects) × (effect ≡ e)).
-          waits.unanswered (subst (λ (f : Effect). IsAnswered t f.id) (sym new.1) a))
+          waits.unanswered (subst (λ (f : NamedEffect). IsAnswered t f.id) (sym new.1) a))
           (get_push_cases c.effects effect on.0 e on.1);
       replied = λ e on. ⊎_elim {C = IsReplied opening (order ++ b ∷ []) e}
           (λ (old : slice_get c.effects on.0 ≡ Some e). replied_later opening order b e (x.replied e (on.0, old)))
           (λ (new : (on.0 ≡ length c.effects) × (effect ≡ e)).
-          subst (λ (f : Effect). IsReplied opening (order ++ b ∷ []) f) new.1 told)
+          subst (λ (f : NamedEffect). IsReplied opening (order ++ b ∷ []) f) new.1 told)
           (get_push_cases c.effects effect on.0 e on.1);
-      all = λ p d h never. ⊎_elim {C = HasEffect (after c b) d.id}
+      all = λ p d h never. ⊎_elim {C = HasEffect (named_after c b) d.id}
           (λ (old : slice_get order p ≡ Some d).
           let r = x.all p d old never in
           (r.0, (r.1.0, get_append_left c.effects (effect ∷ []) r.1.0 r.0 r.1.1), r.2))
@@ -129,8 +128,8 @@ explains_after opening t w order c b inside waits here none x =
     }
 
 -- an operation that took effect is answered with its reply
-pub explains_answer : (words : ℕ) (opening : List ℕ) (t : List Event) (w : ℕ) (order : List Call) (c d : Config)
-    (e : Effect) (id : ℕ) (reply : Reply)
+pub explains_answer : (words : ℕ) (opening : List ℕ) (t : List Event) (w : ℕ) (order : List Call) (c d : NamedConfig)
+    (e : NamedEffect) (id : ℕ) (reply : Reply)
     → IsTrace words (t ++ Answer id reply ∷ []) → IsIn c.effects e → e.id ≡ id → e.reply ≡ reply
     → IsWithout id c d → Explains opening t w order c → Explains opening (t ++ Answer id reply ∷ []) w order d
 explains_answer words opening t w order c d e id reply is on number told less x =

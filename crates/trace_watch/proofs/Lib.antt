@@ -1,9 +1,14 @@
 pub mod Events
+pub mod Matched
+pub mod Covering
 pub mod Quiet
 pub mod Effects
+pub mod Steps
 pub mod Walk
 pub mod Sifting
 pub mod Growth
+pub mod Gathering
+pub mod Fitting
 pub mod Loops
 pub mod Beginning
 pub mod Watching

@@ -13,8 +13,13 @@ use Rattle.trace_laws.specs.Orders.{IsOn, memory_of}
 use Rattle.trace_laws.specs.Locality.{IsOrderOn}
 use Rattle.trace_laws.proofs.Issues.{one_issue, one_call}
 use Rattle.trace_laws.proofs.Lists.{get_push, get_within, get_take, take_get}
+use Rattle.trace_laws.specs.Configs.{IsIn}
+use Rattle.trace_watch.specs.declared.state.Effect.{Effect}
 use Rattle.trace_watch.specs.States.{Config}
-use Rattle.trace_watch.specs.Known.{Explains, Knows}
+use Rattle.trace_watch.specs.Matchings.{Fits, Matches, MayBe, Other}
+use Rattle.trace_watch.specs.Named.{NamedConfig, named_config}
+use Rattle.trace_watch.specs.Known.{Explains, IsExplained, IsOpenOn, IsPending, Knows, LeadsTo}
+use Rattle.trace_watch.proofs.Matched.{fits_weaken, weaken}
 use Rattle.trace_watch.proofs.Events.{issue_up, answer_up, answered_up, issue_cases, answer_cases, no_answer, same_call, issue_down}
 
 -- the event answers no operation on word w
@@ -31,7 +36,7 @@ quiet_answer words t w id reply at b is issue number other i c r h here e =
     other (ap (λ (d : Call). d.operation.address) (sym (one_call words t is i at c b h issue n)) ∙ here)
 
 -- what explained it still does
-pub explains_kept : (words : ℕ) (opening : List ℕ) (t : List Event) (w : ℕ) (e : Event) (order : List Call) (c : Config)
+pub explains_kept : (words : ℕ) (opening : List ℕ) (t : List Event) (w : ℕ) (e : Event) (order : List Call) (c : NamedConfig)
     → IsTrace words (t ++ e ∷ []) → IsQuiet t w e → Explains opening t w order c
     → Explains opening (t ++ e ∷ []) w order c
 explains_kept words opening t w e order c is quiet x =
@@ -190,21 +195,94 @@ take_of_take n p order = ⊎_elim {C = (m : ℕ) × (take n (take p order) ≡ t
     cases_le : (a b : ℕ) → (a ≤ b) ⊎ (b < a)
     cases_le a b = ⊎_elim {C = (a ≤ b) ⊎ (b < a)} (λ (l : b < a). inr l) (λ (g : a ≤ b). inl g) (cases_lt b a)
 
+-- fewer operations, where they are those that the effects may be of
+pub weaken_by : (P Q : Call → Type 0) (es : List Effect) (calls : List Call)
+    → ((c : Call) (e : Effect) → IsIn es e → MayBe e c → P c → Q c) → Matches P es calls → Matches Q es calls
+weaken_by P Q [] [] f m = tt
+weaken_by P Q [] (c ∷ cs) f m = absurd m
+weaken_by P Q (e ∷ es) [] f m = absurd m
+weaken_by P Q (e ∷ es) (c ∷ cs) f m = (
+  f c e (zero, refl) m.1 m.0,
+  m.1,
+  weaken_by (Other P c.id) (Other Q c.id) es cs
+      (λ d g on may o. (f d g (suc on.0, on.1) may o.0, o.1)) m.2,
+)
+
+-- what was open on a word still is
+pub open_up : (t : List Event) (w : ℕ) (e : Event) (c : Call) → IsQuiet t w e → IsOpenOn t w c
+    → IsOpenOn (t ++ e ∷ []) w c
+open_up t w e c quiet is =
+    let issue = is.pending.issued in
+    record {
+      pending = record {
+        issued = (issue.0, issue_up t e issue.0 c issue.1);
+        unanswered = λ a. ⊎_elim {C = ⊥}
+            (λ (old : TraceAnswersAt t a.0 c.id a.1). is.pending.unanswered (a.0, a.1, old))
+            (λ (new : (a.0 ≡ length t) × (e ≡ Answer c.id a.1)). quiet issue.0 c a.1 issue.1 is.here new.1)
+            (answer_cases t e a.0 c.id a.1 a.2);
+      };
+      here = is.here;
+    }
+
+-- and what is open was, unless it is too new
+pub open_down : (words : ℕ) (t : List Event) (w : ℕ) (e : Event) (c : Call) (n i : ℕ) (a : Call)
+    → IsTrace words (t ++ e ∷ []) → TraceIssuesAt t i a → n ≤ a.id → c.id ≤ n → IsOpenOn (t ++ e ∷ []) w c
+    → IsOpenOn t w c
+open_down words t w e c n i a is issue low early waits =
+    let there = waits.pending.issued in
+    ⊎_elim {C = IsOpenOn t w c}
+    (λ (old : TraceIssuesAt t there.0 c). record {
+      pending = record { issued = (there.0, old); unanswered = λ b. waits.pending.unanswered (answered_up t e c.id b) };
+      here = waits.here;
+    })
+    (λ (new : (there.0 ≡ length t) × (e ≡ Issue c)).
+    let l = get_within t i (Issue a) issue in
+    let at = new.0 in
+    let less = is.rising i there.0 a c (omega (arith, l, at)) (issue_up t e i a issue) there.1 in
+    absurd (omega (arith, less, low, early)))
+    (issue_cases t e there.0 c there.1)
+
+explained_kept : (words : ℕ) (opening : List ℕ) (t : List Event) (w : ℕ) (e : Event) (c : Config)
+    → IsTrace words (t ++ e ∷ []) → IsQuiet t w e → IsExplained opening t w c → IsExplained opening (t ++ e ∷ []) w c
+explained_kept words opening t w e c is quiet x =
+    let more = t ++ e ∷ [] in
+    record {
+      fits = fits_weaken (IsOpenOn t w) (IsOpenOn more w) (λ d o. open_up t w e d quiet o) c.effects x.fits;
+      explained = λ calls m.
+          let old = weaken_by (IsOpenOn more w) (IsOpenOn t w) c.effects calls
+          (λ d f on may o.
+          let q = x.issued f on in
+          open_down words t w e d f.newest q.0 q.1 is q.2 q.3 may.early o) m in
+          let r = x.explained calls old in
+          (r.0, explains_kept words opening t w e r.0 (named_config c calls) is quiet r.1);
+      issued = λ f on. let q = x.issued f on in (q.0, q.1, issue_up t e q.0 q.1 q.2, q.3);
+    }
+
+leads_kept : (words : ℕ) (opening : List ℕ) (t : List Event) (w : ℕ) (e : Event) (order : List Call)
+    (configs : List Config) → IsTrace words (t ++ e ∷ []) → IsQuiet t w e → LeadsTo opening t w order configs
+    → LeadsTo opening (t ++ e ∷ []) w order configs
+leads_kept words opening t w e order configs is quiet l = record {
+  config = l.config;
+  on = l.on;
+  calls = l.calls;
+  matches = weaken (IsOpenOn t w) (IsOpenOn (t ++ e ∷ []) w) (λ d o. open_up t w e d quiet o) l.config.effects l.calls
+      l.matches;
+  explains = explains_kept words opening t w e order (named_config l.config l.calls) is quiet l.explains;
+}
+
 -- what is known of a word, after an issue
 pub knows_issue : (words : ℕ) (opening : List ℕ) (t : List Event) (w : ℕ) (b : Call) (configs : List Config)
     → IsTrace words (t ++ Issue b ∷ []) → Knows opening t w configs → Knows opening (t ++ Issue b ∷ []) w configs
 knows_issue words opening t w b configs is k = record {
-  sound = λ c on.
-      let r = k.sound c on in
-      (r.0, explains_kept words opening t w (Issue b) r.0 c is (quiet_issue t w b) r.1);
+  sound = λ c on. explained_kept words opening t w (Issue b) c is (quiet_issue t w b) (k.sound c on);
   complete = λ order o.
       let cut = order_cut words opening t w b order is o in
       let p = cut.0 in
       let r = k.complete (take p order) cut.1 in
       let m = take_of_take r.0 p order in
-      let c = r.1 in
-      let x : Explains opening t w (take m.0 order) c = subst (λ (l : List Call). Explains opening t w l c) m.1 r.3 in
-      (m.0, c, r.2, explains_kept words opening t w (Issue b) (take m.0 order) c is (quiet_issue t w b) x);
+      let l : LeadsTo opening t w (take m.0 order) configs = subst
+      (λ (xs : List Call). LeadsTo opening t w xs configs) m.1 r.1 in
+      (m.0, leads_kept words opening t w (Issue b) (take m.0 order) configs is (quiet_issue t w b) l);
 }
 
 -- and after an answer on another word
@@ -213,10 +291,8 @@ pub knows_elsewhere : (words : ℕ) (opening : List ℕ) (t : List Event) (w : �
     → IsTrace words (t ++ Answer id reply ∷ []) → IsQuiet t w (Answer id reply) → Knows opening t w configs
     → Knows opening (t ++ Answer id reply ∷ []) w configs
 knows_elsewhere words opening t w id reply configs is quiet k = record {
-  sound = λ c on.
-      let r = k.sound c on in
-      (r.0, explains_kept words opening t w (Answer id reply) r.0 c is quiet r.1);
+  sound = λ c on. explained_kept words opening t w (Answer id reply) c is quiet (k.sound c on);
   complete = λ order o.
       let r = k.complete order (order_back opening t w id reply order o) in
-      (r.0, r.1, r.2, explains_kept words opening t w (Answer id reply) (take r.0 order) r.1 is quiet r.3);
+      (r.0, leads_kept words opening t w (Answer id reply) (take r.0 order) configs is quiet r.1);
 }

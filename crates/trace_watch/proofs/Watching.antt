@@ -28,7 +28,8 @@ pub follows_order : {A : Type 0} (opening : List ℕ) (t : List Event) (watch : 
     → IsLinearizable opening t
 follows_order opening t watch f = one_order opening t f.well (λ w l.
     let c = f.filled w l in
-    let s = (f.known w l).sound c.0 c.1 in
+    let x = (f.known w l).sound c.0 c.1 in
+    let s = x.explained x.fits.0 x.fits.1 in
     (s.0, s.1.legal))
 
 -- an operation is issued
@@ -104,14 +105,13 @@ record HasAnswer {A : Type 0} (opening : List ℕ) (t : List Event) (watch : Wat
 has_answer : {A : Type 0} (opening : List ℕ) (t : List Event) (watch : Watch A) (call : Call) (id : ℕ) (reply : Reply)
     (calls : List Call) (new : List Config) → IsIn watch.pending.items call → call.id ≡ id
     → ((c : Call) → IsIn calls c ↔ (IsIn watch.pending.items c × (c.operation.address ≡ call.operation.address)))
-    → IsAnsweredBy id reply calls (states_of watch.words.items call.operation.address) new
+    → IsAnsweredBy call reply calls (states_of watch.words.items call.operation.address) new
     → Tracks opening t watch → HasAnswer opening t watch call id reply new
 has_answer opening t watch call id reply calls new on number here by f =
     let p = f.pending.each call on in
     let at = p.issued.0 in
     let issue = p.issued.1 in
-    let never : IsAnswered t id → ⊥ = λ a. p.unanswered (subst (λ (n : ℕ). IsAnswered t n) (sym number) a) in
-    let is = trace_answer (length opening) t id reply at call f.well issue number never in
+    let is = trace_answer (length opening) t call.id reply at call f.well issue refl p.unanswered in
     let w = call.operation.address in
     let inside = f.well.inside at call issue in
     let pending : ArePendingOn t w calls = record {
@@ -122,14 +122,14 @@ has_answer opening t watch call id reply calls new on number here by f =
           (λ (o : IsIn watch.pending.items c). inr ((here c).1 (o, there)))
           (f.pending.all i c h);
     } in
-    record {
+    subst (λ (n : ℕ). HasAnswer opening t watch call n reply new) number (record {
       is = is;
       inside = inside;
-      known = knows_answer (length opening) opening t w id reply at call calls (states_of watch.words.items w) new inside
-          is issue number refl never pending by (f.known w inside);
-      others = λ v l ne. knows_elsewhere (length opening) opening t v id reply (states_of watch.words.items v) is
-          (quiet_answer (length opening) t v id reply at call f.well issue number (λ e. ne (sym e))) (f.known v l);
-    }
+      known = knows_answer (length opening) opening t w call reply calls (states_of watch.words.items w) new inside
+          f.well is (record { pending = p; here = refl }) pending by (f.known w inside);
+      others = λ v l ne. knows_elsewhere (length opening) opening t v call.id reply (states_of watch.words.items v) is
+          (quiet_answer (length opening) t v call.id reply at call f.well issue refl (λ e. ne (sym e))) (f.known v l);
+    })
 
 -- one word's states are others
 states_same : {A : Type 0} (words : List (Vec (State A) A)) (w : ℕ) (v : Vec (State A) A) → w < length words
@@ -153,7 +153,7 @@ pub seen_answer : {A : Type 0} (opening : List ℕ) (t : List Event) (watch : Wa
     (pending : Vec Call A) (some : Config)
     → IsIn watch.pending.items call → call.id ≡ id
     → ((c : Call) → IsIn calls c ↔ (IsIn watch.pending.items c × (c.operation.address ≡ call.operation.address)))
-    → IsAnsweredBy id reply calls (states_of watch.words.items call.operation.address) (configs_of later.items)
+    → IsAnsweredBy call reply calls (states_of watch.words.items call.operation.address) (configs_of later.items)
     → IsIn (configs_of later.items) some
     → ((c : Call) → IsIn pending.items c ↔ (IsIn watch.pending.items c × (c.id ≡ id → ⊥)))
     → words.items ≡ set watch.words.items call.operation.address later
@@ -202,7 +202,7 @@ pub seen_no_answer : {A : Type 0} (opening : List ℕ) (t : List Event) (watch :
     (reply : Reply) (calls : List Call) (later : List (State A))
     → IsIn watch.pending.items call → call.id ≡ id
     → ((c : Call) → IsIn calls c ↔ (IsIn watch.pending.items c × (c.operation.address ≡ call.operation.address)))
-    → IsAnsweredBy id reply calls (states_of watch.words.items call.operation.address) (configs_of later)
+    → IsAnsweredBy call reply calls (states_of watch.words.items call.operation.address) (configs_of later)
     → later ≡ []
     → Tracks opening t watch
     → TellsSeen {A = A} opening t (Answer id reply) watch NotLinearizable
@@ -214,8 +214,9 @@ seen_no_answer {A} opening t watch call id reply calls later on number here by n
       λ is.
           let o = word_order opening (t ++ Answer id reply ∷ []) h.is is call.operation.address h.inside in
           let r = h.known.complete o.0 o.1 in
-          let in_none : IsIn [] r.1 = subst (λ (ss : List (State A)). IsIn (configs_of ss) r.1) none r.2 in
-          let e : None ≡ Some r.1 = in_none.1 in
+          let l = r.1 in
+          let in_none : IsIn [] l.config = subst (λ (ss : List (State A)). IsIn (configs_of ss) l.config) none l.on in
+          let e : None ≡ Some l.config = in_none.1 in
           cc,
     )
 

@@ -1,22 +1,15 @@
 -- An index of the configurations that were found: those with the same place are in one chain.
 use Rattle.std.specs.Prelude.{◌≡◌, ◌<◌, ◌≤◌, ◌+◌, ◌*◌, ◌%◌, ◌^◌, ℕ, List, [], ◌∷◌, Some, length, slice_get}
 use Rattle.std.specs.Int.{bit_at}
-use Rattle.packet.specs.declared.kinds.Reply.{Reply}
-use Rattle.packet.specs.declared.kinds.Reply.TheVariants.{Old, Ok as Stored}
 use Rattle.trace_laws.specs.Configs.{IsIn}
 use Rattle.trace_watch.specs.declared.state.Effect.{Effect}
 use Rattle.trace_watch.specs.declared.index.Index.{Index}
-use Rattle.trace_watch.specs.States.{Config}
+use Rattle.trace_watch.specs.States.{Config, rank, told_word}
 use Rattle.trace_watch.specs.Crowds.{AreUnlike}
-
--- the word of a reply, or 0
-abbrev pub chain_told : Reply → ℕ
-chain_told Stored = 0
-chain_told (Old word) = word
 
 -- the bit of an effect
 abbrev pub spot_of : Effect → ℕ
-spot_of e = (e.id % 64 + chain_told e.reply % 64 * 11) % 64
+spot_of e = (rank e.op + told_word e.reply % 64 * 11) % 64
 
 -- a number whose bits are those of effects
 pub record IsMask (effects : List Effect) (mask : ℕ) : Type 0 where
@@ -43,7 +36,7 @@ pub record AreChained (heads links : List ℕ) (found : List Config) : Type 0 wh
       → IsMask c.effects mask → slice_get heads (place_of (length heads) c.word mask) ≡ Some h
       → (way : List ℕ) × IsChain links h i way
 
--- an index leads to all of these configurations, of which no two say the same
+-- an index leads to all of these configurations, of which none tells of whatever a later one does
 pub record IsIndexed {A : Type 0} (index : Index A) (found : List Config) : Type 0 where
   pub long : length index.links.items ≡ length found
   pub places : 0 < length index.heads.items

@@ -44,7 +44,8 @@ TellsSeen opening trace event watch NotLinearizable = Tracks opening trace watch
 TellsSeen opening trace event watch NoTrace = Tracks opening trace watch
     × (IsTrace (length opening) (trace ++ event ∷ []) → ⊥)
 
--- a word has more configurations than so many: orders lead to them, and no two say the same
+-- a word has more configurations than so many: orders lead to them, and none tells of whatever a
+-- later one does
 pub record HasMany (opening : List ℕ) (trace : List Event) (w bound : ℕ) : Type 0 where
   pub configs : List Config
   pub explained : AreExplained opening trace w configs

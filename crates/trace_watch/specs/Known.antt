@@ -9,31 +9,62 @@ use Rattle.trace_laws.specs.Orders.{memory_of}
 use Rattle.trace_laws.specs.Locality.{IsOrderOn}
 use Rattle.trace_laws.specs.Configs.{IsIn}
 use Rattle.trace_watch.specs.declared.state.Effect.{Effect}
-use Rattle.trace_watch.specs.States.{Config, HasEffect}
+use Rattle.trace_watch.specs.States.{Config}
+use Rattle.trace_watch.specs.Matchings.{Fits, Matches}
+use Rattle.trace_watch.specs.Named.{NamedEffect, NamedConfig, HasEffect, named_config}
 
 -- an operation stands in an order, and replies there what it took effect with
-pub record IsReplied (opening : List ℕ) (order : List Call) (e : Effect) : Type 0 where
-  pub at : ℕ
-  pub call : Call
-  pub there : slice_get order at ≡ Some call
-  pub number : call.id ≡ e.id
-  pub reply : e.reply ≡ reply_of_one call.operation (memory_of opening (take at order))
+pub record IsReplied (opening : List ℕ) (order : List Call) (e : NamedEffect) : Type 0
+  where
+    pub at : ℕ
+    pub call : Call
+    pub there : slice_get order at ≡ Some call
+    pub number : call.id ≡ e.id
+    pub reply : e.reply ≡ reply_of_one call.operation (memory_of opening (take at order))
 
 -- An order explains what the trace does on word w, and a configuration tells what it leaves: the
 -- word, and which of the open operations stand in it, with their replies.
-pub record Explains (opening : List ℕ) (trace : List Event) (w : ℕ) (order : List Call) (c : Config)
-    : Type 0 where
+pub record Explains (opening : List ℕ) (trace : List Event) (w : ℕ) (order : List Call)
+    (c : NamedConfig) : Type 0 where
   pub legal : IsOrderOn w opening trace order
   pub word : c.word ≡ slice_index (memory_of opening order) w
-  pub pending : (e : Effect) → IsIn c.effects e → IsAnswered trace e.id → ⊥
-  pub replied : (e : Effect) → IsIn c.effects e → IsReplied opening order e
+  pub pending : (e : NamedEffect) → IsIn c.effects e → IsAnswered trace e.id → ⊥
+  pub replied : (e : NamedEffect) → IsIn c.effects e → IsReplied opening order e
   pub all : (x : ℕ) (call : Call) → slice_get order x ≡ Some call
       → (IsAnswered trace call.id → ⊥) → HasEffect c call.id
 
+-- an operation was issued, and isn't answered
+pub record IsPending (trace : List Event) (call : Call) : Type 0 where
+  pub issued : (i : ℕ) × TraceIssuesAt trace i call
+  pub unanswered : IsAnswered trace call.id → ⊥
+
+-- an open operation on word w
+pub record IsOpenOn (trace : List Event) (w : ℕ) (call : Call) : Type 0 where
+  pub pending : IsPending trace call
+  pub here : call.operation.address ≡ w
+
+-- Orders lead to a configuration: its effects may be of open operations on word w, each of its own,
+-- and whichever they are of, an order explains it. No effect is of an operation yet to be issued.
+pub record IsExplained (opening : List ℕ) (trace : List Event) (w : ℕ) (c : Config) : Type 0 where
+  pub fits : Fits (IsOpenOn trace w) c.effects
+  pub explained : (calls : List Call) → Matches (IsOpenOn trace w) c.effects calls
+      → (order : List Call) × Explains opening trace w order (named_config c calls)
+  pub issued : (e : Effect) → IsIn c.effects e
+      → (i : ℕ) × (call : Call) × TraceIssuesAt trace i call × (e.newest ≤ call.id)
+
 -- orders lead to these configurations
 abbrev pub AreExplained : List ℕ → List Event → ℕ → List Config → Type 0
-AreExplained opening trace w configs = (c : Config) → IsIn configs c
-    → (order : List Call) × Explains opening trace w order c
+AreExplained opening trace w configs =
+    (c : Config) → IsIn configs c → IsExplained opening trace w c
+
+-- an order leads to one of these configurations, whose effects are of these operations
+pub record LeadsTo (opening : List ℕ) (trace : List Event) (w : ℕ) (order : List Call)
+    (configs : List Config) : Type 0 where
+  pub config : Config
+  pub on : IsIn configs config
+  pub calls : List Call
+  pub matches : Matches (IsOpenOn trace w) config.effects calls
+  pub explains : Explains opening trace w order (named_config config calls)
 
 -- of a word orders lead to these configurations, and whatever order explains what the trace does on
 -- it, a beginning of that order leads to one
@@ -41,12 +72,7 @@ pub record Knows (opening : List ℕ) (trace : List Event) (w : ℕ) (configs : 
   where
     pub sound : AreExplained opening trace w configs
     pub complete : (order : List Call) → IsOrderOn w opening trace order
-        → (n : ℕ) × (c : Config) × IsIn configs c × Explains opening trace w (take n order) c
-
--- an operation was issued, and isn't answered
-pub record IsPending (trace : List Event) (call : Call) : Type 0 where
-  pub issued : (i : ℕ) × TraceIssuesAt trace i call
-  pub unanswered : IsAnswered trace call.id → ⊥
+        → (n : ℕ) × LeadsTo opening trace w (take n order) configs
 
 -- these are the open operations
 pub record ArePending (trace : List Event) (calls : List Call) : Type 0 where

@@ -1,4 +1,6 @@
 pub mod States
+pub mod Matchings
+pub mod Named
 pub mod Known
 pub mod Closed
 pub mod Crowds

@@ -1,7 +1,11 @@
--- Configurations of one word: what it may have become, and which of the open operations on it have
--- taken effect, with what they replied.
-use Rattle.std.specs.Prelude.{◌≡◌, ◌↔◌, ℕ, List, [], ◌∷◌, ◌++◌, map}
+-- Configurations of one word: what it may have become, and how many of the open operations on it that
+-- ask the same have taken effect, with what they replied.
+use Rattle.std.specs.Prelude.{◌≡◌, ◌≤◌, ◌==◌, ℕ, zero, suc, Bool, cond, nat_lt, List, [], ◌∷◌, map}
+use Rattle.std.specs.List.{insert, remove}
+use Rattle.packet.specs.declared.kinds.Op.{Op}
+use Rattle.packet.specs.declared.kinds.Op.TheVariants.{Load, Store, Swap, Cas, Add, And, Or, Xor, Max, Min}
 use Rattle.packet.specs.declared.kinds.Reply.{Reply}
+use Rattle.packet.specs.declared.kinds.Reply.TheVariants.{Old, Ok as Stored}
 use Rattle.packet.specs.Memory.{new_word, reply_to}
 use Rattle.trace_laws.specs.declared.event.Call.{Call}
 use Rattle.trace_laws.specs.Configs.{IsIn}
@@ -9,7 +13,8 @@ use Rattle.trace_watch.specs.declared.state.Effect.{Effect}
 use Rattle.trace_watch.specs.declared.state.State.{State}
 
 -- a word, and the open operations that have taken effect (Lowe, Testing for linearizability,
--- Concurrency and Computation 29(4), 2017: a configuration)
+-- Concurrency and Computation 29(4), 2017: a configuration): what each asked and replied, and a
+-- number that its own isn't above
 pub record Config : Type 0 where
   pub word : ℕ
   pub effects : List Effect
@@ -22,41 +27,99 @@ config_of s = record { word = s.word; effects = s.effects.items }
 abbrev pub configs_of : {A : Type 0} → List (State A) → List Config
 configs_of states = map (λ s. config_of s) states
 
--- an operation of this number has taken effect
-abbrev pub HasEffect : Config → ℕ → Type 0
-HasEffect c id = (e : Effect) × IsIn c.effects e × (e.id ≡ id)
+-- one effect for each, with what it asked and replied, of no fewer operations
+abbrev pub AreCovered : List Effect → List Effect → Type 0
+AreCovered [] [] = Unit {0}
+AreCovered [] (f ∷ fs) = ⊥
+AreCovered (e ∷ es) [] = ⊥
+AreCovered (e ∷ es) (f ∷ fs) =
+    (e.op ≡ f.op) × (e.reply ≡ f.reply) × (f.newest ≤ e.newest) × AreCovered es fs
 
--- two configurations say the same: of the word, and of what has taken effect
-pub record IsLike (c d : Config) : Type 0 where
+-- the first configuration tells of whatever the second one does
+pub record Covers (c d : Config) : Type 0 where
   pub word : c.word ≡ d.word
-  pub effects : (e : Effect) → IsIn c.effects e ↔ IsIn d.effects e
+  pub effects : AreCovered c.effects d.effects
 
--- one that says the same is among these
+-- one that tells of as much is among these
 abbrev pub IsAmong : List Config → Config → Type 0
-IsAmong configs c = (d : Config) × IsIn configs d × IsLike d c
+IsAmong configs c = (d : Config) × IsIn configs d × Covers d c
+
+-- the word of a reply, or 0
+abbrev pub told_word : Reply → ℕ
+told_word Stored = 0
+told_word (Old word) = word
+
+-- the place of an operation's name among the names
+abbrev pub rank : Op → ℕ
+rank Load = 0
+rank (Store v) = 1
+rank (Swap v) = 2
+rank (Cas e n) = 3
+rank (Add v) = 4
+rank (And v) = 5
+rank (Or v) = 6
+rank (Xor v) = 7
+rank (Max v) = 8
+rank (Min v) = 9
+
+-- the first value that an operation brings, or 0
+abbrev pub first_value : Op → ℕ
+first_value Load = 0
+first_value (Store v) = v
+first_value (Swap v) = v
+first_value (Cas e n) = e
+first_value (Add v) = v
+first_value (And v) = v
+first_value (Or v) = v
+first_value (Xor v) = v
+first_value (Max v) = v
+first_value (Min v) = v
+
+-- and the second one
+abbrev pub second_value : Op → ℕ
+second_value Load = 0
+second_value (Store v) = 0
+second_value (Swap v) = 0
+second_value (Cas e n) = n
+second_value (Add v) = 0
+second_value (And v) = 0
+second_value (Or v) = 0
+second_value (Xor v) = 0
+second_value (Max v) = 0
+second_value (Min v) = 0
+
+-- an operation stands before another one, by its name and its values
+abbrev pub is_op_before : Op → Op → Bool
+is_op_before o p = cond (rank o == rank p)
+    (cond (first_value o == first_value p) (nat_lt (second_value o) (second_value p))
+    (nat_lt (first_value o) (first_value p))) (nat_lt (rank o) (rank p))
+
+-- an effect stands before another one, by its reply and then by its operation
+abbrev pub is_before : Effect → Effect → Bool
+is_before e f = cond (told_word e.reply == told_word f.reply) (is_op_before e.op f.op)
+    (nat_lt (told_word e.reply) (told_word f.reply))
+
+-- how many effects stand before one more, which takes the place behind them
+abbrev pub spot : List Effect → Effect → ℕ
+spot [] e = 0
+spot (f ∷ es) e = cond (is_before f e) (suc (spot es e)) 0
+
+-- what an operation takes effect with in a configuration; it may be of whatever open one asks the
+-- same and isn't newer
+abbrev pub effect_of : Config → Call → Effect
+effect_of c call = record {
+  op = call.operation.op;
+  reply = reply_to call.operation.op c.word;
+  newest = call.id;
+}
 
 -- an operation takes effect (Lowe: just-in-time linearization)
 abbrev pub after : Config → Call → Config
 after c call = record {
   word = new_word call.operation.op c.word;
-  effects = c.effects
-      ++ record { id = call.id; reply = reply_to call.operation.op c.word } ∷ [];
+  effects = insert c.effects (spot c.effects (effect_of c call)) (effect_of c call);
 }
 
--- the second says the same as the first, but for the operation of this number
-pub record IsWithout (id : ℕ) (c d : Config) : Type 0 where
-  pub word : d.word ≡ c.word
-  pub effects : (e : Effect) → IsIn d.effects e ↔ (IsIn c.effects e × (e.id ≡ id → ⊥))
-
--- the configurations in which the operation of this number has replied so, without it
-pub record AreReleased (id : ℕ) (reply : Reply) (old new : List Config) : Type 0 where
-  pub kept : (c : Config) (e : Effect) → IsIn old c → IsIn c.effects e → e.id ≡ id
-      → e.reply ≡ reply → (d : Config) × IsIn new d × IsWithout id c d
-  pub from : (d : Config) → IsIn new d
-      → (c : Config) × (e : Effect) × IsIn old c × IsIn c.effects e × (e.id ≡ id)
-      × (e.reply ≡ reply) × IsWithout id c d
-
--- whichever of these operations takes effect in c, what this leads to is among the configurations
-abbrev pub IsExpanded : List Call → List Config → Config → Type 0
-IsExpanded calls configs c = (call : Call) → IsIn calls call → (HasEffect c call.id → ⊥)
-    → IsAmong configs (after c call)
+-- the configuration without the effect at place k
+abbrev pub less_one : Config → ℕ → Config
+less_one c k = record { word = c.word; effects = remove c.effects k }

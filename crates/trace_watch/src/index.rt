@@ -2,11 +2,10 @@
 
 ghost use Rattle.std.specs.Prelude.{◌≡◌, ◌<◌, ◌+◌, ◌*◌, ◌%◌, ◌^◌, ℕ, List, [], Some, true, false, length, slice_get};
 ghost use Rattle.std.specs.Prelude.{IfOk, OnOk, bit_or};
-ghost use Rattle.trace_watch.specs.Chains.{AreChained, IsIndexed, IsMask, place_of, spot_of, chain_told};
+ghost use Rattle.trace_watch.specs.Chains.{AreChained, IsIndexed, IsMask, place_of, spot_of};
 ghost use Rattle.trace_watch.specs.States.{Config, IsAmong, config_of, configs_of};
 
-use crate::state::{Effect, State, is_like};
-use packet::Reply;
+use crate::state::{Effect, State, is_covered, rank, told};
 use std::alloc::{AllocError, Allocator};
 
 /// How many places there are at first: an odd number, as later on, so that each bit of a mask counts.
@@ -43,21 +42,11 @@ pub(crate) fn empty_index<A: Allocator + Copy>(alloc: A) -> Result<Index<A>, All
     index_of(alloc, PLACES)
 }
 
-/// The word of a reply, or 0.
-fn told(reply: Reply) -> u64
-    ensures { result ≡ chain_told reply }
-{
-    match reply {
-        Reply::Ok => 0,
-        Reply::Old(word) => word,
-    }
-}
-
 /// The mask with the bit of one more effect.
 fn marked(mask: u64, effect: Effect) -> u64
     ensures { result ≡ bit_or mask (1 * 2 ^ spot_of effect % 2 ^ 64) }
 {
-    let spot = (effect.id % 64 + told(effect.reply) % 64 * 11) % 64;
+    let spot = (rank(effect.op) + told(effect.reply) % 64 * 11) % 64;
     mask | (1 << spot)
 }
 
@@ -85,7 +74,7 @@ fn place<A: Allocator>(state: &State<A>, count: usize) -> usize
 }
 
 impl<A: Allocator + Copy> Index<A> {
-    /// Whether one of the states says the same as this one.
+    /// Whether one of the states tells of whatever this one does.
     pub(crate) fn is_there(&self, found: &[State<A>], state: &State<A>) -> bool
         requires { IsIndexed self.now (configs_of found.now) }
         ensures yes { result ≡ true → IsAmong (configs_of found.now) (config_of state.now) }
@@ -94,7 +83,7 @@ impl<A: Allocator + Copy> Index<A> {
         let mut next = self.heads[place(state, self.heads.len())];
         while next > 0 {
             let at = next - 1;
-            if is_like(&found[at], state) {
+            if is_covered(&found[at], state) {
                 return true;
             }
             next = self.links[at];

@@ -1,10 +1,13 @@
 //! Judges a trace event by event while it goes on: of each word the configurations that its open
-//! operations may have led to, with what those that took effect replied.
+//! operations may have led to, with what those that took effect replied; open operations that ask the
+//! same are counted, and not named.
 #![tactic(auto)]
 
 mod closing;
 pub mod index;
+mod matching;
 mod pending;
+mod releasing;
 pub mod state;
 pub mod watch;
 

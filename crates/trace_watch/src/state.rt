@@ -1,80 +1,151 @@
 //! What may have become of a word.
 
-ghost use Rattle.std.specs.Prelude.{◌≡◌, ◌↔◌, ℕ, Some, true, false, IfOk, slice_get};
-ghost use Rattle.trace_laws.specs.Configs.{IsIn};
-ghost use Rattle.trace_watch.specs.States.{IsLike, IsWithout, after, config_of};
+ghost use Rattle.std.specs.Prelude.{◌≡◌, ◌<◌, ◌≤◌, ℕ, true, false, IfOk, length};
+ghost use Rattle.std.specs.List.{remove};
+ghost use Rattle.trace_watch.specs.States.{AreCovered, Covers, after, config_of};
+ghost use Rattle.trace_watch.specs.States.{first_value, is_before, rank, second_value, spot, told_word};
 
-use packet::{Reply, apply};
+use packet::{Op, Reply, apply};
 use std::alloc::{AllocError, Allocator};
 use trace_laws::Call;
 
-/// An operation that took effect, with what it replied.
+/// An open operation that took effect, one of those that ask the same: no number above the newest one
+/// is its own.
 #[derive(Clone, Copy, PartialEq, Eq)]
 pub struct Effect {
-    pub id: u64,
+    pub op: Op,
     pub reply: Reply,
+    pub newest: u64,
 }
 
-/// A word, and which of the open operations on it have taken effect.
+/// A word, and the effects of open operations on it.
 #[derive(Drop)]
 pub struct State<A: Allocator> {
     pub word: u64,
     pub effects: Vec<Effect, A>,
 }
 
-/// Whether the operation of this number has taken effect.
-pub(crate) fn has_effect(effects: &[Effect], id: u64) -> bool
-    ensures yes { result ≡ true → (e : Effect) × IsIn effects.now e × (e.id ≡ id) }
-    ensures no { result ≡ false → (k : ℕ) (e : Effect) → slice_get effects.now k ≡ Some e
-        → e.id ≡ id → ⊥ }
+/// The word of a reply, or 0.
+pub(crate) fn told(reply: Reply) -> u64
+    ensures { result ≡ told_word reply }
 {
-    for i in 0..effects.len() {
-        if effects[i].id == id {
-            return true;
-        }
+    match reply {
+        Reply::Ok => 0,
+        Reply::Old(word) => word,
     }
-    false
 }
 
-/// Whether an operation took effect so.
-pub(crate) fn is_in(effects: &[Effect], effect: Effect) -> bool
-    ensures yes { result ≡ true → IsIn effects.now effect }
-    ensures no { result ≡ false → (k : ℕ) → slice_get effects.now k ≡ Some effect → ⊥ }
+/// The place of an operation's name among the names.
+pub(crate) fn rank(op: Op) -> u64
+    ensures place { result ≡ rank op }
+    ensures low { result < 10 }
 {
-    for i in 0..effects.len() {
-        if effects[i] == effect {
-            return true;
-        }
+    match op {
+        Op::Load => 0,
+        Op::Store(_) => 1,
+        Op::Swap(_) => 2,
+        Op::Cas(_, _) => 3,
+        Op::Add(_) => 4,
+        Op::And(_) => 5,
+        Op::Or(_) => 6,
+        Op::Xor(_) => 7,
+        Op::Max(_) => 8,
+        Op::Min(_) => 9,
     }
-    false
 }
 
-/// Whether each of some effects is one of others.
-fn are_in(some: &[Effect], others: &[Effect]) -> bool
-    ensures yes { result ≡ true → (k : ℕ) (e : Effect) → slice_get some.now k ≡ Some e
-        → IsIn others.now e }
-    ensures no { result ≡ false → (e : Effect) × IsIn some.now e × (IsIn others.now e → ⊥) }
+/// The first value that an operation brings, or 0.
+fn first_value(op: Op) -> u64
+    ensures { result ≡ first_value op }
 {
+    match op {
+        Op::Load => 0,
+        Op::Store(value) => value,
+        Op::Swap(value) => value,
+        Op::Cas(expected, _) => expected,
+        Op::Add(value) => value,
+        Op::And(value) => value,
+        Op::Or(value) => value,
+        Op::Xor(value) => value,
+        Op::Max(value) => value,
+        Op::Min(value) => value,
+    }
+}
+
+/// The second value that an operation brings, or 0.
+fn second_value(op: Op) -> u64
+    ensures { result ≡ second_value op }
+{
+    match op {
+        Op::Cas(_, new) => new,
+        _ => 0,
+    }
+}
+
+/// Whether an effect stands before another one, by its reply and then by what its operation asks.
+fn is_before(one: Effect, other: Effect) -> bool
+    ensures { result ≡ is_before one other }
+{
+    let (told_one, told_other) = (told(one.reply), told(other.reply));
+    if told_one != told_other {
+        return told_one < told_other;
+    }
+    let (rank_one, rank_other) = (rank(one.op), rank(other.op));
+    if rank_one != rank_other {
+        return rank_one < rank_other;
+    }
+    let (first_one, first_other) = (first_value(one.op), first_value(other.op));
+    if first_one != first_other {
+        return first_one < first_other;
+    }
+    second_value(one.op) < second_value(other.op)
+}
+
+/// The place of one more effect among those that are there.
+fn spot(effects: &[Effect], effect: Effect) -> usize
+    ensures place { result ≡ spot effects.now effect }
+    ensures inside { result ≤ length effects.now }
+{
+    for i in 0..effects.len() {
+        if !is_before(effects[i], effect) {
+            return i;
+        }
+    }
+    effects.len()
+}
+
+/// Whether one effect may be of whatever operation another one may be of, with the same reply.
+fn covers(one: Effect, other: Effect) -> bool
+    ensures yes { result ≡ true → (one.op ≡ other.op) × (one.reply ≡ other.reply)
+        × (other.newest ≤ one.newest) }
+    ensures no { result ≡ false → (one.op ≡ other.op) → (one.reply ≡ other.reply)
+        → (other.newest ≤ one.newest) → ⊥ }
+{
+    one.op == other.op && one.reply == other.reply && other.newest <= one.newest
+}
+
+/// Whether each of some effects covers the one at its place among others.
+fn are_covered(some: &[Effect], others: &[Effect]) -> bool
+    ensures yes { result ≡ true → AreCovered some.now others.now }
+    ensures no { result ≡ false → AreCovered some.now others.now → ⊥ }
+{
+    if some.len() != others.len() {
+        return false;
+    }
     for i in 0..some.len() {
-        if !is_in(others, some[i]) {
+        if !covers(some[i], others[i]) {
             return false;
         }
     }
     true
 }
 
-/// Whether two states say the same.
-pub(crate) fn is_like<A: Allocator>(one: &State<A>, other: &State<A>) -> bool
-    ensures yes { result ≡ true → IsLike (config_of one.now) (config_of other.now) }
-    ensures no { result ≡ false → IsLike (config_of one.now) (config_of other.now) → ⊥ }
+/// Whether a state tells of whatever another one does.
+pub(crate) fn is_covered<A: Allocator>(one: &State<A>, other: &State<A>) -> bool
+    ensures yes { result ≡ true → Covers (config_of one.now) (config_of other.now) }
+    ensures no { result ≡ false → Covers (config_of one.now) (config_of other.now) → ⊥ }
 {
-    if one.word != other.word {
-        return false;
-    }
-    if !are_in(&one.effects, &other.effects) {
-        return false;
-    }
-    are_in(&other.effects, &one.effects)
+    one.word == other.word && are_covered(&one.effects, &other.effects)
 }
 
 /// The same effects.
@@ -92,11 +163,20 @@ fn copied<A: Allocator>(alloc: A, effects: &[Effect]) -> Result<Vec<Effect, A>, 
 pub(crate) fn copy_of<A: Allocator>(alloc: A, state: &State<A>) -> Result<State<A>, AllocError>
     ensures { IfOk result (λ s. config_of s ≡ config_of state.now) }
 {
+    with_word(alloc, state, state.word)
+}
+
+/// The same effects, and another word.
+pub(crate) fn with_word<A: Allocator>(
+    alloc: A,
+    state: &State<A>,
+    word: u64,
+) -> Result<State<A>, AllocError>
+    ensures { IfOk result (λ s. config_of s
+        ≡ record { word = word; effects = state.now.effects.items }) }
+{
     let effects = copied(alloc, &state.effects)?;
-    Ok(State {
-        word: state.word,
-        effects,
-    })
+    Ok(State { word, effects })
 }
 
 /// The state after an operation took effect.
@@ -107,36 +187,28 @@ pub(crate) fn after<A: Allocator>(
 ) -> Result<State<A>, AllocError>
     ensures { IfOk result (λ s. config_of s ≡ after (config_of state.now) call) }
 {
-    let (word, reply) = apply(call.operation.op, state.word);
+    let op = call.operation.op;
+    let (word, reply) = apply(op, state.word);
+    let newest = call.id;
+    let effect = Effect { op, reply, newest };
     let mut effects = copied(alloc, &state.effects)?;
-    effects.push(Effect { id: call.id, reply })?;
+    let at = spot(&effects, effect);
+    effects.insert(at, effect)?;
     Ok(State { word, effects })
 }
 
-/// The effects of other operations than the one of this number.
-fn others<A: Allocator>(alloc: A, effects: &[Effect], id: u64) -> Result<Vec<Effect, A>, AllocError>
-    ensures { IfOk result (λ v. (e : Effect) → IsIn v.items e
-        ↔ (IsIn effects.now e × (e.id ≡ id → ⊥))) }
-{
-    let mut kept = Vec::new(alloc);
-    for i in 0..effects.len() {
-        let effect = effects[i];
-        if effect.id != id {
-            kept.push(effect)?;
-        }
-    }
-    Ok(kept)
-}
-
-/// The state without the operation of this number.
+/// The state without the effect at this place.
 pub(crate) fn without<A: Allocator>(
     alloc: A,
     state: &State<A>,
-    id: u64,
+    at: usize,
 ) -> Result<State<A>, AllocError>
-    ensures { IfOk result (λ s. IsWithout id (config_of state.now) (config_of s)) }
+    requires { at < length state.now.effects.items }
+    ensures { IfOk result (λ s. config_of s
+        ≡ record { word = state.now.word; effects = remove state.now.effects.items at }) }
 {
-    let effects = others(alloc, &state.effects, id)?;
+    let mut effects = copied(alloc, &state.effects)?;
+    effects.remove(at);
     Ok(State {
         word: state.word,
         effects,

@@ -8,8 +8,8 @@ ghost use Rattle.trace_watch.specs.declared.watch.Full.TheVariants.{Memory};
 ghost use Rattle.trace_watch.specs.Follows.{AnswersFew, Tracks, TellsFull, TellsSeen, states_of};
 ghost use Rattle.trace_watch.specs.States.{configs_of};
 
-use crate::closing::answered;
 use crate::pending::{call_of, calls_on, with_call, without_call};
+use crate::releasing::answered;
 use crate::state::State;
 use packet::Reply;
 use std::alloc::{AllocError, Allocator};
@@ -142,7 +142,7 @@ impl<A: Allocator + Copy> Watch<A> {
             return Ok(Seen::NoTrace);
         }
         let calls = calls_on(alloc, &self.pending, call.operation.address)?;
-        let later = answered(alloc, &self.words[word], &calls, id, reply, bound)?;
+        let later = answered(alloc, &self.words[word], &calls, call, reply, bound)?;
         if later.is_empty() {
             return Ok(Seen::NotLinearizable);
         }

@@ -1,9 +1,9 @@
-use Rattle.std.proofs.Common.{List, inl, refl, sym, subst, arith}
+use Rattle.std.proofs.Common.{List, inl, refl, sym, subst}
 use Rattle.trace_watch.specs.declared.state.State.{State}
 use Rattle.trace_watch.specs.States.{IsAmong, config_of, configs_of}
 use Rattle.trace_watch.specs.Chains.{IsIndexed}
 use Rattle.trace_watch.proofs.Growth.{one_more_push}
-use Rattle.trace_watch.proofs.Chains.{push_indexed, crowd_indexed}
+use Rattle.trace_watch.proofs.Chains.{push_indexed}
 use Rattle.trace_watch.proofs.closing.add.Goals as goal
 
 pub is_there-requires : goal.is_there-requires
@@ -16,18 +16,6 @@ returns-then-is_there-clause-added g c = inl (
   subst (λ (ss : List (State _)). IsAmong (configs_of ss) (config_of c.args.state))
       c.deref.ensures.value (c.if-is_there.ensures.yes refl),
 )
-
-pub returns-then-len-bound-clause-full : goal.returns-then-len-bound-clause-full
-returns-then-len-bound-clause-full g c = λ e.
-    let many = c.if-len-bound.true in
-    let told = c.len.ensures in
-    let sized = c.push.new.found.ok.0 in (
-      one_more_push c.args.found.now.items c.push.new.found.items c.args.state c.in_ok-push.ensures,
-      crowd_indexed c.note.new.self c.push.new.found.items c.args.bound (omega arith)
-          (push_indexed c.args.index.now c.note.new.self c.args.found.now.items c.push.new.found.items c.deref.result.now
-          c.args.state c.deref.ensures.value (c.if-is_there.ensures.no refl) c.in_ok-note.ensures.places
-          c.in_ok-note.ensures.long c.in_ok-note.ensures.chained c.in_ok-push.ensures c.requires),
-    )
 
 pub returns-clause-added : goal.returns-clause-added
 returns-clause-added g c = one_more_push c.args.found.now.items c.push.new.found.items c.args.state c.in_ok-push.ensures

@@ -1,60 +1,58 @@
-use Rattle.std.proofs.Common.{◌<◌, length, refl, arith}
-use Rattle.std.proofs.lemmas.Option.{slice_get_read}
+use Rattle.std.proofs.Common.{◌<◌, List, length, sym, ap, subst, arith}
 use Rattle.std.proofs.lemmas.Result.{err_from_is_err_and}
+use Rattle.trace_watch.specs.declared.state.State.{State}
 use Rattle.trace_watch.specs.States.{configs_of}
-use Rattle.trace_watch.proofs.Crowding.{closing_overfull}
-use Rattle.trace_watch.proofs.Growth.{closing_none, long_configs}
-use Rattle.trace_watch.proofs.Few.{few_found}
-use Rattle.trace_watch.proofs.Loops.{close_skip, close_more, close_all}
+use Rattle.trace_watch.specs.Chains.{IsIndexed}
+use Rattle.trace_watch.proofs.Crowding.{add_overfull, close_overfull}
+use Rattle.trace_watch.proofs.Growth.{Closing, closing_none}
+use Rattle.trace_watch.proofs.Loops.{index_there, close_more, close_all}
 use Rattle.trace_watch.proofs.closing.close.Goals as goal
-use Rattle.trace_watch.proofs.closing.close.Goals.{then-not-has_effect+in_ok-widen+in_ok-expand, else-not-has_effect}
 
-pub loop-next-init : goal.loop-next-init
-loop-next-init g c = record {
-  was = closing_none c.args.id c.args.calls.now (configs_of c.in_ok-found.found.items);
-  few = c.in_ok-found.ensures.few;
-  indexed = c.in_ok-found.ensures.indexed;
+pub loop-i-init : goal.loop-i-init
+loop-i-init g c = record {
+  was = subst (λ (ss : List (State _)). Closing c.args.calls.now c.args.newest.now (configs_of c.args.states.now) 0
+      (configs_of ss)) (sym c.new-found.ensures.items)
+      (closing_none c.args.calls.now c.args.newest.now (configs_of c.args.states.now));
+  few = let e = ap (λ (ss : List (State _)). length ss) c.new-found.ensures.items in omega arith;
+  indexed = subst (λ (ss : List (State _)). IsIndexed c.args.index.now (configs_of ss))
+      (sym c.new-found.ensures.items) c.requires;
 }
 
-pub loop-next-preserved : goal.loop-next-preserved
-loop-next-preserved g c =
-    let l : c.loop-next.next < length c.loop-next.found.items = omega arith in
-    let n = c.loop-next.invariant.few in
-    elim c.if-not-has_effect.branch [
-      | then-not-has_effect+in_ok-widen+in_ok-expand w ↦ rw (w.found-is, w.index-is) (record {
-        was = close_more c.args.id c.args.calls.now (configs_of c.in_ok-found.found.items) c.loop-next.next
-            c.loop-next.found.items w.expand.new.found.items l w.in_ok-expand.ensures.expands c.loop-next.invariant.was;
-        few = let m = w.in_ok-expand.ensures.few in omega (arith, m, n);
-        indexed = w.in_ok-expand.ensures.indexed;
-      })
-      | else-not-has_effect w ↦ rw (w.found-is, w.index-is) (record {
-        was = close_skip c.args.id c.args.calls.now (configs_of c.in_ok-found.found.items) c.loop-next.next
-            c.loop-next.found.items c.index-state.result.now c.deref.result.now
-            (slice_get_read c.loop-next.found.items (length c.loop-next.found.items) c.loop-next.next
-            c.index-state.result.now refl l c.index-state.ensures) c.deref.ensures.value
-            (w.if-not-has_effect.ensures.yes refl) c.loop-next.invariant.was;
-        few = n;
-        indexed = c.loop-next.invariant.indexed;
-      })
-    ]
+pub loop-i-preserved : goal.loop-i-preserved
+loop-i-preserved g c =
+    let l : c.loop-i.i < length c.args.states.now = omega arith in
+    let sized = c.loop-i.found.ok.0 in
+    let told = c.len-from.ensures in
+    record {
+      was = close_more c.args.calls.now c.args.newest.now c.args.states.now c.loop-i.i c.len-from.result
+          c.loop-i.found.items c.add_within.new.found.items c.catch_up.new.found.items _ c.in_ok-copy.copy (omega arith)
+          (index_there c.args.states.now c.loop-i.i _ l c.index-states-i.is) c.in_ok-copy.ensures
+          c.in_ok-add_within.ensures.added c.in_ok-catch_up.ensures.expands c.loop-i.invariant.was;
+      few = let m = c.in_ok-catch_up.ensures.few in let n = c.in_ok-add_within.ensures.few in omega arith;
+      indexed = c.in_ok-catch_up.ensures.indexed;
+    }
 
-pub returns-in_err-expand-clause-full : goal.returns-in_err-expand-clause-full
-returns-in_err-expand-clause-full g c =
-    let p = err_from_is_err_and c.from_residual-in_err-expand.result c.from_residual-in_err-expand.ensures.1 in
+pub returns-in_err-add_within-clause-full : goal.returns-in_err-add_within-clause-full
+returns-in_err-add_within-clause-full g c =
+    let p = err_from_is_err_and c.from_residual-in_err-add_within.result c.from_residual-in_err-add_within.ensures.1 in
+    let l : c.loop-i.i < length c.args.states.now = omega arith in
     rw (p.1, p.2) (λ e.
-    closing_overfull c.args.id c.args.calls.now c.args.bound (configs_of c.args.states.now)
-    (configs_of c.in_ok-found.found.items) c.loop-next.next (configs_of c.loop-next.found.items)
-    (configs_of c.expand.new.found.items) c.in_ok-found.ensures.copies (c.in_err-expand.ensures.full e)
-    c.loop-next.invariant.was)
+    let r = c.in_err-add_within.ensures.full e in
+    add_overfull c.args.calls.now c.args.newest.now c.args.bound c.args.states.now c.loop-i.i c.loop-i.found.items
+    c.add_within.new.found.items _ c.in_ok-copy.copy (index_there c.args.states.now c.loop-i.i _ l c.index-states-i.is)
+    c.in_ok-copy.ensures r.0 r.1 c.loop-i.invariant.was)
 
-pub returns-then-next-len-clause-closes : goal.returns-then-next-len-clause-closes
-returns-then-next-len-clause-closes g c =
-    close_all c.args.id c.args.calls.now c.args.states.now c.in_ok-found.found.items c.loop-next.found.items c.loop-next.next
-    (omega arith) c.in_ok-found.ensures.copies c.loop-next.invariant.was
+pub returns-in_err-catch_up-clause-full : goal.returns-in_err-catch_up-clause-full
+returns-in_err-catch_up-clause-full g c =
+    let p = err_from_is_err_and c.from_residual-in_err-catch_up.result c.from_residual-in_err-catch_up.ensures.1 in
+    let l : c.loop-i.i < length c.args.states.now = omega arith in
+    rw (p.1, p.2) (λ e.
+    close_overfull c.args.calls.now c.args.newest.now c.args.bound c.args.states.now c.loop-i.i c.loop-i.found.items
+    c.add_within.new.found.items c.catch_up.new.found.items _ c.in_ok-copy.copy
+    (index_there c.args.states.now c.loop-i.i _ l c.index-states-i.is) c.in_ok-copy.ensures c.in_ok-add_within.ensures.added
+    (c.in_err-catch_up.ensures.full e) c.loop-i.invariant.was)
 
-pub returns-then-next-len-clause-few : goal.returns-then-next-len-clause-few
-returns-then-next-len-clause-few g c =
-    few_found c.args.id c.args.calls.now c.args.bound (configs_of c.args.states.now) (configs_of c.loop-next.found.items)
-    (let e = long_configs c.loop-next.found.items in let n = c.loop-next.invariant.few in omega arith)
-    (close_all c.args.id c.args.calls.now c.args.states.now c.in_ok-found.found.items c.loop-next.found.items c.loop-next.next
-    (omega arith) c.in_ok-found.ensures.copies c.loop-next.invariant.was)
+pub returns-clause-closes : goal.returns-clause-closes
+returns-clause-closes g c =
+    close_all c.args.calls.now c.args.newest.now c.args.states.now c.loop-i.i c.loop-i.found.items (omega arith)
+    c.loop-i.invariant.was

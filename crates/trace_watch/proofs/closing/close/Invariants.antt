@@ -4,9 +4,9 @@ use Rattle.trace_watch.specs.Chains.{IsIndexed}
 use Rattle.trace_watch.proofs.Growth.{Closing}
 use Rattle.trace_watch.proofs.closing.close.Given as goal
 
-abbrev pub invariant-loop-next : goal.invariant-loop-next
-invariant-loop-next g l = record {
-  was : Closing l.id l.calls (configs_of l.initial.found.items) l.next (configs_of l.found.items);
+abbrev pub invariant-loop-i : goal.invariant-loop-i
+invariant-loop-i g l = record {
+  was : Closing l.calls l.newest (configs_of l.states) l.i (configs_of l.found.items);
   few : length l.found.items ≤ l.bound;
   indexed : IsIndexed l.index (configs_of l.found.items);
 }

@@ -9,7 +9,7 @@ use Rattle.trace_watch.proofs.closing.expand.Goals as goal
 
 pub loop-i-init : goal.loop-i-init
 loop-i-init g c = record {
-  was = expanding_none c.args.at c.args.calls.now (configs_of c.args.found.now.items);
+  was = expanding_none c.args.at c.args.calls.now c.args.newest.now (configs_of c.args.found.now.items);
   few = omega arith;
   indexed = c.requires.indexed;
 }
@@ -20,11 +20,11 @@ attempt-requires-clause-inside g c =
 
 pub loop-i-preserved : goal.loop-i-preserved
 loop-i-preserved g c =
-    let l : c.loop-i.i < length c.args.calls.now = omega arith in
+    let l : c.loop-i.i < length c.args.newest.now = omega arith in
     record {
-      was = expanding_more c.args.at c.args.calls.now (configs_of c.args.found.now.items) c.loop-i.i
+      was = expanding_more c.args.at c.args.calls.now c.args.newest.now (configs_of c.args.found.now.items) c.loop-i.i
           (configs_of c.loop-i.found.items) (configs_of c.attempt.new.found.items) _
-          (slice_get-get_or c.args.calls.now c.loop-i.i _ l)
+          (slice_get-get_or c.args.newest.now c.loop-i.i _ l)
           (low_config c.args.found.now.items c.args.at c.requires.inside) c.in_ok-attempt.ensures.expands c.loop-i.invariant.was;
       few = let m = c.in_ok-attempt.ensures.few in let n = c.loop-i.invariant.few in omega arith;
       indexed = c.in_ok-attempt.ensures.indexed;
@@ -33,13 +33,13 @@ loop-i-preserved g c =
 pub returns-in_err-attempt-clause-full : goal.returns-in_err-attempt-clause-full
 returns-in_err-attempt-clause-full g c =
     let p = err_from_is_err_and c.from_residual.result c.from_residual.ensures.1 in
-    let l : c.loop-i.i < length c.args.calls.now = omega arith in
+    let l : c.loop-i.i < length c.args.newest.now = omega arith in
     rw (p.1, p.2) (λ e.
-    more_give_up c.args.at c.args.calls.now c.args.bound (configs_of c.args.found.now.items) c.loop-i.i
+    more_give_up c.args.at c.args.calls.now c.args.newest.now c.args.bound (configs_of c.args.found.now.items) c.loop-i.i
     (configs_of c.loop-i.found.items) (configs_of c.attempt.new.found.items) _
-    (slice_get-get_or c.args.calls.now c.loop-i.i _ l) (c.in_err-attempt.ensures.full e) c.loop-i.invariant.was)
+    (slice_get-get_or c.args.newest.now c.loop-i.i _ l) (c.in_err-attempt.ensures.full e) c.loop-i.invariant.was)
 
 pub returns-clause-expands : goal.returns-clause-expands
 returns-clause-expands g c =
-    expanding_all c.args.at c.args.calls.now (configs_of c.args.found.now.items) c.loop-i.i (configs_of c.loop-i.found.items)
-    (omega arith) c.loop-i.invariant.was
+    expanding_all c.args.at c.args.calls.now c.args.newest.now (configs_of c.args.found.now.items) c.loop-i.i
+    (configs_of c.loop-i.found.items) (omega arith) c.loop-i.invariant.was

@@ -6,7 +6,7 @@ use Rattle.trace_watch.proofs.closing.expand.Given as goal
 
 abbrev pub invariant-loop-i : goal.invariant-loop-i
 invariant-loop-i g l = record {
-  was : Expanding l.at l.calls (configs_of l.initial.found.items) l.i (configs_of l.found.items);
+  was : Expanding l.at l.calls l.newest (configs_of l.initial.found.items) l.i (configs_of l.found.items);
   few : length l.found.items ≤ max l.bound (length l.initial.found.items);
   indexed : IsIndexed l.index (configs_of l.found.items);
 }

@@ -25,8 +25,8 @@ loop-next-init g c =
           c.requires.long c.requires.chained;
     }
 
-pub returns-then-is_like-clause-yes : goal.returns-then-is_like-clause-yes
-returns-then-is_like-clause-yes g c = λ t.
+pub returns-then-is_covered-clause-yes : goal.returns-then-is_covered-clause-yes
+returns-then-is_covered-clause-yes g c = λ t.
     let some = c.loop-next-test.true in
     let inside = c.loop-next.invariant.inside in
     let l : c.loop-next.next - 1 < length c.args.found.now = omega arith in (
@@ -36,7 +36,7 @@ returns-then-is_like-clause-yes g c = λ t.
         get_config c.args.found.now (c.loop-next.next - 1) c.index-found-at.result
             (index_there c.args.found.now (c.loop-next.next - 1) c.index-found-at.result l c.index-found-at.is),
       ),
-      c.if-is_like.ensures.yes refl,
+      c.if-is_covered.ensures.yes refl,
     )
 
 pub loop-next-smaller : goal.loop-next-smaller
@@ -66,7 +66,7 @@ loop-next-preserved g c =
       left = chain_skip c.args.self.now.links.items c.args.found.now (config_of c.args.state.now) c.index-found-at.result
           c.loop-next.next (c.loop-next.next - 1) c.index-next-in-loop-next.result.now (omega arith)
           (index_there c.args.found.now (c.loop-next.next - 1) c.index-found-at.result l c.index-found-at.is)
-          (c.if-is_like.ensures.no refl) linked c.loop-next.invariant.left;
+          (c.if-is_covered.ensures.no refl) linked c.loop-next.invariant.left;
     }
 
 pub returns-clause-no : goal.returns-clause-no

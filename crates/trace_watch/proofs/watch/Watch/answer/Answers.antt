@@ -76,7 +76,7 @@ returns-then-is_empty-clause-few g c = λ opening trace f.
     (subst (λ (cs : List Call). IsIn cs c.in-Some.call) c.deref.ensures.value c.in-Some.ensures.0) c.in-Some.ensures.1
     (calls_read c.args.self.now c.in-Some.call c.deref-2.result.now c.in_ok-calls.calls.items c.deref-2.ensures.value
     c.in_ok-calls.ensures)
-    (few_read c.args.self.now c.in-Some.call c.args.id c.args.bound c.in_ok-calls.calls.items c.deref-4.result.now
+    (few_read c.args.self.now c.in-Some.call c.in-Some.call.id c.args.bound c.in_ok-calls.calls.items c.deref-4.result.now
     c.index.result.now c.deref-3.result.now c.deref-4.ensures.value c.deref-3.ensures.value c.index.ensures (omega arith)
     c.in_ok-later.ensures.few) f
 
@@ -88,7 +88,7 @@ returns-clause-few g c = λ opening trace f.
     (subst (λ (cs : List Call). IsIn cs c.in-Some.call) c.deref.ensures.value c.in-Some.ensures.0) c.in-Some.ensures.1
     (calls_read c.args.self.now c.in-Some.call c.deref-2.result.now c.in_ok-calls.calls.items c.deref-2.ensures.value
     c.in_ok-calls.ensures)
-    (few_read c.args.self.now c.in-Some.call c.args.id c.args.bound c.in_ok-calls.calls.items c.deref-4.result.now
+    (few_read c.args.self.now c.in-Some.call c.in-Some.call.id c.args.bound c.in_ok-calls.calls.items c.deref-4.result.now
     c.index.result.now c.deref-3.result.now c.deref-4.ensures.value c.deref-3.ensures.value c.index.ensures (omega arith)
     c.in_ok-later.ensures.few) f
 

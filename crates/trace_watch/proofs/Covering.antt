@@ -1,0 +1,180 @@
+-- Configurations that tell of whatever others do.
+use Rattle.std.proofs.Common.{◌≡◌, ℕ, zero, suc, ◌+◌, ◌<◌, ◌≤◌, length, Some, slice_get, Bool, true, false, cond, List, [], ◌∷◌, refl, sym, ◌∙◌, ap, subst, arith}
+use Rattle.std.specs.Prelude.{◌==◌, nat_lt, drop}
+use Rattle.std.specs.List.{insert}
+use Rattle.packet.specs.declared.kinds.Op.{Op}
+use Rattle.packet.specs.declared.kinds.Reply.{Reply}
+use Rattle.packet.specs.Memory.{new_word, reply_to}
+use Rattle.trace_laws.specs.declared.event.Call.{Call}
+use Rattle.trace_laws.specs.Configs.{IsIn}
+use Rattle.trace_watch.specs.declared.state.Effect.{Effect}
+use Rattle.trace_watch.specs.States.{AreCovered, Config, Covers, IsAmong, after, effect_of, is_before, is_op_before, spot, told_word}
+use Rattle.trace_watch.specs.Matchings.{Fits, Matches}
+use Rattle.trace_watch.proofs.Sifting.{drop_at, drop_end}
+use Rattle.trace_watch.specs.Named.{NamedConfig, NamedEffect, named, named_config}
+
+pub covered_self : (es : List Effect) → AreCovered es es
+covered_self [] = tt
+covered_self (e ∷ es) = (refl, refl, omega arith, covered_self es)
+
+pub covered_trans : (es fs gs : List Effect) → AreCovered es fs → AreCovered fs gs → AreCovered es gs
+covered_trans [] [] gs a b = b
+covered_trans [] (f ∷ fs) gs a b = absurd a
+covered_trans (e ∷ es) [] gs a b = absurd a
+covered_trans (e ∷ es) (f ∷ fs) [] a b = absurd b
+covered_trans (e ∷ es) (f ∷ fs) (g ∷ gs) a b =
+    let l = a.2 in
+    let m = b.2 in
+    (a.0 ∙ b.0, a.1 ∙ b.1, omega (arith, l, m), covered_trans es fs gs a.3 b.3)
+
+pub covers_self : (c : Config) → Covers c c
+covers_self c = record { word = refl; effects = covered_self c.effects }
+
+pub covers_trans : (b c d : Config) → Covers b c → Covers c d → Covers b d
+covers_trans b c d first then = record {
+  word = first.word ∙ then.word;
+  effects = covered_trans b.effects c.effects d.effects first.effects then.effects;
+}
+
+pub covered_match : (P : Call → Type 0) (es fs : List Effect) (calls : List Call) → AreCovered es fs
+    → Matches P fs calls → Matches P es calls
+covered_match P [] [] calls a m = m
+covered_match P [] (f ∷ fs) calls a m = absurd a
+covered_match P (e ∷ es) [] calls a m = absurd a
+covered_match P (e ∷ es) (f ∷ fs) [] a m = absurd m
+covered_match P (e ∷ es) (f ∷ fs) (c ∷ cs) a m =
+    let l = a.2 in
+    let early = m.1.early in (
+      m.0,
+      record { asks = m.1.asks ∙ sym a.0; early = omega (arith, l, early) },
+      covered_match (λ d. P d × (d.id ≡ c.id → ⊥)) es fs cs a.3 m.2,
+    )
+
+pub covered_fits : (P : Call → Type 0) (c d : Config) → Covers c d → Fits P d.effects → Fits P c.effects
+covered_fits P c d cov fit = (fit.0, covered_match P c.effects d.effects fit.0 cov.effects fit.1)
+
+pub covered_named : (es fs : List Effect) (calls : List Call) → AreCovered es fs → named es calls ≡ named fs calls
+covered_named [] [] calls a = refl
+covered_named [] (f ∷ fs) calls a = absurd a
+covered_named (e ∷ es) [] calls a = absurd a
+covered_named (e ∷ es) (f ∷ fs) [] a = refl
+covered_named (e ∷ es) (f ∷ fs) (c ∷ cs) a =
+    let name : Reply → NamedEffect = λ r. record { id = c.id; reply = r } in
+    ap (λ (r : Reply). name r ∷ named es cs) a.1
+    ∙ ap (λ (xs : List NamedEffect). name f.reply ∷ xs) (covered_named es fs cs a.3)
+
+pub covers_named : (c d : Config) (calls : List Call) → Covers c d → named_config d calls ≡ named_config c calls
+covers_named c d calls cov =
+    let made : ℕ → List NamedEffect → NamedConfig = λ w xs. record { word = w; effects = xs } in
+    ap (λ (w : ℕ). made w (named d.effects calls)) (sym cov.word)
+    ∙ ap (λ (xs : List NamedEffect). made c.word xs) (sym (covered_named c.effects d.effects calls cov.effects))
+
+-- what stands before what, by replies and operations
+abbrev before : Reply → Reply → Op → Op → Bool
+before r s o p = cond (told_word r == told_word s) (is_op_before o p) (nat_lt (told_word r) (told_word s))
+
+same_before : (g h e f : Effect) → g.op ≡ h.op → g.reply ≡ h.reply → e.op ≡ f.op → e.reply ≡ f.reply
+    → is_before g e ≡ is_before h f
+same_before g h e f go gr eo er =
+    ap (λ (r : Reply). before r e.reply g.op e.op) gr
+    ∙ (ap (λ (r : Reply). before h.reply r g.op e.op) er
+    ∙ (ap (λ (o : Op). before h.reply f.reply o e.op) go
+    ∙ ap (λ (o : Op). before h.reply f.reply h.op o) eo))
+
+put_in : (g h e f : Effect) (es fs : List Effect) (b : Bool) (n m : ℕ) → e.op ≡ f.op → e.reply ≡ f.reply
+    → f.newest ≤ e.newest → AreCovered (insert es n e) (insert fs m f) → AreCovered (g ∷ es) (h ∷ fs)
+    → AreCovered (insert (g ∷ es) (cond b (suc n) 0) e) (insert (h ∷ fs) (cond b (suc m) 0) f)
+put_in g h e f es fs true n m o r l inner a = (a.0, a.1, a.2, inner)
+put_in g h e f es fs false n m o r l inner a = (o, r, l, a)
+
+-- one effect more
+pub covered_insert : (es fs : List Effect) (e f : Effect) → e.op ≡ f.op → e.reply ≡ f.reply → f.newest ≤ e.newest
+    → AreCovered es fs → AreCovered (insert es (spot es e) e) (insert fs (spot fs f) f)
+covered_insert [] [] e f o r l a = (o, r, l, tt)
+covered_insert [] (h ∷ fs) e f o r l a = absurd a
+covered_insert (g ∷ es) [] e f o r l a = absurd a
+covered_insert (g ∷ es) (h ∷ fs) e f o r l a = subst
+    (λ (b : Bool). AreCovered (insert (g ∷ es) (cond (is_before g e) (suc (spot es e)) 0) e)
+    (insert (h ∷ fs) (cond b (suc (spot fs f)) 0) f)) (same_before g h e f a.0 a.1 o r)
+    (put_in g h e f es fs (is_before g e) (spot es e) (spot fs f) o r l (covered_insert es fs e f o r l a.3) a)
+
+-- an operation that is as new, in a configuration that tells of as much
+pub covers_after : (c d : Config) (b call : Call) → b.operation.op ≡ call.operation.op → call.id ≤ b.id → Covers c d
+    → Covers (after c b) (after d call)
+covers_after c d b call asks low cov = record {
+  word = ap (λ (o : Op). new_word o c.word) asks ∙ ap (λ (w : ℕ). new_word call.operation.op w) cov.word;
+  effects = covered_insert c.effects d.effects (effect_of c b) (effect_of d call) asks
+      (ap (λ (o : Op). reply_to o c.word) asks ∙ ap (λ (w : ℕ). reply_to call.operation.op w) cov.word) low cov.effects;
+}
+
+pub among_covers : (configs : List Config) (c d : Config) → IsAmong configs c → Covers c d → IsAmong configs d
+among_covers configs c d among cov = (among.0, among.1, covers_trans among.0 c d among.2 cov)
+
+-- the place of one more effect, as the code looks for it
+pub spot_on : (effects : List Effect) (i : ℕ) (f e : Effect) → slice_get effects i ≡ Some f → is_before f e ≡ true
+    → spot effects e ≡ i + spot (drop i effects) e → spot effects e ≡ i + 1 + spot (drop (i + 1) effects) e
+spot_on effects i f e here first was =
+    let split : spot (drop i effects) e ≡ spot (f ∷ drop (suc i) effects) e =
+    ap (λ (es : List Effect). spot es e) (drop_at effects i f here) in
+    let next : spot (f ∷ drop (suc i) effects) e ≡ suc (spot (drop (suc i) effects) e) =
+    ap (λ (b : Bool). cond b (suc (spot (drop (suc i) effects) e)) 0) first in
+    let one : suc i ≡ i + 1 = omega arith in
+    let more : spot (drop (suc i) effects) e ≡ spot (drop (i + 1) effects) e =
+    ap (λ (n : ℕ). spot (drop n effects) e) one in
+    omega (arith, was, split, next, more)
+
+pub spot_here : (effects : List Effect) (i : ℕ) (f e : Effect) → slice_get effects i ≡ Some f → is_before f e ≡ false
+    → spot effects e ≡ i + spot (drop i effects) e → i ≡ spot effects e
+spot_here effects i f e here late was =
+    let split : spot (drop i effects) e ≡ spot (f ∷ drop (suc i) effects) e =
+    ap (λ (es : List Effect). spot es e) (drop_at effects i f here) in
+    let next : spot (f ∷ drop (suc i) effects) e ≡ 0 =
+    ap (λ (b : Bool). cond b (suc (spot (drop (suc i) effects) e)) 0) late in
+    omega (arith, was, split, next)
+
+pub spot_end : (effects : List Effect) (i : ℕ) (e : Effect) → length effects ≤ i
+    → spot effects e ≡ i + spot (drop i effects) e → i ≡ spot effects e
+spot_end effects i e all was =
+    let none : spot (drop i effects) e ≡ 0 = ap (λ (es : List Effect). spot es e) (drop_end effects i all) in
+    omega (arith, was, none)
+
+pub covered_long : (es fs : List Effect) → AreCovered es fs → length es ≡ length fs
+covered_long [] [] a = refl
+covered_long [] (f ∷ fs) a = absurd a
+covered_long (e ∷ es) [] a = absurd a
+covered_long (e ∷ es) (f ∷ fs) a = ap suc (covered_long es fs a.3)
+
+-- effects cover others where they do from place i on
+pub record Covering (es fs : List Effect) (i : ℕ) : Type 0 where
+  pub up : AreCovered (drop i es) (drop i fs) → AreCovered es fs
+  pub down : AreCovered es fs → AreCovered (drop i es) (drop i fs)
+
+pub covering_none : (es fs : List Effect) → Covering es fs 0
+covering_none es fs = record { up = λ a. a; down = λ a. a }
+
+split_at : (es fs : List Effect) (i : ℕ) (e f : Effect) → slice_get es i ≡ Some e → slice_get fs i ≡ Some f
+    → AreCovered (drop i es) (drop i fs) → AreCovered (e ∷ drop (suc i) es) (f ∷ drop (suc i) fs)
+split_at es fs i e f here there a = subst (λ (xs : List Effect). AreCovered xs (f ∷ drop (suc i) fs))
+    (drop_at es i e here) (subst (λ (xs : List Effect). AreCovered (drop i es) xs) (drop_at fs i f there) a)
+
+pub covering_more : (es fs : List Effect) (i : ℕ) (e f : Effect) → slice_get es i ≡ Some e → slice_get fs i ≡ Some f
+    → (e.op ≡ f.op) × (e.reply ≡ f.reply) × (f.newest ≤ e.newest) → Covering es fs i → Covering es fs (i + 1)
+covering_more es fs i e f here there c was = subst (λ (n : ℕ). Covering es fs n) one (record {
+  up = λ a. was.up (subst (λ (xs : List Effect). AreCovered xs (drop i fs)) (sym (drop_at es i e here))
+      (subst (λ (xs : List Effect). AreCovered (e ∷ drop (suc i) es) xs) (sym (drop_at fs i f there))
+      (c.0, c.1, c.2, a)));
+  down = λ a. (split_at es fs i e f here there (was.down a)).3;
+})
+  where
+    one : suc i ≡ i + 1
+    one = omega arith
+
+pub covering_not : (es fs : List Effect) (i : ℕ) (e f : Effect) → slice_get es i ≡ Some e → slice_get fs i ≡ Some f
+    → (e.op ≡ f.op → e.reply ≡ f.reply → f.newest ≤ e.newest → ⊥) → Covering es fs i → AreCovered es fs → ⊥
+covering_not es fs i e f here there never was a =
+    let s = split_at es fs i e f here there (was.down a) in never s.0 s.1 s.2
+
+pub covering_all : (es fs : List Effect) (i : ℕ) → length es ≤ i → length fs ≤ i → Covering es fs i → AreCovered es fs
+covering_all es fs i all also was = was.up
+    (subst (λ (xs : List Effect). AreCovered xs (drop i fs)) (sym (drop_end es i all))
+    (subst (λ (xs : List Effect). AreCovered [] xs) (sym (drop_end fs i also)) tt))

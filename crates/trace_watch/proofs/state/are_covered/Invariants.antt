@@ -1,0 +1,6 @@
+use Rattle.std.proofs.Common.{refl}
+use Rattle.trace_watch.proofs.Covering.{Covering}
+use Rattle.trace_watch.proofs.state.are_covered.Given as goal
+
+abbrev pub invariant-loop-i : goal.invariant-loop-i
+invariant-loop-i l = Covering l.some l.others l.i

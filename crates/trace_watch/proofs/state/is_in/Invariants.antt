@@ -1,5 +1,0 @@
-use Rattle.std.proofs.Common.{◌≡◌, ℕ, ◌<◌, Some, slice_get}
-use Rattle.trace_watch.proofs.state.is_in.Given as goal
-
-abbrev pub invariant-loop-i : goal.invariant-loop-i
-invariant-loop-i l = (k : ℕ) → k < l.i → slice_get l.effects k ≡ Some l.effect → ⊥

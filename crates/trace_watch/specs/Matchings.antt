@@ -1,0 +1,55 @@
+-- Which open operations effects may be of.
+use Rattle.std.specs.Prelude.{◌≡◌, ◌⊎◌, ◌≤◌, ◌<◌, ℕ, List, [], ◌∷◌, Option, Some, None, slice_get}
+use Rattle.trace_laws.specs.declared.event.Call.{Call}
+use Rattle.trace_laws.specs.Configs.{IsIn}
+use Rattle.trace_watch.specs.declared.state.Effect.{Effect}
+
+-- an effect may be of an operation: it asks the same, and isn't too new
+pub record MayBe (e : Effect) (call : Call) : Type 0 where
+  pub asks : call.operation.op ≡ e.op
+  pub early : call.id ≤ e.newest
+
+-- all but the operation of this number
+abbrev pub Other : (Call → Type 0) → ℕ → Call → Type 0
+Other P id call = P call × (call.id ≡ id → ⊥)
+
+-- each effect may be of the operation at its place; each has its own number
+abbrev pub Matches : (Call → Type 0) → List Effect → List Call → Type 0
+Matches P [] [] = Unit {0}
+Matches P [] (call ∷ calls) = ⊥
+Matches P (e ∷ es) [] = ⊥
+Matches P (e ∷ es) (call ∷ calls) = P call × MayBe e call × Matches (Other P call.id) es calls
+
+-- effects may each be of an operation of its own
+abbrev pub Fits : (Call → Type 0) → List Effect → Type 0
+Fits P es = (calls : List Call) × Matches P es calls
+
+-- no two operations have one number
+abbrev pub AreDistinct : List Call → Type 0
+AreDistinct calls = (c d : Call) → IsIn calls c → IsIn calls d → c.id ≡ d.id → c ≡ d
+
+-- the newest of these that an effect may be of
+pub record IsNewestOf (calls : List Call) (e : Effect) (call : Call) : Type 0 where
+  pub on : IsIn calls call
+  pub may : MayBe e call
+  pub newest : (k : ℕ) (c : Call) → slice_get calls k ≡ Some c → MayBe e c → c.id ≤ call.id
+
+-- the newer one of an operation and the newest so far, of those that an effect may be of
+abbrev pub IsNewer : Effect → Option Call → Call → Option Call → Type 0
+IsNewer e last call next =
+    ((next ≡ last) × ((MayBe e call → ⊥) ⊎ ((d : Call) × (last ≡ Some d) × (call.id ≤ d.id))))
+    ⊎ ((next ≡ Some call) × MayBe e call × ((d : Call) → last ≡ Some d → d.id ≤ call.id))
+
+-- one of these asks the same and is as new
+abbrev pub HasAsNew : List Call → Call → Type 0
+HasAsNew calls call = (d : Call) × IsIn calls d × (d.operation.op ≡ call.operation.op)
+    × (call.id ≤ d.id)
+
+-- some of these, and for each one that asks the same and is as new
+pub record HasNewest (calls newest : List Call) : Type 0 where
+  pub from : (c : Call) → IsIn newest c → IsIn calls c
+  pub all : (c : Call) → IsIn calls c → HasAsNew newest c
+
+-- each of these is one of those
+abbrev pub IsPart : List Call → List Call → Type 0
+IsPart calls all = (c : Call) → IsIn calls c → IsIn all c
