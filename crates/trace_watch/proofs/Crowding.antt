@@ -18,7 +18,8 @@ use Rattle.trace_watch.specs.Known.{ArePendingOn}
 use Rattle.trace_watch.specs.Closed.{IsOneMore, Expands}
 use Rattle.trace_watch.specs.Crowds.{IsCrowd, GivesUp, IsOverfull}
 use Rattle.trace_watch.specs.Follows.{Tracks, AnswersMany, TellsFull, states_of}
-use Rattle.trace_watch.proofs.Growth.{one_in, get_config, Expanding, Catching, Closing, added_sound}
+use Rattle.trace_watch.proofs.Grown.{get_config}
+use Rattle.trace_watch.proofs.Growth.{one_in, Expanding, Catching, Closing, added_sound}
 use Rattle.trace_watch.proofs.Watching.{states_read}
 
 -- an operation takes effect, and there are too many

@@ -18,7 +18,7 @@ use Rattle.trace_watch.specs.Follows.{Tracks, AnswersFew, states_of}
 use Rattle.trace_watch.proofs.Events.{same_number, same_call}
 use Rattle.trace_watch.proofs.Matched.{fits_weaken}
 use Rattle.trace_watch.proofs.Covering.{covered_fits, covers_after, covers_trans}
-use Rattle.trace_watch.proofs.Growth.{long_configs}
+use Rattle.trace_watch.proofs.Grown.{long_configs}
 use Rattle.trace_watch.proofs.Watching.{pending_inside, states_read}
 
 -- whatever operations lead to is among the configurations that are closed under them

@@ -12,7 +12,7 @@ use Rattle.trace_watch.specs.States.{Config, IsAmong, config_of, configs_of, les
 use Rattle.trace_watch.specs.Matchings.{AreDistinct, Fits, HasNewest, IsPart, MayBe}
 use Rattle.trace_watch.specs.Closed.{Closes, FromOne, Gathers, IsAnsweredBy, IsClaimed, IsClaimedAt, IsOneMore, IsTaken}
 use Rattle.trace_watch.specs.Crowds.{IsOverfull}
-use Rattle.trace_watch.proofs.Growth.{get_config, goes_among, goes_more, goes_same, long_configs, more_among, more_from, more_goes}
+use Rattle.trace_watch.proofs.Grown.{get_config, goes_among, goes_more, goes_same, long_configs, more_among, more_from, more_goes}
 use Rattle.trace_watch.proofs.Loops.{fits_back, fits_read}
 
 -- nothing is of a kind

@@ -4,8 +4,10 @@ pub mod Covering
 pub mod Quiet
 pub mod Effects
 pub mod Steps
+pub mod Answered
 pub mod Walk
 pub mod Sifting
+pub mod Grown
 pub mod Growth
 pub mod Gathering
 pub mod Fitting
@@ -13,6 +15,7 @@ pub mod Loops
 pub mod Beginning
 pub mod Watching
 pub mod Crowding
+pub mod Masks
 pub mod Chains
 pub mod Few
 pub mod Answering

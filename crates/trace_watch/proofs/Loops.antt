@@ -8,7 +8,8 @@ use Rattle.trace_watch.specs.declared.state.State.{State}
 use Rattle.trace_watch.specs.States.{Config, after, config_of, configs_of}
 use Rattle.trace_watch.specs.Matchings.{AreDistinct, Fits}
 use Rattle.trace_watch.specs.Closed.{CatchesUp, Closes, Expands, IsOneMore}
-use Rattle.trace_watch.proofs.Growth.{get_config, configs_push, long_configs, goes_longer, expands_nothing, expands_one, Catching, catching_more, catching_all, Closing, closing_more, closing_all}
+use Rattle.trace_watch.proofs.Grown.{get_config, configs_push, long_configs}
+use Rattle.trace_watch.proofs.Growth.{goes_longer, expands_nothing, expands_one, Catching, catching_more, catching_all, Closing, closing_more, closing_all}
 
 -- what stands at a place, as the code reads it
 pub index_there : {A : Type 0} (xs : List A) (k : ℕ) (x : A) → k < length xs → x ≡ get_or xs k x

@@ -2,7 +2,7 @@ use Rattle.std.proofs.Common.{List, inl, refl, sym, subst}
 use Rattle.trace_watch.specs.declared.state.State.{State}
 use Rattle.trace_watch.specs.States.{IsAmong, config_of, configs_of}
 use Rattle.trace_watch.specs.Chains.{IsIndexed}
-use Rattle.trace_watch.proofs.Growth.{one_more_push}
+use Rattle.trace_watch.proofs.Grown.{one_more_push}
 use Rattle.trace_watch.proofs.Chains.{push_indexed}
 use Rattle.trace_watch.proofs.closing.add.Goals as goal
 

@@ -2,7 +2,8 @@ use Rattle.std.proofs.Common.{◌<◌, List, length, sym, subst, arith}
 use Rattle.std.proofs.lemmas.Result.{err_from_is_err_and}
 use Rattle.trace_watch.specs.States.{configs_of}
 use Rattle.trace_watch.proofs.Crowding.{catching_gives_up}
-use Rattle.trace_watch.proofs.Growth.{catching_none, long_configs}
+use Rattle.trace_watch.proofs.Grown.{long_configs}
+use Rattle.trace_watch.proofs.Growth.{catching_none}
 use Rattle.trace_watch.proofs.Loops.{catch_more, catch_all}
 use Rattle.trace_watch.proofs.closing.catch_up.Goals as goal
 

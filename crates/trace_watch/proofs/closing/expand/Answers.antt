@@ -3,7 +3,8 @@ use Rattle.std.proofs.lemmas.Option.{slice_get-get_or}
 use Rattle.std.proofs.lemmas.Result.{err_from_is_err_and}
 use Rattle.trace_watch.specs.States.{configs_of}
 use Rattle.trace_watch.proofs.Crowding.{more_give_up}
-use Rattle.trace_watch.proofs.Growth.{expanding_none, expanding_more, expanding_all, low_config}
+use Rattle.trace_watch.proofs.Grown.{low_config}
+use Rattle.trace_watch.proofs.Growth.{expanding_none, expanding_more, expanding_all}
 use Rattle.trace_watch.proofs.Loops.{at_inside}
 use Rattle.trace_watch.proofs.closing.expand.Goals as goal
 

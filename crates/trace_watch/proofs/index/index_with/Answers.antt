@@ -1,6 +1,6 @@
 use Rattle.std.proofs.Common.{◌<◌, ℕ, length, ◌∙◌, ap, arith, slice_get}
 use Rattle.trace_watch.specs.States.{configs_of}
-use Rattle.trace_watch.proofs.Growth.{get_config}
+use Rattle.trace_watch.proofs.Grown.{get_config}
 use Rattle.trace_watch.proofs.Loops.{index_there}
 use Rattle.trace_watch.proofs.index.index_with.Goals as goal
 

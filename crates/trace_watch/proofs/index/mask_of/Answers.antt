@@ -1,6 +1,6 @@
 use Rattle.std.proofs.Common.{◌<◌, ◌+◌, ℕ, length, sym, subst, arith}
 use Rattle.std.proofs.lemmas.Option.{slice_get-get_or}
-use Rattle.trace_watch.proofs.Chains.{Marking, marking_more, marking_all}
+use Rattle.trace_watch.proofs.Masks.{Marking, marking_more, marking_all}
 use Rattle.trace_watch.proofs.index.mask_of.Goals as goal
 
 pub loop-i-preserved : goal.loop-i-preserved

@@ -1,4 +1,4 @@
-use Rattle.trace_watch.proofs.Chains.{Marking}
+use Rattle.trace_watch.proofs.Masks.{Marking}
 use Rattle.trace_watch.proofs.index.mask_of.Given as goal
 
 abbrev pub invariant-loop-i : goal.invariant-loop-i

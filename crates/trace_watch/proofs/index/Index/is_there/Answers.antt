@@ -1,7 +1,7 @@
 use Rattle.std.proofs.Common.{◌≡◌, ◌<◌, ◌+◌, ◌-◌, Some, length, refl, arith, slice_get}
 use Rattle.std.proofs.lemmas.Option.{slice_get_read}
 use Rattle.trace_watch.specs.States.{config_of, configs_of}
-use Rattle.trace_watch.proofs.Growth.{get_config, long_configs}
+use Rattle.trace_watch.proofs.Grown.{get_config, long_configs}
 use Rattle.trace_watch.proofs.Loops.{index_there}
 use Rattle.trace_watch.proofs.Chains.{chain_begun, chain_skip, chain_ended}
 use Rattle.trace_watch.proofs.index.Index.is_there.Goals as goal
