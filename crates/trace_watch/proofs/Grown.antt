@@ -60,7 +60,6 @@ more_from old new c d more on = ⊎_elim {C = IsIn old d ⊎ (c ≡ d)}
     (get_push_cases old c there.0 d there.1))
     more
 
-
 -- what states say, place by place
 pub get_config : {A : Type 0} (states : List (State A)) (k : ℕ) (s : State A) → slice_get states k ≡ Some s
     → slice_get (configs_of states) k ≡ Some (config_of s)

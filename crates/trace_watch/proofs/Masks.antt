@@ -94,7 +94,6 @@ one_mask es m n a b = same_from_bits_below 64 m n a.low b.low (λ i l. same i)
         (bit_cases n i))
         (bit_cases m i)
 
-
 -- covered effects have the same bits
 same_spot : (e f : Effect) → e.op ≡ f.op → e.reply ≡ f.reply → spot_of e ≡ spot_of f
 same_spot e f o r =

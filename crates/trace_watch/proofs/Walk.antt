@@ -24,7 +24,7 @@ use Rattle.trace_watch.proofs.Quiet.{order_back}
 use Rattle.trace_watch.proofs.Matched.{match_insert, match_others, weaken}
 use Rattle.trace_watch.proofs.Covering.{covered_match, covers_named}
 use Rattle.trace_watch.proofs.Steps.{match_ids, step_explains, taken_explains}
-use Rattle.trace_watch.proofs.Answered.{IsAnswer, claim_leads, claimed_sound, distinct, effect_cases, inside, is, leads_among, more, now, one_open, open_other, other_later, other_open, pending, replied_so, rest, taken_sound, waits, well}
+use Rattle.trace_watch.proofs.Answered.{IsAnswer, claim_leads, claimed_sound, distinct, effect_cases, leads_among, more, now, one_open, open_other, other_later, other_open, replied_so, taken_sound}
 
 module _ {words : ℕ} {opening : List ℕ} {t : List Event} {w : ℕ} {b : Call} {reply : Reply} {calls others : List Call}
     (a : IsAnswer words opening t w b reply calls others) where
@@ -71,7 +71,7 @@ module _ {words : ℕ} {opening : List ℕ} {t : List Event} {w : ℕ} {b : Call
       s.explains in
       let same : take n order ++ b ∷ [] ≡ take (suc n) order = sym (take_push order n b at) in
       leads_among a (take (suc n) order) new d s.cs among
-      (weaken (IsIn others) (IsOpenOn (more a) w) other_later a c.effects s.cs s.matches)
+      (weaken (IsIn others) (IsOpenOn (more a) w) (other_later a) c.effects s.cs s.matches)
       (subst (λ (m : List Call). Explains opening (more a) w m (named_config d s.cs)) same x)
 
   -- another operation takes effect
@@ -103,7 +103,7 @@ module _ {words : ℕ} {opening : List ℕ} {t : List Event} {w : ℕ} {b : Call
       let may : MayBe (effect_of c r.0) d = record { asks = sym r.2; early = r.3 } in
       let m = match_insert (IsIn others) c.effects s.cs k (effect_of c r.0) d listed may
       (match_others (IsIn others) c.effects s.cs d.id s.matches left) in
-      let f = closed.closed c s.on distinct r.0 r.1 (insert s.cs k d, m) in
+      let f = closed.closed c s.on (distinct a) r.0 r.1 (insert s.cs k d, m) in
       let x = step_explains (IsIn others) opening t w (take n order) c s.cs r.0 d a.inside waits (sym r.2) s.matches left
       s.explains in
       let same : take n order ++ d ∷ [] ≡ take (suc n) order = sym (take_push order n d at) in
