@@ -12,7 +12,7 @@ ghost use Rattle.fabric.specs.Ending.{IsLongest, WasLongest, shown_after, slot_f
 ghost use Rattle.fabric.specs.Lawful.{HasLawfulRun};
 
 use crate::seats::{Fabric, TileSeat};
-use crate::steps::Note;
+use crate::plays::Note;
 use crate::view::Knowledge;
 use atomic_table::{Closed, Seat};
 use home_bank::Entry;

@@ -12,7 +12,8 @@ ghost use Rattle.fabric.specs.Opening.{fresh, rises, can_deal, CanDeal, Rest, Ha
 
 use crate::dealing::{Naming, named};
 use crate::seats::{Fabric, ProbeSeat, TileSeat};
-use crate::steps::{Halves, Note, Row};
+use crate::plays::{Halves, Note};
+use crate::steps::Row;
 use crate::taking::{filled, taken};
 use crate::view::Knowledge;
 use atomic_table::{Seat, Table};
