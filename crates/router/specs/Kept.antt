@@ -12,11 +12,11 @@ use Rattle.router.specs.Table.{way_of}
 -- beside each input stands an output that is there: where a head is latched, that for its packet
 -- (this project's own format)
 pub record AreTargets (s : Shape) (tile : ℕ) (latches : List (Option ℕ)) (targets : List ℕ) : Type 0
-    where
-  pub within : (i : ℕ) → i < port_count (dims_of s)
-      → slice_index_or targets i 0 < port_count (dims_of s)
-  pub ways : (i flit : ℕ) → slice_index_or latches i None ≡ Some flit
-      → IfSome (head_of flit) (λ head. slice_index_or targets i 0 ≡ way_of s tile i head)
+  where
+    pub within : (i : ℕ) → i < port_count (dims_of s)
+        → slice_index_or targets i 0 < port_count (dims_of s)
+    pub ways : (i flit : ℕ) → slice_index_or latches i None ≡ Some flit
+        → IfSome (head_of flit) (λ head. slice_index_or targets i 0 ≡ way_of s tile i head)
 
 -- a choice to take wants a take of its input (this project's own format)
 abbrev pub IsOfChoice : Choice → Want → Type 0
