@@ -54,6 +54,6 @@ def table() -> str:
     for what, name, begin, column, sign, wanted in GOALS:
         it = found(name, begin, column, sign)
         is_met = it is not None and (it <= round(wanted, 2) if sign == MOST else it >= wanted)
-        cells = [what, f"{sign} {wanted:.2g}", *(["-", "not taken"] if it is None else [f"{it:g}", "met" if is_met else "missed"])]
+        cells = [what, f"{sign} {round(wanted, 2):g}", *(["-", "not taken"] if it is None else [f"{it:g}", "met" if is_met else "missed"])]
         lines.append(f"| {' | '.join(cells)} |")
     return "\n".join(lines) + "\n"
