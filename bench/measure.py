@@ -6,6 +6,8 @@ memory, are taken of one run more. Times are in microseconds, memory is in KiB.
 from __future__ import annotations
 
 import ctypes
+import importlib.machinery
+import importlib.util
 import json
 import os
 import platform
@@ -17,6 +19,7 @@ import sys
 import threading
 import time
 from contextlib import contextmanager
+from types import ModuleType
 from typing import Any, Iterator, NamedTuple
 
 BENCH = os.path.dirname(os.path.realpath(__file__))
@@ -53,6 +56,14 @@ def program() -> str:
         why = "TORUSMEM names it" if named else builds
         raise command.Refusal(f"there is no program {found}: {why}")
     return os.path.abspath(found)
+
+
+def module(name: str) -> ModuleType:
+    """A script of this folder, as a module of its own."""
+    loader = importlib.machinery.SourceFileLoader(name, f"{BENCH}/{name}")
+    made = importlib.util.module_from_spec(importlib.util.spec_from_loader(name, loader))
+    loader.exec_module(made)
+    return made
 
 
 def compiled(name: str) -> str:

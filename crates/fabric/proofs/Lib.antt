@@ -16,3 +16,4 @@ mod Looking
 mod Refusing
 pub mod Counting
 mod Starting
+mod Takes

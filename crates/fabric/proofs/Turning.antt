@@ -35,10 +35,11 @@ unfolding is_ready
 ready_known load run c x q is op =
     ap (λ (o : Option TilePlace). is_some (option_and_then (λ (y : TilePlace). op_of y c) o)) is ∙ ap (λ (o : Option WordOp). is_some o) op
 
-pub idles : (c : Step) (x : TilePlace) (v w : View) (n : ℕ) (o : WordOp) → known v.load v.run (tile_of c) ≡ Some x → op_of x c ≡ Some o → Attempted c x v n w
-    → moves x c n ≡ false → StepIdles v c w
-idles c x v w n o here op t f =
-    subst (λ (q : Bool). MatchBool q (SeesIdle v c w) (w ≡ v)) (sym (ready_known v.load v.run c x (Some o) here op)) (sees c x v w n t (moves x c n) refl f)
+-- an operation was there, so the step is idle where it was seen not to be enabled
+pub waits : (c : Step) (x : TilePlace) (v w : View) (o : WordOp) → known v.load v.run (tile_of c) ≡ Some x → op_of x c ≡ Some o → SeesIdle v c w
+    → StepIdles v c w
+waits c x v w o here op seen =
+    subst (λ (q : Bool). MatchBool q (SeesIdle v c w) (w ≡ v)) (sym (ready_known v.load v.run c x (Some o) here op)) seen
 
 pub idles_before : (c : Step) (x : TilePlace) (v : View) → known v.load v.run (tile_of c) ≡ Some x → op_of x c ≡ None → StepIdles v c v
 idles_before c x v here op = subst (λ (q : Bool). MatchBool q (SeesIdle v c v) (v ≡ v)) (sym (ready_known v.load v.run c x None here op)) refl

@@ -11,8 +11,8 @@ ghost use Rattle.fabric.specs.Seats.{IsSeatOf, IsWhole, StandsAt};
 ghost use Rattle.fabric.specs.Ending.{IsLongest, WasLongest, shown_after, slot_finished};
 ghost use Rattle.fabric.specs.Lawful.{HasLawfulRun};
 
+use crate::plays::Note;
 use crate::seats::{Fabric, TileSeat};
-use crate::steps::Note;
 use crate::view::Knowledge;
 use atomic_table::{Closed, Seat};
 use home_bank::Entry;

@@ -6,6 +6,7 @@ mod dealing;
 pub mod ending;
 pub mod laws;
 mod opening;
+mod plays;
 pub mod seats;
 pub mod steps;
 mod taking;

@@ -11,8 +11,9 @@ ghost use Rattle.fabric.specs.Key.{ranges, Rises, count_up};
 ghost use Rattle.fabric.specs.Opening.{fresh, rises, can_deal, CanDeal, Rest, HasRest, IsBuilt};
 
 use crate::dealing::{Naming, named};
+use crate::plays::{Halves, Note};
 use crate::seats::{Fabric, ProbeSeat, TileSeat};
-use crate::steps::{Halves, Note, Row};
+use crate::steps::Row;
 use crate::taking::{filled, taken};
 use crate::view::Knowledge;
 use atomic_table::{Seat, Table};

@@ -8,13 +8,14 @@ ghost use Rattle.fabric.specs.Seats.{seat_knows, with_run};
 ghost use Rattle.fabric.specs.Lawful.{HasLawfulRun, KeepsBothFirst};
 ghost use Rattle.fabric.specs.declared.steps.Turned.TheVariants.{Moved, Idle, NotMine};
 
-use crate::steps::{Both, Halves, Look, Merge, Note, OneRun, Turned, take_in, turn_tile};
+use crate::plays::{Both, Halves, Look, Merge, Note, take_in};
+use crate::steps::{OneRun, Turned, turn_tile};
 use crate::view::{Dealing, Knowledge};
 use atomic_table::{Seat, Table};
 use machine_core::{TileAgents, agent_kind, agent_tile};
 use seat_wake::SeatFlags;
 use std::alloc::{Allocator, Global};
-use std::marker::{Brand, Model};
+use std::marker::Model;
 use torus::{Step, Torus};
 
 /// A row of words that threads share, and the rule that it keeps.
@@ -117,7 +118,7 @@ impl<A: Allocator> Fabric<A> {
         if !agent_kind(step.agent).has_choice(step.choice, self.ports) {
             return Turned::NotMine;
         }
-        turn_tile::<A, Brand>(
+        turn_tile(
             &self.table.shared,
             &mut seat.seat,
             &mut seat.flags,

@@ -1,17 +1,18 @@
 //! The atomic operations on the row.
-ghost use Rattle.std.specs.Prelude.{◌≡◌, ◌≢◌, ◌<◌, true, Some, []};
+ghost use Rattle.std.specs.Prelude.{◌≡◌, ◌≢◌, ◌<◌, IsTrue, true, Some, []};
 ghost use Rattle.tile_laws.specs.Agents.{tile_next_op};
 ghost use Rattle.fabric_rule.specs.Runs.{IsAcceptedLoad};
-ghost use Rattle.fabric_rule.specs.Known.{tile_of, row_length};
+ghost use Rattle.fabric_rule.specs.Known.{tile_of, enabled, row_length};
 ghost use Rattle.fabric_rule.specs.Groups.{In};
 ghost use Rattle.fabric_rule.specs.Rule.{Attempted};
 ghost use Rattle.fabric.specs.Seats.{StandsAt};
 ghost use Rattle.seat_wake.specs.Counted.{AreRight, Falls};
-ghost use Rattle.fabric.specs.Turns.{StepMoves, StepIdles, OnlyTile, LearnsBoth, has_choice};
+ghost use Rattle.fabric.specs.Turns.{StepMoves, StepIdles, SeesIdle, Sees, OnlyTile, has_choice};
 ghost use Rattle.fabric.specs.declared.steps.Turned.TheVariants.{Moved, Idle, NotMine};
 
+use crate::plays::Look;
 use crate::view::{Dealing, Knowledge};
-use atomic_table::{Join, Play, Seat, Shared, Split, TableRule};
+use atomic_table::{Play, Seat, Shared, TableRule};
 use flit_buffer::WordOp;
 use machine_core::{TileAgents, agent_kind};
 use seat_wake::SeatFlags;
@@ -137,14 +138,44 @@ pub enum Turned {
     NotMine,
 }
 
-// Attempts the step of the tile, of which the seat knows what it knew as the turn began.
+// Where the attempt is a take that no other seat can disturb, looks at its place first. Whether there is no
+// flit: then the attempt isn't enabled.
 #[inline(always)]
-pub(crate) fn turn_tile<A: Allocator, B: Turning>(
+fn finds_no_flit<A: Allocator>(
+    row: &Row,
+    seat: &mut Seat<(), Knowledge>,
+    flags: &SeatFlags<A>,
+    tile: &TileAgents<A>,
+    step: Step,
+    op: WordOp,
+) -> bool
+    requires table { (seat.old.table_id ≡ row.now.table_id)
+        × (row.now.table_id.words ≡ row_length seat.old.me.0.load) }
+    requires load { IsAcceptedLoad seat.old.me.0.load }
+    requires seat { (seat.old.me.0.live ≡ true) × (seat.old.me.0.told ≡ [])
+        × In seat.old.me.0.groups (tile_of step) }
+    requires tile { StandsAt seat.old.me.0.load seat.old.me.0.run (tile_of step) tile.now }
+    requires op { Some op ≡ tile_next_op tile.now.place step }
+    requires agent { step.agent < 192 }
+    ensures sees { Sees seat.old seat.new }
+    ensures idle { IsTrue result → enabled seat.new.me.0.load seat.new.me.0.run step ≡ false }
+{
+    let _ = tile;
+    if !flags.is_inner_take(step) {
+        return false;
+    }
+    row.load::<Look>(seat, op.word()) == 0
+}
+
+// Attempts the step of the tile by its operation, of which the seat knows what it knew before.
+#[inline(always)]
+fn attempt<A: Allocator, B: Turning>(
     row: &Row,
     seat: &mut Seat<(), Knowledge>,
     flags: &mut SeatFlags<A>,
     tile: &mut TileAgents<A>,
     step: Step,
+    op: WordOp,
 ) -> Turned
     requires turning { seat.old.me.0 ≡ B.view }
     requires picked { (B.step ≡ step) × (B.place ≡ tile.old.place) }
@@ -153,22 +184,19 @@ pub(crate) fn turn_tile<A: Allocator, B: Turning>(
     requires load { IsAcceptedLoad B.view.load }
     requires seat { (B.view.live ≡ true) × (B.view.told ≡ []) × In B.view.groups (tile_of B.step) }
     requires tile { StandsAt B.view.load B.view.run (tile_of step) tile.old }
+    requires op { Some op ≡ tile_next_op tile.old.place step }
     requires flags { AreRight B.view.load B.view.run B.view.groups flags.old }
     requires choice { has_choice B.view.load.shape step ≡ true }
     ensures seat { (seat.new.table_id ≡ seat.old.table_id) × (seat.new.id ≡ seat.old.id)
         × (seat.new.me.1 ≡ seat.old.me.1) }
     ensures tile { StandsAt seat.new.me.0.load seat.new.me.0.run (tile_of step) tile.new }
     ensures moved { result ≡ Moved → StepMoves seat.old.me.0 step seat.new.me.0 }
-    ensures idle { result ≡ Idle → StepIdles seat.old.me.0 step seat.new.me.0 }
+    ensures idle { result ≡ Idle → SeesIdle seat.old.me.0 step seat.new.me.0 }
     ensures mine { result ≢ NotMine }
     ensures rest { OnlyTile seat.old.me.0 (tile_of step) seat.new.me.0 }
     ensures flags { AreRight seat.new.me.0.load seat.new.me.0.run seat.new.me.0.groups flags.new }
     ensures falls { result ≡ Idle → Falls step flags.old flags.new }
 {
-    let Some(op) = tile_op(tile, step) else {
-        flags.rests(step);
-        return Turned::Idle;
-    };
     let found = perform::<A, B>(row, seat, step, tile, op);
     match tile.absorb(step, found) {
         Stepped::Moved => {
@@ -182,76 +210,39 @@ pub(crate) fn turn_tile<A: Allocator, B: Turning>(
     }
 }
 
-pub(crate) struct Look;
-
-impl Play<(), Knowledge> for Look {
-    ghost use Rattle.fabric.specs.Table.{looked};
-
-    ghost then = { looked };
-}
-
-// The seat learns of all runs that it was told of.
-pub(crate) struct Learn;
-
-impl Play<(), Knowledge> for Learn {
-    ghost use Rattle.fabric.specs.Table.{learned};
-
-    ghost then = { learned };
-}
-
-// The same, and its groups become one.
-pub(crate) struct Merge;
-
-impl Play<(), Knowledge> for Merge {
-    ghost use Rattle.fabric.specs.Table.{merged};
-
-    ghost then = { merged };
-}
-
-pub(crate) struct Halves;
-
-impl Split<Knowledge> for Halves {
-    ghost use Rattle.fabric_rule.specs.Groups.{first_half, second_half};
-
-    ghost left = { first_half };
-
-    ghost right = { second_half };
-}
-
-pub(crate) struct Note;
-
-impl Split<Knowledge> for Note {
-    ghost use Rattle.fabric_rule.specs.Groups.{with_groups, note};
-
-    ghost left = { λ v. with_groups v v.groups };
-
-    ghost right = { note };
-}
-
-pub(crate) struct Both;
-
-impl Join<Knowledge> for Both {
-    ghost use Rattle.fabric_rule.specs.Groups.{both};
-    ghost use Rattle.fabric_rule.specs.View.{blank};
-
-    ghost both = { both };
-
-    ghost spent = { blank };
-}
-
-// The first seat takes the other in, and learns at a word of the row of all that either knew.
-pub(crate) fn take_in(
+// Attempts the step of the tile.
+#[inline(always)]
+pub(crate) fn turn_tile<A: Allocator>(
     row: &Row,
     seat: &mut Seat<(), Knowledge>,
-    other: Seat<(), Knowledge>,
-    word: usize,
-)
-    requires tables { (seat.old.table_id ≡ row.now.table_id) × (other.table_id ≡ row.now.table_id) }
-    requires none_held { other.me.1 ≡ [] }
-    requires word { word < row.now.table_id.words }
+    flags: &mut SeatFlags<A>,
+    tile: &mut TileAgents<A>,
+    step: Step,
+) -> Turned
+    requires table { (seat.old.table_id ≡ row.now.table_id)
+        × (row.now.table_id.words ≡ row_length seat.old.me.0.load) }
+    requires load { IsAcceptedLoad seat.old.me.0.load }
+    requires seat { (seat.old.me.0.live ≡ true) × (seat.old.me.0.told ≡ [])
+        × In seat.old.me.0.groups (tile_of step) }
+    requires tile { StandsAt seat.old.me.0.load seat.old.me.0.run (tile_of step) tile.old }
+    requires flags { AreRight seat.old.me.0.load seat.old.me.0.run seat.old.me.0.groups flags.old }
+    requires choice { has_choice seat.old.me.0.load.shape step ≡ true }
     ensures seat { (seat.new.table_id ≡ seat.old.table_id) × (seat.new.me.1 ≡ seat.old.me.1) }
-    ensures learned { LearnsBoth seat.old.me.0 other.me.0 seat.new.me.0 }
+    ensures tile { StandsAt seat.new.me.0.load seat.new.me.0.run (tile_of step) tile.new }
+    ensures moved { result ≡ Moved → StepMoves seat.old.me.0 step seat.new.me.0 }
+    ensures idle { result ≡ Idle → StepIdles seat.old.me.0 step seat.new.me.0 }
+    ensures mine { result ≢ NotMine }
+    ensures rest { OnlyTile seat.old.me.0 (tile_of step) seat.new.me.0 }
+    ensures flags { AreRight seat.new.me.0.load seat.new.me.0.run seat.new.me.0.groups flags.new }
+    ensures falls { result ≡ Idle → Falls step flags.old flags.new }
 {
-    row.join_seat::<Both>(seat, other);
-    row.load::<Learn>(seat, word);
+    let Some(op) = tile_op(tile, step) else {
+        flags.rests(step);
+        return Turned::Idle;
+    };
+    if finds_no_flit(row, seat, flags, tile, step, op) {
+        flags.rests(step);
+        return Turned::Idle;
+    }
+    attempt::<A, Brand>(row, seat, flags, tile, step, op)
 }

@@ -8,3 +8,4 @@ mod Sides
 mod Bordering
 mod Filling
 pub mod Counting
+pub mod Takes

@@ -2,7 +2,7 @@
 use Rattle.std.specs.Prelude.{◌≡◌, ◌≢◌, ◌<◌, ℕ, List, false}
 use Rattle.torus.specs.declared.step.Step.{Step}
 use Rattle.torus.specs.declared.step.Choice.{Choice}
-use Rattle.torus.specs.declared.step.Choice.TheVariants.{Look, TakeFrom, Put, CreditOf}
+use Rattle.torus.specs.declared.step.Choice.TheVariants.{Take, Look, TakeFrom, Put, CreditOf}
 use Rattle.tile_laws.specs.declared.agent.Agent.TheVariants.{Router}
 use Rattle.tile_laws.specs.Agents.{agent_kind, agent_tile}
 use Rattle.core_laws.specs.Core.{Load, design_of}
@@ -51,3 +51,11 @@ abbrev pub Falls : Step → Counted → Counted → Type 0
 Falls c old new =
     (agent_kind c.agent ≢ Router → ChoiceFalls c.agent c.choice old new)
     × (agent_kind c.agent ≡ Router → PortFalls (agent_tile c.agent) c.choice old new)
+
+-- A choice of an agent of a tile is a take that no other seat can enable: of a processor or a bank, or
+-- of a router at an input, of those that there may be, that isn't at the border (this project's own
+-- format).
+abbrev pub IsInnerTake : Counted → ℕ → Choice → Type 0
+IsInnerTake counted t Take = Unit {0}
+IsInnerTake counted t (TakeFrom i) = (i < 31) × (is_raised counted.border_takes t i ≡ false)
+IsInnerTake counted t _ = ⊥

@@ -1,6 +1,6 @@
 //! Which inputs and outputs of routers lead to tiles of other seats.
 
-ghost use Rattle.std.specs.Prelude.{◌≡◌, ◌≤◌, ◌<◌, ◌/◌, ◌%◌, ◌↔◌, ℕ, List, true, false};
+ghost use Rattle.std.specs.Prelude.{◌≡◌, ◌≤◌, ◌<◌, ◌/◌, ◌%◌, ◌↔◌, ℕ, List, IsTrue, true, false};
 ghost use Rattle.torus.specs.Shape.{dims_of, tiles_of};
 ghost use Rattle.channel_number.specs.Ports.{port_count, input_channel, output_channel};
 ghost use Rattle.channel_number.specs.Ports.{input_router, output_router, opposite};
@@ -64,6 +64,23 @@ fn is_between(tile: u32, first: u32, end: u32) -> bool
     ensures { (result ≡ true) ↔ ((first ≤ tile) × (tile < end)) }
 {
     first <= tile && tile < end
+}
+
+// Whether the flag of a port is lowered in a set.
+#[inline(always)]
+pub(crate) fn is_lowered(set: &PortSet, tile: usize, port: u32) -> bool
+    requires { tile < 64 }
+    ensures exact { port < 31 → (IsTrue result ↔ (is_raised set.now tile port ≡ false)) }
+    ensures low { IsTrue result → is_raised set.now tile port ≡ false }
+    ensures few { IsTrue result → port < 31 }
+{
+    if port >= 31 {
+        return false;
+    }
+    match set.next(tile, port, port + 1) {
+        None => true,
+        Some(_) => false,
+    }
 }
 
 // Lowers the flag of a port where that is wanted.

@@ -13,13 +13,13 @@ ghost use Rattle.core_laws.specs.Core.{Load, design_of};
 ghost use Rattle.core_laws.specs.Runs.{IsAcceptedLoad};
 ghost use Rattle.core_wake.specs.Routers.{of_router};
 ghost use Rattle.machine_parts.specs.Awake.{is_choice_awake};
-ghost use Rattle.machine_parts.specs.Ports.{flags_of, is_raised};
+ghost use Rattle.machine_parts.specs.Ports.{flags_of};
 ghost use Rattle.fabric_rule.specs.Known.{known, enabled, op_of};
 ghost use Rattle.fabric_rule.specs.Groups.{In, Others};
 ghost use Rattle.seat_wake.specs.Border.{AreOf};
-ghost use Rattle.seat_wake.specs.Counted.{AreRight, ChoiceFalls, Falls, PortFalls};
+ghost use Rattle.seat_wake.specs.Counted.{AreRight, ChoiceFalls, Falls, IsInnerTake, PortFalls};
 
-use crate::border::border;
+use crate::border::{border, is_lowered};
 use flit_buffer::WordOp;
 use machine_parts::{Agent, PortSet, RouterFlags, WakeFlags, agent_kind, agent_tile};
 use std::alloc::{AllocError, Allocator, Global};
@@ -127,22 +127,6 @@ fn fill_tiles<A: Allocator>(ports: &mut RouterFlags<A>, from: usize, to: usize)
     }
 }
 
-// Whether the flag of a port is lowered in a set.
-#[inline(always)]
-fn is_lowered(set: &PortSet, tile: usize, port: u32) -> bool
-    requires { tile < 64 }
-    ensures exact { port < 31 → (IsTrue result ↔ (is_raised set.now tile port ≡ false)) }
-    ensures low { IsTrue result → is_raised set.now tile port ≡ false }
-{
-    if port >= 31 {
-        return false;
-    }
-    match set.next(tile, port, port + 1) {
-        None => true,
-        Some(_) => false,
-    }
-}
-
 impl<A: Allocator> SeatFlags<A> {
     /// Whether a choice of a processor or a bank counts as awake.
     #[inline(always)]
@@ -188,6 +172,22 @@ impl<A: Allocator> SeatFlags<A> {
             × IsFirstPlace ((flags_of self.now.ports).credits tile) from ports o) }
     {
         self.ports.next_credit(tile, from, ports)
+    }
+
+    /// Whether a step is a take that no other seat can enable: of a processor or a bank, or of a router at an
+    /// input below 31 that comes from a tile of the seat's.
+    #[inline(always)]
+    pub fn is_inner_take(&self, step: Step) -> bool
+        requires { step.agent < 192 }
+        ensures { IsTrue result ↔ IsInnerTake self.now (agent_tile step.agent) step.choice }
+    {
+        match step.choice {
+            Choice::Take => true,
+            Choice::TakeFrom(input) => {
+                is_lowered(&self.border_takes, agent_tile(step.agent) as usize, input)
+            }
+            _ => false,
+        }
     }
 
     /// After a move of the seat's by this operation: those choices count as awake too that it can enable.

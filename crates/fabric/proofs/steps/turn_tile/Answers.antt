@@ -1,95 +1,68 @@
-use Rattle.std.proofs.Common.{refl, subst}
-use Rattle.torus.specs.declared.step.Stepped.{Stepped}
-use Rattle.fabric_rule.specs.Known.{moves}
-use Rattle.fabric.proofs.Counting.{agent_low, right_before, mine_before, has_before, unready_right, moved_right, idle_right}
-use Rattle.fabric.proofs.Turning.{sees, makes, idles, idles_before, Absorbs, op_is, accepts, has_room, moved_is, idle_is, stands_then, only_tile, before}
-use Rattle.fabric.proofs.Turning.{accepted_before, tile_known, told_of}
+use Rattle.std.proofs.Common.{◌≡◌, refl, sym, ap, ◌∙◌, subst}
+use Rattle.std.specs.Prelude.{true}
+use Rattle.fabric_rule.specs.Core.{Load}
+use Rattle.fabric_rule.specs.Runs.{IsAcceptedLoad}
+use Rattle.fabric_rule.specs.View.{View}
+use Rattle.fabric_rule.specs.Groups.{knowing}
+use Rattle.fabric.proofs.Counting.{agent_low, mine_before, has_before, unready_right, idle_right, seen_right}
+use Rattle.fabric.proofs.Takes.{moves_then, sees_then, sees_at_once, only_then, stands_on}
+use Rattle.fabric.proofs.Turning.{accepted_before, idles_before, op_is, only_same, tile_known, waits}
 use Rattle.fabric.proofs.steps.turn_tile.Goals as goal
 
 pub tile_op-requires : goal.tile_op-requires
 tile_op-requires g c = tile_known _ _ _ _ c.requires.tile
 
-pub returns-in_default-clause-idle : goal.returns-in_default-clause-idle
-returns-in_default-clause-idle g c = λ _. idles_before _ _ _ (before _ _ _ _ c.requires.turning c.requires.tile).place (op_is _ _ _ c.in_default.ensures)
-
-pub returns-in_default-clause-tile : goal.returns-in_default-clause-tile
-returns-in_default-clause-tile g c = before _ _ _ _ c.requires.turning c.requires.tile
-
-pub absorb-requires-clause-flit : goal.absorb-requires-clause-flit
-absorb-requires-clause-flit g c = let t = told_of _ _ _ _ _ _ _ c.requires.picked.0 c.requires.picked.1 c.perform-found.ensures.told in accepts _ _ _ _ t.suits
-
-pub absorb-requires-clause-entries : goal.absorb-requires-clause-entries
-absorb-requires-clause-entries g c = let t = told_of _ _ _ _ _ _ _ c.requires.picked.0 c.requires.picked.1 c.perform-found.ensures.told in
-    has_room _ _ _ _ (before _ _ _ _ c.requires.turning c.requires.tile).room t.suits
-
-pub returns-in-Moved-clause-tile : goal.returns-in-Moved-clause-tile
-returns-in-Moved-clause-tile g c =
-    stands_then c.args.step c.args.tile.now c.args.seat.now.me.0 c.perform-found.new.seat.me.0 c.perform-found.result c.absorb.result c.absorb.new.self
-    (before _ _ _ _ c.requires.turning c.requires.tile) (told_of _ _ _ _ _ _ _ c.requires.picked.0 c.requires.picked.1 c.perform-found.ensures.told)
-    c.absorb.ensures
-
-pub returns-in-Moved-clause-moved : goal.returns-in-Moved-clause-moved
-returns-in-Moved-clause-moved g c = λ _.
-    let absorbs = subst (λ (a : Stepped). Absorbs c.args.tile.now c.args.step c.perform-found.result a c.absorb.new.self) c.in-Moved.is c.absorb.ensures in
-    makes c.args.step c.args.tile.now.place c.args.seat.now.me.0 c.perform-found.new.seat.me.0 c.perform-found.result
-    (told_of _ _ _ _ _ _ _ c.requires.picked.0 c.requires.picked.1 c.perform-found.ensures.told) (moved_is _ _ _ c.absorb.new.self absorbs)
-
-pub returns-in-Moved-clause-rest : goal.returns-in-Moved-clause-rest
-returns-in-Moved-clause-rest g c =
-    only_tile _ _ _ _ _ (accepted_before _ _ c.requires.turning c.requires.load)
-    (told_of _ _ _ _ _ _ _ c.requires.picked.0 c.requires.picked.1 c.perform-found.ensures.told)
-
-pub returns-in-Idle-clause-tile : goal.returns-in-Idle-clause-tile
-returns-in-Idle-clause-tile g c =
-    stands_then c.args.step c.args.tile.now c.args.seat.now.me.0 c.perform-found.new.seat.me.0 c.perform-found.result c.absorb.result c.absorb.new.self
-    (before _ _ _ _ c.requires.turning c.requires.tile) (told_of _ _ _ _ _ _ _ c.requires.picked.0 c.requires.picked.1 c.perform-found.ensures.told)
-    c.absorb.ensures
-
-pub returns-in-Idle-clause-idle : goal.returns-in-Idle-clause-idle
-returns-in-Idle-clause-idle g c = λ _.
-    let absorbs = subst (λ (a : Stepped). Absorbs c.args.tile.now c.args.step c.perform-found.result a c.absorb.new.self) c.in-Idle.is c.absorb.ensures in
-    idles c.args.step c.args.tile.now.place c.args.seat.now.me.0 c.perform-found.new.seat.me.0 c.perform-found.result c.in-Some.op
-    (before _ _ _ _ c.requires.turning c.requires.tile).place (op_is _ _ _ c.in-Some.ensures)
-    (told_of _ _ _ _ _ _ _ c.requires.picked.0 c.requires.picked.1 c.perform-found.ensures.told) (idle_is _ _ _ c.absorb.new.self absorbs)
-
-pub returns-in-Idle-clause-rest : goal.returns-in-Idle-clause-rest
-returns-in-Idle-clause-rest g c =
-    only_tile _ _ _ _ _ (accepted_before _ _ c.requires.turning c.requires.load)
-    (told_of _ _ _ _ _ _ _ c.requires.picked.0 c.requires.picked.1 c.perform-found.ensures.told)
-
 pub rests-requires : goal.rests-requires
-rests-requires g c = agent_low g.B.Turning.view.load g.B.Turning.view.run c.args.step c.args.tile.now c.requires.load c.requires.tile
+rests-requires g c = agent_low c.args.seat.now.me.0.load c.args.seat.now.me.0.run c.args.step c.args.tile.now c.requires.load c.requires.tile
 
-pub rests-requires-in-Idle : goal.rests-requires-in-Idle
-rests-requires-in-Idle g c = agent_low g.B.Turning.view.load g.B.Turning.view.run c.args.step c.args.tile.now c.requires.load c.requires.tile
-
-pub moved-requires : goal.moved-requires
-moved-requires g c = agent_low g.B.Turning.view.load g.B.Turning.view.run c.args.step c.args.tile.now c.requires.load c.requires.tile
+pub returns-in_default-clause-idle : goal.returns-in_default-clause-idle
+returns-in_default-clause-idle g c = λ _. idles_before _ _ _ c.requires.tile.place (op_is _ _ _ c.in_default.ensures)
 
 pub returns-in_default-clause-flags : goal.returns-in_default-clause-flags
 returns-in_default-clause-flags g c =
-    unready_right c.args.step c.args.tile.now.place c.args.seat.now.me.0 (accepted_before _ _ c.requires.turning c.requires.load) c.args.flags.now
-    c.rests.new.self (right_before c.args.seat.now.me.0 g.B.Turning.view c.args.flags.now c.requires.turning c.requires.flags)
-    (mine_before c.args.seat.now.me.0 g.B.Turning.view g.B.Turning.step c.args.step c.requires.turning c.requires.picked.0 c.requires.seat.2) (before _ _ _ _ c.requires.turning c.requires.tile).place
-    c.rests.ensures.right (has_before c.args.seat.now.me.0 g.B.Turning.view c.args.step c.requires.turning c.requires.choice) (op_is _ _ _ c.in_default.ensures)
+    unready_right c.args.step c.args.tile.now.place c.args.seat.now.me.0 c.requires.load c.args.flags.now c.rests.new.self c.requires.flags c.requires.seat.2
+    c.requires.tile.place c.rests.ensures.right c.requires.choice (op_is _ _ _ c.in_default.ensures)
 
-pub returns-in-Moved-clause-flags : goal.returns-in-Moved-clause-flags
-returns-in-Moved-clause-flags g c =
-    let absorbs = subst (λ (a : Stepped). Absorbs c.args.tile.now c.args.step c.perform-found.result a c.absorb.new.self) c.in-Moved.is c.absorb.ensures in
-    moved_right c.args.step c.args.tile.now.place c.args.seat.now.me.0 (accepted_before _ _ c.requires.turning c.requires.load) c.args.flags.now
-    c.moved.new.self (right_before c.args.seat.now.me.0 g.B.Turning.view c.args.flags.now c.requires.turning c.requires.flags)
-    (mine_before c.args.seat.now.me.0 g.B.Turning.view g.B.Turning.step c.args.step c.requires.turning c.requires.picked.0 c.requires.seat.2) (before _ _ _ _ c.requires.turning c.requires.tile).place
-    c.in-Some.op c.moved.ensures.right (op_is _ _ _ c.in-Some.ensures) c.perform-found.new.seat.me.0
-    (makes c.args.step c.args.tile.now.place c.args.seat.now.me.0 c.perform-found.new.seat.me.0 c.perform-found.result
-    (told_of _ _ _ _ _ _ _ c.requires.picked.0 c.requires.picked.1 c.perform-found.ensures.told) (moved_is _ _ _ c.absorb.new.self absorbs))
+pub finds_no_flit-requires-clause-agent : goal.finds_no_flit-requires-clause-agent
+finds_no_flit-requires-clause-agent g c = agent_low c.args.seat.now.me.0.load c.args.seat.now.me.0.run c.args.step c.args.tile.now c.requires.load c.requires.tile
 
-pub returns-in-Idle-clause-flags : goal.returns-in-Idle-clause-flags
-returns-in-Idle-clause-flags g c =
-    let absorbs = subst (λ (a : Stepped). Absorbs c.args.tile.now c.args.step c.perform-found.result a c.absorb.new.self) c.in-Idle.is c.absorb.ensures in
-    idle_right c.args.step c.args.tile.now.place c.args.seat.now.me.0 (accepted_before _ _ c.requires.turning c.requires.load) c.args.flags.now
-    c.rests-in-Idle.new.self (right_before c.args.seat.now.me.0 g.B.Turning.view c.args.flags.now c.requires.turning c.requires.flags)
-    (mine_before c.args.seat.now.me.0 g.B.Turning.view g.B.Turning.step c.args.step c.requires.turning c.requires.picked.0 c.requires.seat.2) (before _ _ _ _ c.requires.turning c.requires.tile).place
-    c.rests-in-Idle.ensures.right (has_before c.args.seat.now.me.0 g.B.Turning.view c.args.step c.requires.turning c.requires.choice) c.perform-found.new.seat.me.0
-    (sees c.args.step c.args.tile.now.place c.args.seat.now.me.0 c.perform-found.new.seat.me.0 c.perform-found.result
-    (told_of _ _ _ _ _ _ _ c.requires.picked.0 c.requires.picked.1 c.perform-found.ensures.told) (moves c.args.tile.now.place c.args.step c.perform-found.result)
-    refl (idle_is _ _ _ c.absorb.new.self absorbs))
+pub rests-requires-then-finds_no_flit : goal.rests-requires-then-finds_no_flit
+rests-requires-then-finds_no_flit g c = agent_low c.args.seat.now.me.0.load c.args.seat.now.me.0.run c.args.step c.args.tile.now c.requires.load c.requires.tile
+
+pub returns-then-finds_no_flit-clause-tile : goal.returns-then-finds_no_flit-clause-tile
+returns-then-finds_no_flit-clause-tile g c = let saw = c.finds_no_flit.ensures.sees in
+    stands_on c.args.seat.now.me.0 c.finds_no_flit.new.seat.me.0 c.finds_no_flit.new.seat.me.0 c.args.step saw.between saw.others saw.view c.requires.load
+    c.requires.seat.2 c.args.tile.now c.requires.tile
+
+pub returns-then-finds_no_flit-clause-idle : goal.returns-then-finds_no_flit-clause-idle
+returns-then-finds_no_flit-clause-idle g c = λ _. let saw = c.finds_no_flit.ensures.sees in
+    waits c.args.step c.args.tile.now.place c.args.seat.now.me.0 c.finds_no_flit.new.seat.me.0 c.in-Some.op c.requires.tile.place
+    (op_is _ _ _ c.in-Some.ensures)
+    (sees_at_once c.args.seat.now.me.0 c.finds_no_flit.new.seat.me.0 c.finds_no_flit.new.seat.me.0 c.args.step saw.between saw.others saw.view
+    (c.finds_no_flit.ensures.idle c.if-finds_no_flit.true))
+
+pub returns-then-finds_no_flit-clause-rest : goal.returns-then-finds_no_flit-clause-rest
+returns-then-finds_no_flit-clause-rest g c = let saw = c.finds_no_flit.ensures.sees in
+    only_then c.args.seat.now.me.0 c.finds_no_flit.new.seat.me.0 c.finds_no_flit.new.seat.me.0 c.args.step saw.between saw.others saw.view c.requires.load _
+    (only_same c.finds_no_flit.new.seat.me.0 _)
+
+pub returns-then-finds_no_flit-clause-flags : goal.returns-then-finds_no_flit-clause-flags
+returns-then-finds_no_flit-clause-flags g c = let saw = c.finds_no_flit.ensures.sees in
+    idle_right c.args.step c.args.tile.now.place c.args.seat.now.me.0 c.requires.load c.args.flags.now c.rests-then-finds_no_flit.new.self c.requires.flags
+    c.requires.seat.2 c.requires.tile.place c.rests-then-finds_no_flit.ensures.right c.requires.choice c.finds_no_flit.new.seat.me.0
+    (sees_at_once c.args.seat.now.me.0 c.finds_no_flit.new.seat.me.0 c.finds_no_flit.new.seat.me.0 c.args.step saw.between saw.others saw.view
+    (c.finds_no_flit.ensures.idle c.if-finds_no_flit.true))
+
+pub returns-clause-moved : goal.returns-clause-moved
+returns-clause-moved g c = λ e. let saw = c.finds_no_flit.ensures.sees in
+    moves_then c.args.seat.now.me.0 c.finds_no_flit.new.seat.me.0 c.attempt.new.seat.me.0 c.args.step saw.between saw.others saw.view (c.attempt.ensures.moved e)
+
+pub returns-clause-idle : goal.returns-clause-idle
+returns-clause-idle g c = λ e. let saw = c.finds_no_flit.ensures.sees in
+    waits c.args.step c.args.tile.now.place c.args.seat.now.me.0 c.attempt.new.seat.me.0 c.in-Some.op c.requires.tile.place (op_is _ _ _ c.in-Some.ensures)
+    (sees_then c.args.seat.now.me.0 c.finds_no_flit.new.seat.me.0 c.attempt.new.seat.me.0 c.args.step saw.between saw.others saw.view (c.attempt.ensures.idle e))
+
+pub returns-clause-rest : goal.returns-clause-rest
+returns-clause-rest g c = let saw = c.finds_no_flit.ensures.sees in
+    only_then c.args.seat.now.me.0 c.finds_no_flit.new.seat.me.0 c.attempt.new.seat.me.0 c.args.step saw.between saw.others saw.view c.requires.load _
+    c.attempt.ensures.rest

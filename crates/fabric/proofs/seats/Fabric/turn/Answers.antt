@@ -21,7 +21,7 @@ invariant_of-seat-2 g c =
     let at : slice_get c.seat.inside.slots.items (agent_tile c.args.step.agent) ≡ Some (Some c.in-Some.tile) = grind (arith, common_steps, gets) in (
       subst (λ (n : ℕ). Seated (set c.seat.inside.slots.items n (Some c.turn_tile.new.tile)) c.turn_tile.new.seat) (sym c.agent_tile-number.ensures)
           (seated_turn _ c.seat.inside.seat c.turn_tile.new.seat _ c.in-Some.tile _ c.seat.invariant.0 at c.turn_tile.ensures.seat.0
-          c.turn_tile.ensures.seat.2 c.turn_tile.ensures.tile c.turn_tile.ensures.rest),
+          c.turn_tile.ensures.seat.1 c.turn_tile.ensures.tile c.turn_tile.ensures.rest),
       c.turn_tile.ensures.flags,
     )
 

@@ -1,7 +1,7 @@
 use Rattle.std.proofs.Common.{arith, ap, ◌∙◌}
 use Rattle.fabric.proofs.Sharing.{joins, learns}
 use Rattle.fabric.proofs.Learning.{learned_at}
-use Rattle.fabric.proofs.steps.take_in.Goals as goal
+use Rattle.fabric.proofs.plays.take_in.Goals as goal
 
 pub join_seat-requires : goal.join_seat-requires
 join_seat-requires c = (c.requires.tables.0, c.requires.tables.1, c.requires.none_held, omega arith, joins c.args.row.now.key.load _ _ _ _)
