@@ -1,4 +1,4 @@
--- Operations with their places, and what is told of them.
+-- Operations with their places, and the sources that they keep.
 use Rattle.std.proofs.Common.{◌≡◌, ℕ, ◌<◌, true, List, length, refl, sym, ap, subst, ◌∙◌}
 use Rattle.memory_models.specs.declared.kinds.Kind.{Kind}
 use Rattle.memory_models.specs.declared.kinds.Kind.TheVariants.{Fence}
@@ -37,7 +37,7 @@ pub told_to : (ops : List Operation) (sources : List ℕ) (placed : List Operati
     → IsToldAt ops sources placed writes x → KeepsSource ops sources placed writes x
 told_to ops sources placed writes x told = record { read = told.read; next = told.next }
 
--- where the places by what is known are none that keep what is told, or no order is one with them, no order explains the trace
+-- where the places by what is known keep not all sources, or no order is one with them, no order explains the trace
 pub no_placing : (q : Unordered) (table : List ℕ) (level : ℕ) (mine : List Operation) (written : List ℕ)
     → AreSettled q.operations.now table level → ArePlacedBy q.operations.now q.sources.now table level mine
     → ((others : List ℕ) → ListsWrites mine (count_below (writes_at q.operations.now) (length q.operations.now)) others → written ≡ others)

@@ -1,7 +1,8 @@
 -- Where the words that are left in a word all differ, what was found says who left it.
-use Rattle.std.proofs.Common.{◌≡◌, ◌≢◌, ◌⊎◌, inl, inr, ℕ, ◌+◌, ◌<◌, ◌≤◌, true, false, List, length, refl, sym, ap, subst, ◌∙◌, arith}
+use Rattle.std.proofs.Common.{◌≡◌, ◌≢◌, ◌⊎◌, inl, inr, ℕ, ◌+◌, ◌<◌, ◌≤◌, true, false, List, [], ◌∷◌, ◌++◌, length, refl, sym, ap, subst, ◌∙◌, arith}
 use Rattle.std.specs.Prelude.{slice_index}
-use Rattle.std.proofs.lemmas.Bool.{cases_eq}
+use Rattle.std.proofs.lemmas.Bool.{cases_eq, cases_lt}
+use Rattle.std.proofs.lemmas.List.{get_or_push, get_or_append_left, length_push}
 use Rattle.memory_models.specs.declared.kinds.Kind.{Kind}
 use Rattle.memory_models.specs.declared.kinds.Kind.TheVariants.{Load, Store, Atomic, Fence}
 use Rattle.memory_models.specs.declared.kinds.Operation.{Operation}
@@ -10,7 +11,7 @@ use Rattle.memory_models.proofs.Orders.{load_uses}
 use Rattle.model_values.specs.declared.valued.Valued.{Valued}
 use Rattle.model_values.specs.Placed.{IsSame}
 use Rattle.model_values.specs.Unordered.{IsToldAt, IsPlacing}
-use Rattle.model_values.specs.Values.{FindsBefore, FindsAt, IsValuedPlacing, IsReader, AreAlike, IsLeftBy}
+use Rattle.model_values.specs.Values.{FindsBefore, FindsAt, IsKnownSource, IsValuedPlacing, IsReader, AreAlike, IsLeftBy}
 
 -- two writes that leave the same are one
 one_write : (ops : List Operation) (left : List ℕ) → ((x y : ℕ) → AreAlike ops left x y → ⊥) → (a b : ℕ) → a < length ops → b < length ops
@@ -81,7 +82,7 @@ finds_by v sources placed writes by i x lx = record {
       });
 }
 
--- with these sources, the orders that are told are those that give the words
+-- with these sources, the orders of each word's writes that keep them are those that give the words
 pub by_values : (v : Valued) (sources : List ℕ) → ((x y : ℕ) → AreAlike v.operations.now v.left.now x y → ⊥)
     → ((x : ℕ) → x < length v.operations.now → IsReader v.operations.now x → IsLeftBy v.operations.now v.left.now v.found.now x (slice_index sources x))
     → (placed : List Operation) (writes : List ℕ)
@@ -97,6 +98,21 @@ by_values v sources none by placed writes = (
     opened = i.opened;
   },
 )
+
+-- one source more
+pub one_longer : (x s : ℕ) (before after : List ℕ) → length before ≡ x → after ≡ before ++ s ∷ [] → length after ≡ x + 1
+one_longer x s before after size is = let e : length after ≡ length (before ++ s ∷ []) = ap length is in omega (arith, e, size, length_push before s)
+
+pub known_more : (v : Valued) (x s : ℕ) (before after : List ℕ) → length before ≡ x → after ≡ before ++ s ∷ []
+    → ((m : ℕ) → m < x → IsKnownSource v m (slice_index before m)) → IsKnownSource v x s
+    → (m : ℕ) → m < x + 1 → IsKnownSource v m (slice_index after m)
+known_more v x s before after size is each one m low = elim (cases_lt m x) [
+  | inl less ↦ subst (λ z. IsKnownSource v m z)
+      (sym (ap (λ z. slice_index z m) is ∙ get_or_append_left before (s ∷ []) 0 m (omega (arith, less, size)))) (each m less)
+  | inr not ↦ (let e : m ≡ x = omega (arith, low, not) in
+      subst (λ z. IsKnownSource v m z) (sym (ap (λ z. slice_index z m) is ∙ get_or_push before s 0 m (omega (arith, size, e))))
+      (subst (λ z. IsKnownSource v z s) (sym e) one))
+]
 
 -- what no write left was not found
 pub unwritten : (v : Valued) (x : ℕ) → x < length v.operations.now → IsReader v.operations.now x

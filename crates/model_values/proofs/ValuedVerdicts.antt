@@ -11,8 +11,15 @@ use Rattle.model_values.specs.declared.question.Unordered.{Unordered}
 use Rattle.model_values.specs.declared.valued.Valued.{Valued}
 use Rattle.model_values.specs.Answers.{IsOrderVerdict}
 use Rattle.model_values.specs.Unordered.{IsPlacing}
-use Rattle.model_values.specs.Values.{IsValuedPlacing}
+use Rattle.model_values.specs.Values.{AreKnownSources, HasClearWriters, IsValuedPlacing}
 use Rattle.model_values.specs.ValuedVerdict.{IsJudgedOn}
+
+-- known sources show who wrote what was found
+pub clear_writers : (v : Valued) (sources : List ℕ) → AreKnownSources v sources → HasClearWriters v
+clear_writers v sources known = record {
+  unlike = known.unlike;
+  written = λ x low reads. (slice_index sources x, (known.each x low).left reads);
+}
 
 -- the orders of a question are those that give the words
 abbrev pub AsksValues : Valued → Unordered → Type 0

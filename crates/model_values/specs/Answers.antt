@@ -1,4 +1,4 @@
--- The answer on a trace whose words' orders of writes are not told, and the steps of the search for it.
+-- The answer on a trace that gives no order of each word's writes, and the steps of the search for it.
 use Rattle.std.specs.Prelude.{◌≡◌, ℕ, ◌+◌, ◌<◌, true, List, [], ◌∷◌, ◌++◌, Option, length, take}
 use Rattle.std.specs.Prelude.{slice_index, slice_index_or}
 use Rattle.rising.specs.Found.{IsPermutationBelow}

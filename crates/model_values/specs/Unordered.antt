@@ -1,4 +1,4 @@
--- A trace of which each load's source is told, and the order of each word's writes is not.
+-- A trace that gives each load's source, and no order of each word's writes.
 -- Hangal, Vahia, Manovit, Lu and Narayanan, TSOtool: a program for verifying memory systems using
 -- the memory consistency model, 2004.
 use Rattle.std.specs.Prelude.{◌≡◌, ◌≢◌, ℕ, ◌+◌, ◌<◌, true, List, length, slice_index}
@@ -32,7 +32,7 @@ pub record IsOpeningOf (openings : ℕ) (ops : List Operation) (x y : ℕ) : Typ
   pub second : is_write (operation_at ops y).kind ≡ true
   pub word : (operation_at ops x).word ≡ (operation_at ops y).word
 
--- an order of each word's writes, which begins with the opening store and keeps what is told
+-- an order of each word's writes that begins with the opening store and keeps the sources
 pub record IsPlacing (ops : List Operation) (sources : List ℕ) (words openings : ℕ)
     (placed : List Operation) (writes : List ℕ) : Type 0
   where

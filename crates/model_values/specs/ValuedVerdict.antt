@@ -1,4 +1,4 @@
--- The answer on a trace of which the words that were left and found are told.
+-- The answer on a trace that gives the words that its operations left and found.
 use Rattle.std.specs.Prelude.{◌≡◌, ℕ, List, Option, length, slice_index}
 use Rattle.rising.specs.Found.{IsPermutationBelow}
 use Rattle.memory_models.specs.declared.kinds.Operation.{Operation}
@@ -13,7 +13,7 @@ use Rattle.model_values.specs.declared.question.Unordered.{Unordered}
 use Rattle.model_values.specs.declared.valued.Valued.{Valued}
 use Rattle.model_values.specs.Searches.{IsCutOff}
 use Rattle.model_values.specs.Unordered.{IsPlacing}
-use Rattle.model_values.specs.Values.{AreAlike, IsUnwritten, IsValuedPlacing}
+use Rattle.model_values.specs.Values.{AreAlike, HasClearWriters, IsUnwritten, IsValuedPlacing}
 
 -- an order of each word's writes that gives the words, and turns by which the trace obeys the model
 pub record ExplainsValues {A : Type 0} (rules : List Rule) (v : Valued) (e : Explanation A) : Type 0
@@ -27,7 +27,8 @@ abbrev pub BreaksValues : List Rule → Valued → Type 0
 BreaksValues rules v = (placed : List Operation) (writes : List ℕ) (turn : ℕ → ℕ)
     → IsValuedPlacing v placed writes → IsMemoryOrder rules placed writes turn → ⊥
 
--- the search was cut off, over sources with which the orders are those that give the words
+-- the search was cut off. Its question has sources with which the orders of each word's writes are
+-- those that give the words
 pub record CutsOffValues (rules : List Rule) (v : Valued) (nodes : Option ℕ) : Type 0 where
   pub question : Unordered
   pub asked : question.rules.now ≡ rules
@@ -40,14 +41,16 @@ pub record CutsOffValues (rules : List Rule) (v : Valued) (nodes : Option ℕ) :
       → IsValuedPlacing v placed writes)
   pub cut : IsCutOff question nodes
 
--- the answer where the words say who wrote what was found
+-- the answer where each word that was found shows who wrote it
 abbrev pub IsJudgedOn : {A : Type 0} → List Rule → Valued → Option ℕ → OrderVerdict A → Type 0
 IsJudgedOn rules v nodes (Obeys e) = ExplainsValues rules v e
 IsJudgedOn rules v nodes Breaks = BreaksValues rules v
 IsJudgedOn rules v nodes Undecided = CutsOffValues rules v nodes
 
--- the answer; or two writes that leave the same; or what no write left, so that no order gives it
+-- the answer, where each word that was found shows who wrote it; or two writes that left the same in
+-- one word; or an operation that found what no write left, so that no order obeys the model
 abbrev pub IsValuedVerdict : {A : Type 0} → List Rule → Valued → Option ℕ → ValuedVerdict A → Type 0
-IsValuedVerdict rules v nodes (Judged verdict) = IsJudgedOn rules v nodes verdict
+IsValuedVerdict rules v nodes (Judged verdict) =
+    HasClearWriters v × IsJudgedOn rules v nodes verdict
 IsValuedVerdict rules v nodes (Alike x y) = AreAlike v.operations.now v.left.now x y
 IsValuedVerdict rules v nodes (Unwritten x) = IsUnwritten v x × BreaksValues rules v

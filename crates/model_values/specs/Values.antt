@@ -1,4 +1,4 @@
--- A trace of which the words that were left and found are told, and neither sources nor orders.
+-- A trace that gives the words that its operations left and found, and neither sources nor orders.
 use Rattle.std.specs.Prelude.{◌≡◌, ◌≢◌, ◌⊎◌, ℕ, ◌+◌, ◌<◌, true, List, length, slice_index}
 use Rattle.memory_models.specs.declared.kinds.Kind.TheVariants.{Atomic}
 use Rattle.memory_models.specs.declared.kinds.Operation.{Operation}
@@ -26,7 +26,7 @@ pub record FindsAt (ops : List Operation) (left found : List ℕ) (placed : List
         → slice_index left (source_at placed writes x) ≡ slice_index found x
     pub next : (operation_at ops x).kind ≡ Atomic → FindsBefore left found placed writes x
 
--- an order of each word's writes, which begins with the opening store and gives the words that were
+-- an order of each word's writes that begins with the opening store and gives the words that were
 -- found
 pub record IsValuedPlacing (v : Valued) (placed : List Operation) (writes : List ℕ) : Type 0 where
   pub size : length placed ≡ length v.operations.now
@@ -42,7 +42,7 @@ pub record IsValuedPlacing (v : Valued) (placed : List Operation) (writes : List
 abbrev pub IsReader : List Operation → ℕ → Type 0
 IsReader ops x = (is_load (operation_at ops x).kind ≡ true) ⊎ ((operation_at ops x).kind ≡ Atomic)
 
--- two writes leave the same in one word
+-- two writes left the same in one word
 pub record AreAlike (ops : List Operation) (left : List ℕ) (x y : ℕ) : Type 0 where
   pub first : x < length ops
   pub second : y < length ops
@@ -65,14 +65,36 @@ pub record IsUnwritten (v : Valued) (x : ℕ) : Type 0 where
   pub reads : IsReader v.operations.now x
   pub none : (s : ℕ) → IsLeftBy v.operations.now v.left.now v.found.now x s → ⊥
 
--- sources with which the orders of each word's writes are those that give the words that were found;
--- or two writes that leave the same; or what no write left, and then there are no such orders
+-- each word that was found shows who wrote it: no two writes left the same in one word, and some
+-- write left what each reader found
+pub record HasClearWriters (v : Valued) : Type 0 where
+  pub unlike : (x y : ℕ) → AreAlike v.operations.now v.left.now x y → ⊥
+  pub written : (x : ℕ) → x < length v.operations.now → IsReader v.operations.now x
+      → (s : ℕ) × IsLeftBy v.operations.now v.left.now v.found.now x s
+
+-- the source of an operation: of a reader a write of its word that left what it found, of another
+-- operation 0
+pub record IsKnownSource (v : Valued) (x s : ℕ) : Type 0 where
+  pub left : IsReader v.operations.now x
+      → IsLeftBy v.operations.now v.left.now v.found.now x s
+  pub other : (IsReader v.operations.now x → ⊥) → s ≡ 0
+
+-- the sources of all operations, where no two writes left the same in one word. The orders of each
+-- word's writes that keep these sources are those that give the words that were found
+pub record AreKnownSources (v : Valued) (sources : List ℕ) : Type 0 where
+  pub size : length sources ≡ length v.operations.now
+  pub each : (x : ℕ) → x < length v.operations.now → IsKnownSource v x (slice_index sources x)
+  pub unlike : (x y : ℕ) → AreAlike v.operations.now v.left.now x y → ⊥
+  pub same : (placed : List Operation) (writes : List ℕ)
+      → (IsValuedPlacing v placed writes
+      → IsPlacing v.operations.now sources v.words v.openings placed writes)
+      × (IsPlacing v.operations.now sources v.words v.openings placed writes
+      → IsValuedPlacing v placed writes)
+
+-- the sources; or two writes that left the same in one word; or an operation that found what no write
+-- left, and then no order of each word's writes gives the words that were found
 abbrev pub AreSourcesOf : {A : Type 0} → Valued → Sources A → Type 0
-AreSourcesOf v (Told sources) = (placed : List Operation) (writes : List ℕ)
-    → (IsValuedPlacing v placed writes
-    → IsPlacing v.operations.now sources.items v.words v.openings placed writes)
-    × (IsPlacing v.operations.now sources.items v.words v.openings placed writes
-    → IsValuedPlacing v placed writes)
+AreSourcesOf v (Told sources) = AreKnownSources v sources.items
 AreSourcesOf v (Alike x y) = AreAlike v.operations.now v.left.now x y
 AreSourcesOf v (Unwritten x) = IsUnwritten v x
     × ((placed : List Operation) (writes : List ℕ) → IsValuedPlacing v placed writes → ⊥)

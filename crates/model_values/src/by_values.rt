@@ -1,4 +1,4 @@
-//! Memory models of traces of which the words that were left and found are told, and nothing else.
+//! Memory models of traces that give the words that operations left and found, and nothing else.
 
 ghost use Rattle.std.specs.Prelude.{◌≡◌, ◌⊎◌, ◌<◌, ℕ, length, IfOk};
 ghost use Rattle.memory_models.specs.Arcs.{IsChained};
@@ -12,20 +12,21 @@ use crate::valued::{Sources, Valued, sources_by_values};
 use memory_models::Rule;
 use std::alloc::{AllocError, Allocator, Global};
 
-/// The answer.
+/// The answer on a trace that gives the words that its operations left and found.
 #[derive(Drop)]
 pub enum ValuedVerdict<A: Allocator = Global> {
-    /// The words say who wrote what was found, and so the trace is judged.
+    /// Each word that was found shows who wrote it, so the trace is judged.
     Judged(OrderVerdict<A>),
-    /// These two writes leave the same in one word, so what was found doesn't say who wrote it.
+    /// These two writes left the same in one word, so a word that was found may not show who wrote it.
     Alike(usize, usize),
     /// This operation found what no write of its word left, which breaks every model.
     Unwritten(usize),
 }
 
-/// Judges a trace of which the words that were left and found are told by the rules of a memory model:
-/// an order of each word's writes with which it obeys them; or that it does with none; or that more than
-/// `nodes` tables would have to be looked at; or why the words don't say who wrote what was found.
+/// Judges by the rules of a memory model a trace that gives the words that its operations left and
+/// found. The answer is an order of each word's writes with which the trace obeys the rules, or that no
+/// order does so, or `Undecided`, or why the words don't show who wrote what was found. A search looks at
+/// `nodes` tables at most. With `None` it looks at as many as it takes, and is never `Undecided`.
 ///
 /// Errors: memory, and no other.
 pub fn judge_valued<A: Allocator + Copy>(

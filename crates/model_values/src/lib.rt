@@ -1,5 +1,5 @@
-//! Which memory model a trace obeys of which the order of each word's writes is not told: some order
-//! that explains it, or none, or neither is found within a number of steps.
+//! Which memory model a trace obeys when the order of each word's writes is unknown. The answer is an
+//! order that explains the trace, or that no order does, or that the search was cut off before that.
 #![tactic(auto)]
 
 mod accept;

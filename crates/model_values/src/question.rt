@@ -1,17 +1,18 @@
-//! A trace of which the order of each word's writes is not told, and the answer on it.
+//! A trace that gives no order of each word's writes, and the answer on it.
 
 use memory_models::{Operation, Rule};
 use std::alloc::{Allocator, Global};
 
-/// A trace of which the order of each word's writes is not told.
+/// A trace that gives no order of each word's writes.
 #[derive(Clone, Copy)]
 pub struct Unordered<'a> {
-    /// The rules of the memory model that is asked for.
+    /// The rules of the memory model.
     pub rules: &'a [Rule],
-    /// The operations, opening stores first; their places are not read.
+    /// The operations, opening stores first. Their places are not read.
     pub operations: &'a [Operation],
-    /// Of each load the place in `operations` of the write that it read, and of each atomic that of
-    /// the write just before it in its word's order. Of others it is not read.
+    /// The source of each operation, as its index in `operations`. A load's source is the write that
+    /// it read. An atomic's source is the write just before it in its word's order. The entries of
+    /// stores and fences are not read.
     pub sources: &'a [usize],
     /// How many words there are.
     pub words: usize,
@@ -30,13 +31,13 @@ pub struct Explanation<A: Allocator = Global> {
     pub turns: Vec<usize, A>,
 }
 
-/// The answer.
+/// Whether a trace obeys a memory model.
 #[derive(Drop)]
 pub enum OrderVerdict<A: Allocator = Global> {
     /// The trace obeys the model with this order of each word's writes.
     Obeys(Explanation<A>),
-    /// It does with no order of them.
+    /// No order of each word's writes makes the trace obey the model.
     Breaks,
-    /// More steps would be needed.
+    /// The search looked at as many tables as it may, and found neither.
     Undecided,
 }

@@ -211,8 +211,8 @@ fn spend(left: &mut Option<usize>) -> bool
     }
 }
 
-/// The answer on a table that every order agrees with: of two writes in no known order first the one
-/// way round is tried, at the next level, then the other.
+/// The answer on a table that every order agrees with. Where two writes are in no known order, the
+/// search first assumes the one way round, at the next level, and then the other.
 ///
 /// Errors: memory.
 fn search<A: Allocator + Copy>(
@@ -247,10 +247,10 @@ fn search<A: Allocator + Copy>(
     Ok(OrderVerdict::Breaks)
 }
 
-/// Judges a trace whose words' orders of writes are not told by the rules of a memory model: an order
-/// of each word's writes with which it obeys them; or that it does with none; or `Undecided`, where
-/// more than `nodes` tables of what is known would have to be looked at. With `None` as many are as it
-/// takes, and the answer is never `Undecided`.
+/// Judges by the rules of a memory model a trace that gives no order of each word's writes. The answer
+/// is an order of each word's writes with which the trace obeys the rules, or that no order does so, or
+/// `Undecided`. The search looks at `nodes` tables of what is known at most. With `None` it looks at as
+/// many as it takes, and is never `Undecided`.
 ///
 /// Errors: memory, and no other.
 pub fn judge_unordered<A: Allocator + Copy>(

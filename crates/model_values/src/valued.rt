@@ -1,21 +1,22 @@
-//! Sources of loads and atomics by the words that were left and found.
+//! Sources of loads and atomics by the words that operations left and found.
 
 ghost use Rattle.std.specs.Prelude.{◌≡◌, ℕ, ◌<◌, true, false, length, slice_index};
 ghost use Rattle.std.specs.Prelude.{IfNone, IfOk, IfSome};
-ghost use Rattle.model_values.specs.Values.{AreAlike, AreSourcesOf, IsLeftBy, IsReader, IsUnwritten};
+ghost use Rattle.model_values.specs.Values.{AreAlike, AreSourcesOf, IsKnownSource, IsLeftBy};
+ghost use Rattle.model_values.specs.Values.{IsReader, IsUnwritten};
 
 use memory_models::kinds::is_write;
 use memory_models::{Kind, Operation};
 use std::alloc::{AllocError, Allocator, Global};
 
-/// A trace of which the words that were left and found are told.
+/// A trace that gives the words that its operations left and found.
 #[derive(Clone, Copy)]
 pub struct Valued<'a> {
-    /// The operations, opening stores first; their places are not read.
+    /// The operations, opening stores first. Their places are not read.
     pub operations: &'a [Operation],
-    /// The word that each store or atomic left. Of others it is not read.
+    /// The word that each store or atomic left. The entries of loads and fences are not read.
     pub left: &'a [u64],
-    /// The word that each load or atomic found. Of others it is not read.
+    /// The word that each load or atomic found. The entries of stores and fences are not read.
     pub found: &'a [u64],
     /// How many words there are.
     pub words: usize,
@@ -23,12 +24,12 @@ pub struct Valued<'a> {
     pub openings: usize,
 }
 
-/// What the words say of the sources.
+/// What the words show of the sources.
 #[derive(Drop)]
 pub enum Sources<A: Allocator = Global> {
-    /// The source of each load, and of each atomic the write just before it. Of others it is 0.
+    /// The source of each operation: the write that left what a load or an atomic found, and else 0.
     Told(Vec<usize, A>),
-    /// These two writes leave the same in one word, so what was found doesn't say who wrote it.
+    /// These two writes left the same in one word, so a word that was found may not show who wrote it.
     Alike(usize, usize),
     /// This operation found what no write of its word left.
     Unwritten(usize),
@@ -55,7 +56,7 @@ fn is_reader(operations: &[Operation], x: usize) -> bool
     }
 }
 
-/// Whether two writes leave the same in one word.
+/// Whether two writes left the same in one word.
 fn are_alike(operations: &[Operation], left: &[u64], x: usize, y: usize) -> bool
     requires x { x < length operations.now }
     requires y { y < length operations.now }
@@ -69,7 +70,7 @@ fn are_alike(operations: &[Operation], left: &[u64], x: usize, y: usize) -> bool
         && word_at(left, x) == word_at(left, y)
 }
 
-/// A write that leaves the same as one in its word.
+/// A write that left the same in its word as another one.
 fn alike_with(operations: &[Operation], left: &[u64], x: usize) -> Option<usize>
     requires x { x < length operations.now }
     ensures some { IfSome result (λ y. AreAlike operations.now left.now x y) }
@@ -83,7 +84,7 @@ fn alike_with(operations: &[Operation], left: &[u64], x: usize) -> Option<usize>
     None
 }
 
-/// Two writes that leave the same in one word.
+/// Two writes that left the same in one word.
 fn find_alike(operations: &[Operation], left: &[u64]) -> Option<(usize, usize)>
     ensures some { IfSome result (λ pair. AreAlike operations.now left.now pair.0 pair.1) }
     ensures none { IfNone result ((x y : ℕ) → AreAlike operations.now left.now x y → ⊥) }
@@ -126,11 +127,10 @@ fn source_of(valued: &Valued, x: usize) -> Option<usize>
     None
 }
 
-/// The same of a load or an atomic; of others 0.
+/// The source of an operation: of a load or an atomic that write, of another operation 0.
 fn source_at(valued: &Valued, x: usize) -> Option<usize>
     requires x { x < length valued.now.operations.now }
-    ensures some { IfSome result (λ s. IsReader valued.now.operations.now x
-        → IsLeftBy valued.now.operations.now valued.now.left.now valued.now.found.now x s) }
+    ensures some { IfSome result (IsKnownSource valued.now x) }
     ensures none { IfNone result (IsUnwritten valued.now x) }
 {
     if !is_reader(valued.operations, x) {
@@ -139,7 +139,8 @@ fn source_at(valued: &Valued, x: usize) -> Option<usize>
     source_of(valued, x)
 }
 
-/// The sources of loads and atomics, where the words that are left in a word all differ.
+/// The sources of loads and atomics; or two writes that left the same in one word; or an operation that
+/// found what no write of its word left.
 ///
 /// Errors: memory.
 pub fn sources_by_values<A: Allocator + Copy>(
