@@ -182,7 +182,11 @@ pub(crate) fn model_job<'a>(given: &ArgMatches<'a>) -> Option<Job<'a>>
     let order = flag_of(given, "order")?;
     let given_nodes = number_if_given(given, "nodes", 4294967295)?;
     let nodes = given_nodes.unwrap_or(10000);
-    match (flag_of(given, "values")?, two_words(given, "texts")?, given_nodes) {
+    match (
+        flag_of(given, "values")?,
+        two_words(given, "texts")?,
+        given_nodes,
+    ) {
         (true, None, _) => Some(Job::ValueModel {
             log,
             model,

@@ -40,8 +40,7 @@ pub fn misuse_text(misuse: Misuse) -> &'static str
         Misuse::DepthAlone =>
             "--depth goes with --run or --replay: a verdict is that of every depth",
         Misuse::TextsAndValues => "model takes --texts or --values, not both",
-        Misuse::NodesAlone =>
-            "--nodes goes with --values: without it nothing is searched",
+        Misuse::NodesAlone => "--nodes goes with --values: without it nothing is searched",
     }
 }
 

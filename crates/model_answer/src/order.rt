@@ -9,9 +9,9 @@ use crate::judged::{Obeys, Verdicts};
 use crate::model::MemoryModel;
 use crate::text::{put, put_step};
 use memory_models::Verdict;
-use model_text::{LogTrace, Logged};
 use model_text::placing::places_in;
 use model_text::trace::logged_at;
+use model_text::{LogTrace, Logged};
 use std::alloc::{AllocError, Allocator};
 
 /// The strongest model that a trace obeys. The rule of fences counts only where the log has its fences.
@@ -75,7 +75,10 @@ pub fn put_order<A: Allocator + Copy>(
 /// Adds the line before an order.
 ///
 /// Errors: memory.
-pub fn put_heading<A: Allocator>(text: &mut Vec<u8, A>, model: MemoryModel) -> Result<(), AllocError>
+pub fn put_heading<A: Allocator>(
+    text: &mut Vec<u8, A>,
+    model: MemoryModel,
+) -> Result<(), AllocError>
     ensures { OnOk result (text.new.items ≡ text.old.items ++ order_heading model) }
 {
     put(text, b"an order of ")?;

@@ -120,7 +120,10 @@ fn modelled_by(
 }
 
 /// The same where its replies alone count.
-fn decided_by(decided: Result<Decided, ProgramFault>, model: &str) -> Result<Outcome, ProgramFault> {
+fn decided_by(
+    decided: Result<Decided, ProgramFault>,
+    model: &str,
+) -> Result<Outcome, ProgramFault> {
     let model = MemoryModel::named(model).unwrap_or(MemoryModel::Sc);
     Ok(Outcome::Decided(decided?, model))
 }

@@ -59,9 +59,8 @@ fn run<R: Env + Files + Input + Print + Eprint + Clock + AllocGlobal + Threads +
 
 /// Whether the job names a memory model that there isn't, which standard error says then.
 fn is_other_model<R: Eprint>(rt: &R, job: &Job) -> bool {
-    let (Job::Model { model, .. }
-    | Job::RunModel { model, .. }
-    | Job::ValueModel { model, .. }) = *job
+    let (Job::Model { model, .. } | Job::RunModel { model, .. } | Job::ValueModel { model, .. }) =
+        *job
     else {
         return false;
     };

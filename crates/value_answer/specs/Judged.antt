@@ -9,7 +9,7 @@ use Rattle.model_values.specs.declared.question.OrderVerdict.{OrderVerdict}
 use Rattle.model_values.specs.declared.question.OrderVerdict.TheVariants as verdict
 use Rattle.model_values.specs.declared.valued.Valued.{Valued}
 use Rattle.model_values.specs.ValuedVerdict.{IsJudgedOn}
-use Rattle.model_values.specs.Values.{AreAlike, IsUnwritten, IsValuedPlacing}
+use Rattle.model_values.specs.Values.{AreAlike, HasClearWriters, IsUnwritten, IsValuedPlacing}
 use Rattle.value_answer.specs.declared.decision.Decision.{Decision}
 use Rattle.value_answer.specs.declared.decision.Decision.TheVariants.{Obeys, Breaks, Undecided}
 use Rattle.value_answer.specs.declared.decision.Decisions.{Decisions}
@@ -28,9 +28,11 @@ IsUnsaid v (Alike x y) = AreAlike v.operations.now v.left.now x y
 IsUnsaid v (Unwritten x) = IsUnwritten v x × HasNoPlacing v
 IsUnsaid v Memory = Unit {0}
 
--- the verdict of each model, by searches of at most so many nodes
+-- each word that was found shows who wrote it, and the verdict of each model is by a search of at most
+-- so many nodes
 pub record AreValueVerdicts {A : Type 0} (v : Valued) (nodes : ℕ) (all : ValueVerdicts A) : Type 0
   where
+    pub clear : HasClearWriters v
     pub by_coherent : IsJudgedOn coherent v (Some nodes) all.coherent
     pub by_fenced : IsJudgedOn fenced v (Some nodes) all.fenced
     pub by_pso : IsJudgedOn partial_store_order v (Some nodes) all.pso

@@ -63,7 +63,14 @@ fn answer_of<A: Allocator + Copy>(
     ensures none { IfErr result (λ why. why ≡ NoValueAnswer.Memory) }
 {
     let ValueOptions { nodes, order } = options;
-    match text_of(alloc, nodes, order, values.openings, &values.steps, verdicts) {
+    match text_of(
+        alloc,
+        nodes,
+        order,
+        values.openings,
+        &values.steps,
+        verdicts,
+    ) {
         Ok(text) => Ok(ValueAnswer {
             decisions: verdicts.decisions(),
             text,

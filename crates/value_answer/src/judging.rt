@@ -1,14 +1,13 @@
 //! The verdicts of the models on words alone.
 
-ghost use Rattle.std.specs.Prelude.{◌≡◌, IfErr, IfOk};
-ghost use Rattle.memory_models.specs.Models.{coherent, fenced, partial_store_order};
-ghost use Rattle.memory_models.specs.Models.{sequential, total_store_order};
+ghost use Rattle.std.specs.Prelude.{◌≡◌, IfErr, IfOk, OnOk, Some};
 ghost use Rattle.model_answer.specs.Model.{rules_of_model};
+ghost use Rattle.model_values.specs.Values.{HasClearWriters};
 ghost use Rattle.model_values.specs.ValuedVerdict.{IsJudgedOn};
 ghost use Rattle.value_answer.specs.Judged.{AreValueVerdicts, IsUnsaid};
 
 use model_answer::MemoryModel;
-use model_values::{OrderVerdict, Sources, Valued, ValuedVerdict, judge_valued, sources_by_values};
+use model_values::{OrderVerdict, Valued, ValuedVerdict, judge_valued};
 use std::alloc::{AllocError, Allocator, Global};
 
 /// The verdict of each model.
@@ -32,30 +31,6 @@ pub enum Unsaid {
     Memory,
 }
 
-impl From<AllocError> for Unsaid {
-    ghost use Rattle.value_answer.specs.declared.judging.Unsaid.TheVariants.{Memory};
-
-    ghost from_gives = { λ refused why. why ≡ Memory };
-
-    fn from(_refused: AllocError) -> Unsaid {
-        Unsaid::Memory
-    }
-}
-
-/// Whether the words say who wrote what was found.
-///
-/// Errors: that they don't, and why; or memory.
-fn say_sources<A: Allocator + Copy>(alloc: A, valued: &Valued) -> Result<(), Unsaid>
-    ensures { IfErr result (IsUnsaid valued.now) }
-{
-    match sources_by_values(alloc, valued) {
-        Ok(Sources::Told(_)) => Ok(()),
-        Ok(Sources::Alike(x, y)) => Err(Unsaid::Alike(x, y)),
-        Ok(Sources::Unwritten(x)) => Err(Unsaid::Unwritten(x)),
-        Err(_) => Err(Unsaid::Memory),
-    }
-}
-
 /// The verdict of a model, by a search of at most so many nodes.
 ///
 /// Errors: why no model is asked, or memory.
@@ -65,6 +40,7 @@ fn verdict_of<A: Allocator + Copy>(
     valued: &Valued,
     nodes: usize,
 ) -> Result<OrderVerdict<A>, Unsaid>
+    ensures clear { OnOk result (HasClearWriters valued.now) }
     ensures judged { IfOk result (IsJudgedOn (rules_of_model model) valued.now (Some nodes)) }
     ensures unsaid { IfErr result (IsUnsaid valued.now) }
 {

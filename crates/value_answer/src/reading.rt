@@ -66,10 +66,7 @@ fn ended<A: Allocator + Copy>(log: Log<A>, number: u64) -> Result<Log<A>, Refusa
 /// on orders and sources must be right, and may be missing.
 ///
 /// Errors: where and why its first bad line is refused, or that a request for memory was.
-pub fn read_values<A: Allocator + Copy>(
-    alloc: A,
-    text: &[u8],
-) -> Result<Log<A>, Refusal<LogReason>>
+pub fn read_values<A: Allocator + Copy>(alloc: A, text: &[u8]) -> Result<Log<A>, Refusal<LogReason>>
     ensures { Gives (LogReason.Line LineReason.Memory) log_so_far result
         (values_of (lines text.now)) }
 {

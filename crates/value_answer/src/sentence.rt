@@ -33,7 +33,10 @@ impl fmt::Display for AlikeSentence {
             line => write!(f, "lines {line} and {} leave", self.second.line)?,
         }
         let (word, address) = (left_word(self.first), address_of(self.first));
-        write!(f, " {word} in address {address}, so no reply says which of them it found")
+        write!(
+            f,
+            " {word} in address {address}, so no reply says which of them it found"
+        )
     }
 }
 
@@ -44,6 +47,9 @@ impl fmt::Display for UnwrittenSentence {
             Some(told) => told.line,
         };
         let (word, address) = (found_word(self.step), address_of(self.step));
-        write!(f, "reply {word} at line {line}, but no write leaves {word} in address {address}")
+        write!(
+            f,
+            "reply {word} at line {line}, but no write leaves {word} in address {address}"
+        )
     }
 }
