@@ -176,7 +176,8 @@ nodes_option = count_if_given (codes "nodes") (up_to (pos 4294967295))
 abbrev pub model_app : App
 model_app = with_rule (with_rule (with_rule (with_rule (with_rule (with_rule (with_rule
     (new_app (codes "model")) (needed (codes "LOG"))) (word_option (codes "model") (codes "sc")))
-    (flag_option (codes "order"))) texts_option) (flag_option (codes "values"))) nodes_option) explain
+    (flag_option (codes "order"))) texts_option) (flag_option (codes "values")))
+    nodes_option) explain
 
 -- the program, whose subcommand has to stand there
 abbrev pub top_app : App

@@ -10,7 +10,8 @@ use Rattle.model_text.specs.Traces.{logged_at, steps_of_log}
 use Rattle.model_values.specs.declared.valued.Valued.{Valued}
 use Rattle.model_values.specs.Values.{AreAlike, IsUnwritten}
 use Rattle.value_answer.specs.declared.answer.NoValueAnswer.{NoValueAnswer}
-use Rattle.value_answer.specs.declared.answer.NoValueAnswer.TheVariants.{Refused, Alike, Unwritten, Memory}
+use Rattle.value_answer.specs.declared.answer.NoValueAnswer.TheVariants.{Refused, Alike}
+use Rattle.value_answer.specs.declared.answer.NoValueAnswer.TheVariants.{Unwritten, Memory}
 use Rattle.value_answer.specs.declared.answer.ValueAnswer.{ValueAnswer}
 use Rattle.value_answer.specs.declared.answer.ValueOptions.{ValueOptions}
 use Rattle.value_answer.specs.declared.judging.Unsaid.{Unsaid}
@@ -29,8 +30,8 @@ pub record HasVerdicts {A : Type 0} (options : ValueOptions) (openings : ℕ) (s
     pub text : a.text.items ≡ verdicts_text options.nodes options.order openings steps all
 
 -- the answer on a log: the verdicts are those on the words that its replies tell
-pub record IsValueAnswerOn {A : Type 0} (log : LogLines) (options : ValueOptions) (a : ValueAnswer A)
-    : Type 0
+pub record IsValueAnswerOn {A : Type 0} (log : LogLines) (options : ValueOptions)
+    (a : ValueAnswer A) : Type 0
   where
     pub valued : Valued
     pub told : IsValuedOf log valued

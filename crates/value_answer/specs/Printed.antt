@@ -11,7 +11,8 @@ use Rattle.model_text.specs.declared.logged.Logged.{Logged}
 use Rattle.model_values.specs.declared.question.OrderVerdict.{OrderVerdict}
 use Rattle.model_values.specs.declared.question.OrderVerdict.TheVariants as verdict
 use Rattle.value_answer.specs.declared.decision.Decision.{Decision}
-use Rattle.value_answer.specs.declared.decision.Decision.TheVariants.{Obeys as Obeyed, Breaks, Undecided}
+use Rattle.value_answer.specs.declared.decision.Decision.TheVariants.{Obeys as Obeyed}
+use Rattle.value_answer.specs.declared.decision.Decision.TheVariants.{Breaks, Undecided}
 use Rattle.value_answer.specs.declared.decision.Decisions.{Decisions}
 use Rattle.value_answer.specs.declared.judging.ValueVerdicts.{ValueVerdicts}
 use Rattle.value_answer.specs.Judged.{decisions_of, value_verdict_by}
@@ -56,7 +57,8 @@ order_text openings steps model verdict.Breaks = []
 order_text openings steps model verdict.Undecided = []
 
 -- that of the strongest model that is obeyed; nothing where there is none
-abbrev pub strongest_text : {A : Type 0} → ℕ → List Logged → ValueVerdicts A → Option MemoryModel → List ℕ
+abbrev pub strongest_text : {A : Type 0} → ℕ → List Logged → ValueVerdicts A
+    → Option MemoryModel → List ℕ
 strongest_text openings steps all None = []
 strongest_text openings steps all (Some model) =
     order_text openings steps model (value_verdict_by model all)
