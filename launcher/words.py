@@ -30,7 +30,7 @@ COMMANDS: dict[str, tuple[list[str], dict[str, tuple[int, int] | None]]] = {
     "simulate": (["NETWORK", "TRAFFIC"], {"depth": (1, 8), "explain": None}),
     "linearize": (["TRACE"], {"configurations": (1, 4294967295), "report": None, "explain": None}),
     "watch": (["TRACE"], {"configurations": (1, 4294967295), "explain": None}),
-    "model": (["LOG"], {"model": WORD, "order": None, "texts": WORDS, "explain": None}),
+    "model": (["LOG"], {"model": WORD, "order": None, "texts": WORDS, "values": None, "nodes": (1, 4294967295), "explain": None}),
 }
 REQUIRED = {"draw": ["seed"]}  # the options that have to be given
 TILES = (0, 4294967295)
@@ -220,7 +220,7 @@ def command(name: str, rest: list[str]) -> Answer | Job:
     if missing:
         lines = "".join(f"\n  {it}" for it in missing)
         raise Wrong(f"the following required arguments were not provided:{lines}{usage_with(name, given)}")
-    text = misuse(given) if name == "network" else ""
+    text = {"network": misuse, "model": misuse_of_model}.get(name, lambda given: "")(given)
     if text:
         return Answer(text, 2)
     return Job([name, *rest], [1 + place for place, it in zip(found, needed) if it in FILES], "explain" in given)
@@ -233,6 +233,15 @@ def misuse(given: list[str]) -> str:
         return "network takes --run or --replay, not both\n"
     if "depth" in given and not runs:
         return "--depth goes with --run or --replay: a verdict is that of every depth\n"
+    return ""
+
+
+def misuse_of_model(given: list[str]) -> str:
+    """What is wrong with options of `model` beside each other, or nothing."""
+    if {"values", "texts"} <= set(given):
+        return "model takes --texts or --values, not both\n"
+    if "nodes" in given and "values" not in given:
+        return "--nodes goes with --values: without it nothing is searched\n"
     return ""
 
 

@@ -23,6 +23,8 @@ complete -c torusmem -n "__fish_seen_subcommand_from linearize" -l report -d "pr
 complete -c torusmem -n "__fish_seen_subcommand_from model" -x -l model -a "coherent fenced pso tso sc" -d "the model of the status"
 complete -c torusmem -n "__fish_seen_subcommand_from model" -l order -d "print an order"
 complete -c torusmem -n "__fish_seen_subcommand_from model" -r -l texts -d "the texts of the run"
+complete -c torusmem -n "__fish_seen_subcommand_from model" -l values -d "judge by replies alone"
+complete -c torusmem -n "__fish_seen_subcommand_from model" -x -l nodes -d "the most nodes of a model"
 
 complete -c torusmem-tools -n "__fish_is_first_arg" -f -a "(torusmem-tools --help 2>/dev/null | string replace -rf '^  ([a-z_]+) .*' '\$1')"
 complete -c torusmem-tools -n "__fish_is_first_arg" -f -l help -d "the tools"

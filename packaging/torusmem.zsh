@@ -37,11 +37,11 @@ _torusmem() {
   watch) options=(--configurations) ;;
   network) options=(--run --replay --depth) ;;
   simulate) options=(--depth) ;;
-  model) options=(--model --order --texts) ;;
+  model) options=(--model --order --texts --values --nodes) ;;
   esac
   case $words[CURRENT-1] in
   --model) compadd -- coherent fenced pso tso sc; return ;;
-  --rounds | --workers | --turns | --configurations | --seed | --steps | --depth) return ;;
+  --rounds | --workers | --turns | --configurations | --seed | --steps | --depth | --nodes) return ;;
   esac
   if [[ $words[CURRENT] == -* ]]; then
     compadd -- $options --explain --help

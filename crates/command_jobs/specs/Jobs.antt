@@ -13,6 +13,7 @@ use Rattle.command_line.specs.declared.command.Job.TheVariants.{Steps, Round, Ru
 use Rattle.command_line.specs.declared.command.Job.TheVariants.{Channels, Check}
 use Rattle.command_line.specs.declared.command.Job.TheVariants.{Network, LockUp, Replay, Simulate}
 use Rattle.command_line.specs.declared.command.Job.TheVariants.{Linearize, Report, Watch, Model, RunModel}
+use Rattle.command_line.specs.declared.command.Job.TheVariants.{ValueModel}
 use Rattle.command_line.specs.declared.command.Job.TheVariants.{Schedule, Draw, Moves}
 use Rattle.command_jobs.specs.declared.answering.Ended.{Ended}
 
@@ -34,6 +35,7 @@ is_of_commands (Report trace configurations) = false
 is_of_commands (Watch trace configurations) = false
 is_of_commands (Model log model order) = false
 is_of_commands (RunModel log model order machine script) = false
+is_of_commands (ValueModel log model order nodes) = false
 is_of_commands (Schedule machine script rounds clocked) = false
 is_of_commands (Draw machine script seed steps) = false
 is_of_commands (Moves machine script steps) = false

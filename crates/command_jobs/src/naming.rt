@@ -64,7 +64,8 @@ pub fn names<'a>(job: &Job<'a>) -> Names<'a> {
         | Job::LockUp { network: name, .. }
         | Job::Linearize { trace: name, .. }
         | Job::Report { trace: name, .. }
-        | Job::Model { log: name, .. } => (name, None, None),
+        | Job::Model { log: name, .. }
+        | Job::ValueModel { log: name, .. } => (name, None, None),
     };
     Names {
         first: Some(first),

@@ -8,7 +8,7 @@ use Rattle.clap.specs.declared.parser.matches.ArgMatches.{ArgMatches}
 use Rattle.clap.specs.declared.parser.matches.ArgMatches.TheViews.{out-ArgMatches}
 use Rattle.command_line.specs.CommandLine.{name_by, rows_by, torusmem_app}
 use Rattle.command_line.specs.Job.{rows_in}
-use Rattle.command_line.specs.Refused.{IsMisuse, TellsNoRequest}
+use Rattle.command_line.specs.Refused.{IsMisuse, TellsNoRequest, misused}
 use Rattle.command_line.specs.declared.refused.NoRequest.{NoRequest}
 use Rattle.command_line.specs.declared.refused.NoRequest.TheVariants.{Parser, Options, Missing}
 
@@ -40,7 +40,7 @@ rows_are a words m P e has given = subst (λ o. IfSome (rows_in o) P) (found_row
 pub refused_is : (words : List Text) (m : ArgMatches) (e : NoRequest) → HasMatchesOf torusmem_app words m
     → TellsNoRequest (subcommand_name_of m) (rows_in (subcommand_rows_of m)) e → TellsNoRequest (name_by words) (rows_by words) e
 refused_is words m (Options misuse) has tells = (
-  name_is torusmem_app words m (codes "network") refl has tells.0,
+  name_is torusmem_app words m (misused misuse) refl has tells.0,
   rows_are torusmem_app words m (IsMisuse misuse) refl has tells.1,
 )
 refused_is words m (Parser error) has tells = tt

@@ -167,11 +167,17 @@ abbrev pub watch_app : App
 watch_app = with_rule (with_rule (with_rule (new_app (codes "watch")) (needed (codes "TRACE")))
     configurations) explain
 
--- `model LOG [--model NAME] [--order] [--texts MACHINE SCRIPT] [--explain]`
+-- the option for the most nodes that are looked at for a model, a number of 32 bits from 1 on; it has
+-- no default
+abbrev pub nodes_option : Rule
+nodes_option = count_if_given (codes "nodes") (up_to (pos 4294967295))
+
+-- `model LOG [--model NAME] [--order] [--texts MACHINE SCRIPT] [--values] [--nodes N] [--explain]`
 abbrev pub model_app : App
-model_app = with_rule (with_rule (with_rule (with_rule (with_rule (new_app (codes "model"))
-    (needed (codes "LOG"))) (word_option (codes "model") (codes "sc")))
-    (flag_option (codes "order"))) texts_option) explain
+model_app = with_rule (with_rule (with_rule (with_rule (with_rule (with_rule (with_rule
+    (new_app (codes "model")) (needed (codes "LOG"))) (word_option (codes "model") (codes "sc")))
+    (flag_option (codes "order"))) texts_option) (flag_option (codes "values")))
+    nodes_option) explain
 
 -- the program, whose subcommand has to stand there
 abbrev pub top_app : App

@@ -10,6 +10,7 @@ use Rattle.command_line.specs.declared.command.Job.TheVariants.{Steps, Round, Ru
 use Rattle.command_line.specs.declared.command.Job.TheVariants.{Channels, Check}
 use Rattle.command_line.specs.declared.command.Job.TheVariants.{Network, LockUp, Replay, Simulate}
 use Rattle.command_line.specs.declared.command.Job.TheVariants.{Linearize, Report, Watch, Model, RunModel}
+use Rattle.command_line.specs.declared.command.Job.TheVariants.{ValueModel}
 use Rattle.command_line.specs.declared.command.Job.TheVariants.{Schedule, Draw, Moves}
 
 -- the values of a subcommand's arguments
@@ -33,7 +34,7 @@ class_word Reply = flag_text true
 
 -- the subcommand of a job: `steps` both of the report of a run, and of its moves; `linearize` both
 -- of the lines of an order, and of its report; `network` of a verdict, a run and a replay; `model` of a
--- log or report, and of a report with the texts of its run
+-- log or report, of a report with the texts of its run, and of a log by its replies alone
 abbrev pub name_of : Job → Text
 name_of (Steps machine script steps) = codes "steps"
 name_of (Round machine script rounds clocked) = codes "round"
@@ -51,6 +52,7 @@ name_of (Report trace configurations) = codes "linearize"
 name_of (Watch trace configurations) = codes "watch"
 name_of (Model log model order) = codes "model"
 name_of (RunModel log model order machine script) = codes "model"
+name_of (ValueModel log model order nodes) = codes "model"
 name_of (Schedule machine script rounds clocked) = codes "schedule"
 name_of (Draw machine script seed steps) = codes "draw"
 name_of (Moves machine script steps) = codes "steps"
@@ -58,6 +60,10 @@ name_of (Moves machine script steps) = codes "steps"
 -- the depth of a run: the number that is written for it, or 1 where there is none
 abbrev pub depth_in : List Row → ℕ
 depth_in rows = unwrap_or (number_in (codes "depth") rows) 1
+
+-- the most nodes of a model: the number that is written for it, or 10000 where there is none
+abbrev pub nodes_in : List Row → ℕ
+nodes_in rows = unwrap_or (number_in (codes "nodes") rows) 10000
 
 -- whether the flag of this name is given
 abbrev pub IsFlag : Text → Bool → List Row → Type 0
@@ -110,11 +116,17 @@ AreOf (Watch trace configurations) rows = (first_of (codes "TRACE") rows ≡ Som
 AreOf (Model log model order) rows = (first_of (codes "LOG") rows ≡ Some log.now)
     × (first_of (codes "model") rows ≡ Some model.now)
     × IsFlag (codes "order") order rows × (all_of (codes "texts") rows ≡ None)
+    × IsFlag (codes "values") false rows × (number_in (codes "nodes") rows ≡ None)
 AreOf (RunModel log model order machine script) rows =
     (first_of (codes "LOG") rows ≡ Some log.now)
     × (first_of (codes "model") rows ≡ Some model.now)
     × IsFlag (codes "order") order rows
     × (all_of (codes "texts") rows ≡ Some (machine.now ∷ script.now ∷ []))
+    × IsFlag (codes "values") false rows × (number_in (codes "nodes") rows ≡ None)
+AreOf (ValueModel log model order nodes) rows = (first_of (codes "LOG") rows ≡ Some log.now)
+    × (first_of (codes "model") rows ≡ Some model.now)
+    × IsFlag (codes "order") order rows × (all_of (codes "texts") rows ≡ None)
+    × IsFlag (codes "values") true rows × (nodes_in rows ≡ nodes)
 AreOf (Schedule machine script rounds clocked) rows =
     (first_of (codes "MACHINE") rows ≡ Some machine.now)
     × (first_of (codes "SCRIPT") rows ≡ Some script.now)
@@ -129,7 +141,7 @@ AreOf (Moves machine script steps) rows = (first_of (codes "MACHINE") rows ≡ S
     × IsFlag (codes "moves") true rows
 
 -- the numbers of a job are within their limits: 1 to 1000000 rounds, 1 to 16 workers, 1 to
--- 1000000000 turns, a depth of 1 to 8, at least one configuration
+-- 1000000000 turns, a depth of 1 to 8, at least one configuration or node
 abbrev pub AreJobLimits : Job → Type 0
 AreJobLimits (Round machine script rounds clocked) = (1 ≤ rounds) × (rounds ≤ 1000000)
 AreJobLimits (Run machine script workers turns) =
@@ -140,6 +152,7 @@ AreJobLimits (Simulate network traffic depth) = (1 ≤ depth) × (depth ≤ 8)
 AreJobLimits (Linearize trace configurations) = 1 ≤ configurations
 AreJobLimits (Report trace configurations) = 1 ≤ configurations
 AreJobLimits (Watch trace configurations) = 1 ≤ configurations
+AreJobLimits (ValueModel log model order nodes) = 1 ≤ nodes
 AreJobLimits (Schedule machine script rounds clocked) = (1 ≤ rounds) × (rounds ≤ 1000000)
 AreJobLimits _ = Unit {0}
 

@@ -114,6 +114,14 @@ pub enum Job<'a> {
         machine: &'a str,
         script: &'a str,
     },
+    /// Judge a log by memory models, of which this one decides the status, by its operations and their
+    /// replies alone, with so many nodes a model at most; and print an order too.
+    ValueModel {
+        log: &'a str,
+        model: &'a str,
+        order: bool,
+        nodes: u32,
+    },
     /// Print the moves of rounds, clocked or in order, at most so many, until every script is finished.
     Schedule {
         machine: &'a str,
@@ -147,7 +155,7 @@ pub struct Request<'a> {
 /// Reads the words of a command line, the program's own name among them.
 ///
 /// Errors: what the parser says of the words, help among it, or that memory ran out; or that options of
-/// `network` are misused.
+/// `network` or `model` are misused.
 pub fn read_command<'a, S: AsStr>(alloc: Global, words: &'a [S]) -> Result<Job<'a>, NoRequest>
     ensures named { IfOk result (λ job. name_by (map S.text words.entry.now) ≡ Some (name_of job)) }
     ensures given { IfOk result (λ job. IfSome (rows_by (map S.text words.entry.now)) (AreOf job)) }

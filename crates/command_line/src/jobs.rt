@@ -172,21 +172,35 @@ pub(crate) fn watch_job<'a>(given: &ArgMatches<'a>) -> Option<Job<'a>>
     })
 }
 
-/// The log of `model`, or a report with the texts of its run.
+/// The log of `model`, with its order of writes or by its replies alone, or a report with the texts of
+/// its run; none where both are asked for, or a number of nodes is given for another than the second.
 pub(crate) fn model_job<'a>(given: &ArgMatches<'a>) -> Option<Job<'a>>
     ensures { IfSome result (NamesJob (codes "model") (rows_of (found_of given.now))) }
 {
     let log = word(given, "LOG")?;
     let model = word(given, "model")?;
     let order = flag_of(given, "order")?;
-    match two_words(given, "texts")? {
-        None => Some(Job::Model { log, model, order }),
-        Some((machine, script)) => Some(Job::RunModel {
+    let given_nodes = number_if_given(given, "nodes", 4294967295)?;
+    let nodes = given_nodes.unwrap_or(10000);
+    match (
+        flag_of(given, "values")?,
+        two_words(given, "texts")?,
+        given_nodes,
+    ) {
+        (true, None, _) => Some(Job::ValueModel {
+            log,
+            model,
+            order,
+            nodes,
+        }),
+        (false, None, None) => Some(Job::Model { log, model, order }),
+        (false, Some((machine, script)), None) => Some(Job::RunModel {
             log,
             model,
             order,
             machine,
             script,
         }),
+        _ => None,
     }
 }

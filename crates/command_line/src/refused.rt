@@ -1,19 +1,23 @@
 //! Why the words of a command line name no job.
-ghost use Rattle.std.specs.Prelude.{◌≡◌, IfSome};
+ghost use Rattle.std.specs.Prelude.{◌≡◌, IfSome, codes};
 ghost use Rattle.clap.specs.Words.{found_of, rows_of, subcommand_name_of, subcommand_rows_of};
 ghost use Rattle.command_line.specs.Job.{rows_in};
-ghost use Rattle.command_line.specs.Refused.{IsMisuse, TellsNoRequest, misuse_text};
+ghost use Rattle.command_line.specs.Refused.{IsMisuse, TellsNoRequest, misuse_text, misused};
 
-use crate::values::{flag_of, number_if_given, word};
+use crate::values::{flag_of, number_if_given, two_words, word};
 use clap::{ArgMatches, Error};
 
-/// How the options of `network` are misused.
+/// How the options of `network` or `model` are misused.
 #[derive(Clone, Copy)]
 pub enum Misuse {
     /// A run and a replay are both asked for.
     RunAndReplay,
     /// A depth is given, and neither a run nor a replay is asked for.
     DepthAlone,
+    /// Texts are given where replies alone count.
+    TextsAndValues,
+    /// A number of nodes is given where not replies alone count.
+    NodesAlone,
 }
 
 /// Why the words of a command line name no job.
@@ -35,12 +39,15 @@ pub fn misuse_text(misuse: Misuse) -> &'static str
         Misuse::RunAndReplay => "network takes --run or --replay, not both",
         Misuse::DepthAlone =>
             "--depth goes with --run or --replay: a verdict is that of every depth",
+        Misuse::TextsAndValues => "model takes --texts or --values, not both",
+        Misuse::NodesAlone => "--nodes goes with --values: without it nothing is searched",
     }
 }
 
 /// How the options of `network` are misused, if they are.
-fn misuse_of(given: &ArgMatches<'_>) -> Option<Misuse>
-    ensures { IfSome result (λ misuse. IsMisuse misuse (rows_of (found_of given.now))) }
+fn misuse_of_network(given: &ArgMatches<'_>) -> Option<Misuse>
+    ensures misuse { IfSome result (λ misuse. IsMisuse misuse (rows_of (found_of given.now))) }
+    ensures of { IfSome result (λ misuse. misused misuse ≡ codes "network") }
 {
     let is_run = flag_of(given, "run")?;
     let is_replay = word(given, "replay").is_some();
@@ -52,14 +59,40 @@ fn misuse_of(given: &ArgMatches<'_>) -> Option<Misuse>
     }
 }
 
+/// How those of `model` are, if they are.
+fn misuse_of_model(given: &ArgMatches<'_>) -> Option<Misuse>
+    ensures misuse { IfSome result (λ misuse. IsMisuse misuse (rows_of (found_of given.now))) }
+    ensures of { IfSome result (λ misuse. misused misuse ≡ codes "model") }
+{
+    let is_by_values = flag_of(given, "values")?;
+    let has_texts = two_words(given, "texts")?.is_some();
+    let has_nodes = number_if_given(given, "nodes", 4294967295)?.is_some();
+    match (is_by_values, has_texts, has_nodes) {
+        (true, true, _) => Some(Misuse::TextsAndValues),
+        (false, _, true) => Some(Misuse::NodesAlone),
+        _ => None,
+    }
+}
+
+/// How the options of the subcommand of this name are misused, if they are.
+fn misuse_of(name: &str, given: &ArgMatches<'_>) -> Option<Misuse>
+    ensures misuse { IfSome result (λ misuse. IsMisuse misuse (rows_of (found_of given.now))) }
+    ensures of { IfSome result (λ misuse. misused misuse ≡ name.now) }
+{
+    match name {
+        "network" => misuse_of_network(given),
+        "model" => misuse_of_model(given),
+        _ => None,
+    }
+}
+
 /// Why matches name no job.
 pub(crate) fn no_request(matches: &ArgMatches<'_>) -> NoRequest
     ensures { TellsNoRequest (subcommand_name_of matches.now)
         (rows_in (subcommand_rows_of matches.now)) result }
 {
     if let Some((name, given)) = matches.subcommand()
-        && name == "network"
-        && let Some(misuse) = misuse_of(given)
+        && let Some(misuse) = misuse_of(name, given)
     {
         return NoRequest::Options(misuse);
     }

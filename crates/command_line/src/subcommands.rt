@@ -171,5 +171,10 @@ pub(crate) fn model<'a>(alloc: Global) -> Making<'a>
     let help = "Prints an order of the strongest model that holds, too";
     let command = with_argument(command, flag(alloc, "order", help));
     let command = with_argument(command, texts(alloc));
+    let help = "Judges by replies alone, without an order of writes";
+    let command = with_argument(command, flag(alloc, "values", help));
+    let help = "At most this many nodes a model with --values, 1 to 4294967295; 10000 by default";
+    let numbers = ValueParser::Signed(1, 4294967295);
+    let command = with_argument(command, count_if_given(alloc, "nodes", numbers, help));
     with_explain(alloc, command)
 }

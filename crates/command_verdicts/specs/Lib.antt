@@ -6,5 +6,6 @@ pub mod RunModelled
 pub mod Reporting
 pub mod Tables
 pub mod Told
+pub mod Valued
 pub mod Watched
 pub mod Hints

@@ -7,8 +7,9 @@ use crate::hints::{begins_anynet, begins_table};
 use crate::model::{Modelled, is_report};
 use adaptive_text::routing_sentence;
 use error_lines::{Kind, explain, explain_by, is_of_texts, named, told};
+use lexer::Refusal;
 use model_answer::LogSentence;
-use model_text::read_log;
+use model_text::{LogReason, read_log};
 use network_rounds::TrafficSentence;
 use network_run::{RunSentence, replay_text};
 use network_text::{NetworkSentence, network_answer, read_network};
@@ -16,6 +17,7 @@ use network_traffic::read_packets;
 use program_fault::{Names, ProgramFault, Texts};
 use sentences::scripts_sentence;
 use trace_why::{no_order_sentence, trace_sentence};
+use value_answer::read_values;
 
 /// The line of a fault at which routers begin to choose, where a text is refused for that alone: another
 /// reader takes the line.
@@ -217,15 +219,33 @@ pub fn explain_other_run<R: Eprint>(rt: &R, names: (&str, &str, &str), modelled:
 
 /// Says why the text of a log has the fault that the command answers, where that can be told.
 fn explain_log<R: Eprint + AllocGlobal>(rt: &R, name: &str, log: &[u8], fault: &ProgramFault) {
+    explain_logged(rt, name, log, read_log(rt.alloc(), log).err(), fault);
+}
+
+/// Says the same of a log that is judged by its replies alone.
+pub fn explain_values<R: Eprint + AllocGlobal>(
+    rt: &R,
+    name: &str,
+    log: &[u8],
+    fault: &ProgramFault,
+) {
+    explain_logged(rt, name, log, read_values(rt.alloc(), log).err(), fault);
+}
+
+/// Says why the text of a log is refused, where it is.
+fn explain_logged<R: Eprint + AllocGlobal>(
+    rt: &R,
+    name: &str,
+    log: &[u8],
+    refused: Option<Refusal<LogReason>>,
+    fault: &ProgramFault,
+) {
     if is_of_texts(fault) {
-        let sentence = match read_log(rt.alloc(), log) {
-            Ok(_) => None,
-            Err(refusal) => Some(LogSentence {
-                name,
-                text: log,
-                refusal,
-            }),
-        };
+        let sentence = refused.map(|refusal| LogSentence {
+            name,
+            text: log,
+            refusal,
+        });
         explain_by(rt, fault, sentence);
         if begins_table(log) {
             let _ = eprintln!(rt; "tools/from_csv {name} --log makes a log of a table");

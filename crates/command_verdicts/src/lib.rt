@@ -12,12 +12,13 @@ pub mod run_model;
 pub mod runs;
 pub mod table;
 pub mod told;
+pub mod values;
 pub mod watched;
 
 pub use command::{Judged, linearize_text};
 pub use explaining::{
     explain_lock_up, explain_models, explain_network, explain_no_order, explain_other_run,
-    explain_replay, explain_run_models, explain_simulation, explain_trace,
+    explain_replay, explain_run_models, explain_simulation, explain_trace, explain_values,
 };
 pub use model::{Modelled, is_report, judged_models_text, model_text, report_models_text};
 pub use network::network_text;
@@ -27,4 +28,5 @@ pub use runs::{lock_up_text, replay_network_text, simulate_text};
 pub use table::{judged_order_text, judged_report_text, linearize_table, report_table};
 pub use told::{model_status, status, verdict_text};
 pub use trace_answer::LineText;
+pub use values::{Decided, decided_status, values_text};
 pub use watched::watched_verdict;

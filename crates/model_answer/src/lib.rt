@@ -7,10 +7,10 @@ mod arrows;
 mod cycle;
 pub mod judged;
 pub mod model;
-mod order;
+pub mod order;
 pub mod sentence;
 mod shorten;
-mod text;
+pub mod text;
 
 pub use answer::{Answer, NoAnswer, Options, answer_to_log, model_answer};
 pub use judged::{Obeys, Verdicts, verdicts_of};

@@ -9,13 +9,13 @@ use crate::judged::{Obeys, Verdicts};
 use crate::model::MemoryModel;
 use crate::text::{put, put_step};
 use memory_models::Verdict;
-use model_text::LogTrace;
 use model_text::placing::places_in;
 use model_text::trace::logged_at;
+use model_text::{LogTrace, Logged};
 use std::alloc::{AllocError, Allocator};
 
 /// The strongest model that a trace obeys. The rule of fences counts only where the log has its fences.
-fn strongest_obeyed(fences: bool, obeys: Obeys) -> Option<MemoryModel>
+pub fn strongest_obeyed(fences: bool, obeys: Obeys) -> Option<MemoryModel>
     ensures { result ≡ strongest_obeyed fences obeys }
 {
     if obeys.sc {
@@ -39,37 +39,46 @@ fn strongest_obeyed(fences: bool, obeys: Obeys) -> Option<MemoryModel>
 /// Adds the line of an operation; none of an opening store.
 fn put_order_line<A: Allocator>(
     text: &mut Vec<u8, A>,
-    trace: &LogTrace<A>,
+    openings: usize,
+    steps: &[Logged],
     x: usize,
 ) -> Result<(), AllocError>
     ensures { OnOk result (text.new.items ≡ text.old.items
-        ++ turn_line trace.now.openings trace.now.steps.items x) }
+        ++ turn_line openings steps.now x) }
 {
-    if x < trace.openings {
+    if x < openings {
         return Ok(());
     }
-    put_step(text, logged_at(&trace.steps, x))
+    put_step(text, logged_at(steps, x))
 }
 
-/// Adds the operations by their turns.
-fn put_order<A: Allocator + Copy>(
+/// Adds the operations by their turns, behind so many opening stores.
+///
+/// Errors: memory.
+pub fn put_order<A: Allocator + Copy>(
     alloc: A,
     text: &mut Vec<u8, A>,
-    trace: &LogTrace<A>,
+    openings: usize,
+    steps: &[Logged],
     turns: &[usize],
 ) -> Result<(), AllocError>
     ensures { OnOk result (text.new.items ≡ text.old.items
-        ++ turns_text trace.now.openings trace.now.steps.items turns.now) }
+        ++ turns_text openings steps.now turns.now) }
 {
     let order = places_in(alloc, turns, turns.len())?;
     for k in 0..order.len() {
-        put_order_line(text, trace, order[k])?;
+        put_order_line(text, openings, steps, order[k])?;
     }
     Ok(())
 }
 
 /// Adds the line before an order.
-fn put_heading<A: Allocator>(text: &mut Vec<u8, A>, model: MemoryModel) -> Result<(), AllocError>
+///
+/// Errors: memory.
+pub fn put_heading<A: Allocator>(
+    text: &mut Vec<u8, A>,
+    model: MemoryModel,
+) -> Result<(), AllocError>
     ensures { OnOk result (text.new.items ≡ text.old.items ++ order_heading model) }
 {
     put(text, b"an order of ")?;
@@ -93,7 +102,7 @@ fn put_verdict_of<A: Allocator + Copy>(
         Verdict::Cycle(_) => Ok(()),
         Verdict::Ordered(turns) => {
             put_heading(text, model)?;
-            put_order(alloc, text, trace, turns)?;
+            put_order(alloc, text, trace.openings, &trace.steps, turns)?;
             Ok(())
         }
     }

@@ -63,6 +63,7 @@ fn text_of(reason: LogReason) -> &'static str {
             "made: no line says where it stands: wrote for a write, read or served for a load"
         }
         LogReason::RepliedTwice => "replied: the reply of the operation is given already",
+        LogReason::ReplyMissing => "made: no replied line gives what the operation found",
     }
 }
 

@@ -13,7 +13,7 @@ use packet::{Operation, Values};
 use std::alloc::{AllocError, Allocator};
 
 /// Adds bytes.
-pub(crate) fn put<A: Allocator>(text: &mut Vec<u8, A>, bytes: &[u8]) -> Result<(), AllocError>
+pub fn put<A: Allocator>(text: &mut Vec<u8, A>, bytes: &[u8]) -> Result<(), AllocError>
     ensures { OnOk result (text.new.items ≡ text.old.items ++ bytes.now) }
 {
     text.extend_from_slice(bytes)?;
@@ -21,7 +21,7 @@ pub(crate) fn put<A: Allocator>(text: &mut Vec<u8, A>, bytes: &[u8]) -> Result<(
 }
 
 /// Adds a number.
-fn put_number<A: Allocator>(text: &mut Vec<u8, A>, n: u64) -> Result<(), AllocError>
+pub fn put_number<A: Allocator>(text: &mut Vec<u8, A>, n: u64) -> Result<(), AllocError>
     ensures { OnOk result (text.new.items ≡ text.old.items ++ decimal n) }
 {
     let mut buffer = Buffer::new();
@@ -37,7 +37,7 @@ fn put_value<A: Allocator>(text: &mut Vec<u8, A>, n: u64) -> Result<(), AllocErr
 }
 
 /// Adds the line of a model: its name, and whether the trace obeys it.
-fn put_verdict<A: Allocator>(
+pub fn put_verdict<A: Allocator>(
     text: &mut Vec<u8, A>,
     model: MemoryModel,
     yes: bool,

@@ -31,6 +31,7 @@ at_line reason.OtherWord n = inr refl
 at_line reason.SourceTwice n = inr refl
 at_line reason.SourceMissing n = inr refl
 at_line reason.RepliedTwice n = inr refl
+at_line reason.ReplyMissing n = inr refl
 
 -- it is what the reader answers
 pub told : {A : Type 0} (e : LogReason) (n : ℕ) (got : Refusal LogReason) (all : Result A (Refusal LogReason))

@@ -21,3 +21,4 @@ log_fault_of reason.OtherWord = fault.Address
 log_fault_of reason.SourceTwice = fault.Setting
 log_fault_of reason.SourceMissing = fault.Setting
 log_fault_of reason.RepliedTwice = fault.Setting
+log_fault_of reason.ReplyMissing = fault.Setting

@@ -10,7 +10,7 @@ pub mod logged;
 mod made;
 mod opened;
 pub mod placing;
-mod reading;
+pub mod reading;
 pub mod reason;
 mod replies;
 pub mod rows;

@@ -13,7 +13,7 @@ use trace_lines::LineReason;
 
 impl<A: Allocator + Copy> Log<A> {
     /// Takes what the words of a line give.
-    pub(crate) fn take(&mut self, alloc: A, line: u64, words: &[&[u8]]) -> Result<(), LogReason>
+    pub fn take(&mut self, alloc: A, line: u64, words: &[&[u8]]) -> Result<(), LogReason>
         ensures { Makes (LogReason.Line LineReason.Memory) (log_so_far self.new) result
             (after_words_of_log (log_so_far self.old) line (map (λ word. word.now) words.now)) }
     {

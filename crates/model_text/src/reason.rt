@@ -47,6 +47,8 @@ pub enum LogReason {
     SourceMissing,
     /// The reply is given already.
     RepliedTwice,
+    /// No line gives the reply of an operation that reads its word, and nothing else says what it read.
+    ReplyMissing,
 }
 
 impl From<LineReason> for LogReason {
@@ -80,6 +82,7 @@ impl Reason for LogReason {
             LogReason::SourceTwice => Fault::Setting,
             LogReason::SourceMissing => Fault::Setting,
             LogReason::RepliedTwice => Fault::Setting,
+            LogReason::ReplyMissing => Fault::Setting,
         }
     }
 }

@@ -51,7 +51,7 @@ pub fn logged_at(made: &[Logged], n: usize) -> Logged
 }
 
 /// What an operation is to a model.
-fn kind_of_step(operation: Option<Asked>) -> Kind
+pub fn kind_of_step(operation: Option<Asked>) -> Kind
     ensures { result ≡ kind_of_step operation }
 {
     match operation {
@@ -61,7 +61,7 @@ fn kind_of_step(operation: Option<Asked>) -> Kind
 }
 
 /// The opening store of a word.
-fn opening_step<A: Allocator>(log: &Log<A>, w: usize) -> Logged
+pub fn opening_step<A: Allocator>(log: &Log<A>, w: usize) -> Logged
     requires { w < length log.now.addresses.items }
     ensures { result ≡ opening_step (log_so_far log.now) w }
 {

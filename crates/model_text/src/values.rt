@@ -29,7 +29,7 @@ pub struct WrongReply {
 }
 
 /// What an operation does to its word; a fence leaves it.
-fn op_of_step(operation: Option<Asked>) -> Op
+pub fn op_of_step(operation: Option<Asked>) -> Op
     ensures { result ≡ op_of_step operation }
 {
     match operation {

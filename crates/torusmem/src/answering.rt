@@ -5,8 +5,8 @@ use crate::running::by_workers;
 use command_jobs::Ended;
 use command_line::Job;
 use command_verdicts::{
-    Judged, Modelled, judged_models_text, judged_order_text, judged_report_text, lock_up_text,
-    network_text, replay_network_text, simulate_text, texts_models_text,
+    Decided, Judged, Modelled, judged_models_text, judged_order_text, judged_report_text,
+    lock_up_text, network_text, replay_network_text, simulate_text, texts_models_text, values_text,
 };
 use model_answer::MemoryModel;
 use program_fault::{ProgramFault, Texts};
@@ -17,6 +17,7 @@ use std::alloc::Global;
 use std::rt::Clock;
 use std::sync::Wait;
 use std::thread::Threads;
+use value_answer::ValueOptions;
 
 /// What a job answers.
 #[derive(Clone, Copy)]
@@ -32,6 +33,8 @@ pub(crate) enum Outcome {
     Judged(Judged, u32),
     /// What a log is judged to be, of which this model decides the status.
     Modelled(Modelled, MemoryModel),
+    /// The same by its replies alone.
+    Decided(Decided, MemoryModel),
 }
 
 /// The answer of the job; `ending` is shown what a run reached.
@@ -76,6 +79,16 @@ pub(crate) fn answer<R: Eprint + Clock + AllocGlobal + Threads + Wait + Sync, W:
                 model,
             )
         }
+        Job::ValueModel {
+            model,
+            order,
+            nodes,
+            ..
+        } => {
+            let nodes = nodes as usize;
+            let options = ValueOptions { nodes, order };
+            decided_by(values_text(alloc, first, options, out), model)
+        }
         Job::Run { workers, turns, .. } => {
             let (workers, turns) = (workers as usize, u64::from(turns));
             by_workers(rt, texts, workers, turns, is_seen, out, ending)
@@ -104,6 +117,15 @@ fn modelled_by(
 ) -> Result<Outcome, ProgramFault> {
     let model = MemoryModel::named(model).unwrap_or(MemoryModel::Sc);
     Ok(Outcome::Modelled(modelled?, model))
+}
+
+/// The same where its replies alone count.
+fn decided_by(
+    decided: Result<Decided, ProgramFault>,
+    model: &str,
+) -> Result<Outcome, ProgramFault> {
+    let model = MemoryModel::named(model).unwrap_or(MemoryModel::Sc);
+    Ok(Outcome::Decided(decided?, model))
 }
 
 /// The answer of a job that prints moves.

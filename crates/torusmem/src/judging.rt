@@ -10,7 +10,11 @@ const LONG_TEXT: usize = 65536;
 /// Writes the line of a job whose first text has so many bytes, and answers whether it has one.
 fn begin_line<R: Eprint>(rt: &R, job: &Job, bytes: usize) -> bool {
     match *job {
-        Job::Linearize { .. } | Job::Report { .. } | Job::Model { .. } | Job::RunModel { .. } => {
+        Job::Linearize { .. }
+        | Job::Report { .. }
+        | Job::Model { .. }
+        | Job::RunModel { .. }
+        | Job::ValueModel { .. } => {
             if bytes < LONG_TEXT {
                 return false;
             }

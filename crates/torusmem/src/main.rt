@@ -59,7 +59,9 @@ fn run<R: Env + Files + Input + Print + Eprint + Clock + AllocGlobal + Threads +
 
 /// Whether the job names a memory model that there isn't, which standard error says then.
 fn is_other_model<R: Eprint>(rt: &R, job: &Job) -> bool {
-    let (Job::Model { model, .. } | Job::RunModel { model, .. }) = *job else {
+    let (Job::Model { model, .. } | Job::RunModel { model, .. } | Job::ValueModel { model, .. }) =
+        *job
+    else {
         return false;
     };
     let is_other = MemoryModel::named(model).is_none();

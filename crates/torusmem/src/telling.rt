@@ -6,13 +6,14 @@ use crate::answering::Outcome;
 use command_jobs::{kind, names};
 use command_line::Job;
 use command_verdicts::{
-    Judged, Modelled, explain_lock_up, explain_models, explain_network, explain_no_order,
-    explain_other_run, explain_replay, explain_run_models, explain_simulation, explain_trace,
-    model_status, status, verdict_text,
+    Decided, Judged, Modelled, decided_status, explain_lock_up, explain_models, explain_network,
+    explain_no_order, explain_other_run, explain_replay, explain_run_models, explain_simulation,
+    explain_trace, explain_values, model_status, status, verdict_text,
 };
 use error_lines::explain;
 use model_answer::WrongSentence;
 use program_fault::{ProgramFault, Texts, status_of};
+use value_answer::{AlikeSentence, UnwrittenSentence};
 
 /// The exit status of an answer. Where a trace has no order, or a log a wrong reply, standard error
 /// says so.
@@ -31,6 +32,25 @@ pub(crate) fn status_told<R: Eprint>(rt: &R, outcome: &Outcome) -> u8 {
             tell_unmodelled(rt, modelled);
             model_status(modelled, model)
         }
+        Outcome::Decided(decided, model) => {
+            tell_unasked(rt, decided);
+            decided_status(decided, model)
+        }
+    }
+}
+
+/// Says why no model is asked of a log by its replies alone, where that is so.
+fn tell_unasked<R: Eprint>(rt: &R, decided: Decided) {
+    match decided {
+        Decided::Alike(first, second) => {
+            let sentence = AlikeSentence { first, second };
+            let _ = eprintln!(rt; "{sentence}");
+        }
+        Decided::Unwritten(step) => {
+            let sentence = UnwrittenSentence { step };
+            let _ = eprintln!(rt; "{sentence}");
+        }
+        Decided::Models(_) => {}
     }
 }
 
@@ -117,6 +137,7 @@ pub(crate) fn explain_fault<R: Eprint + AllocGlobal>(
             ..
         } => explain_run_models(rt, (log, machine, script), &names(job), texts, fault),
         Job::Model { log, .. } => explain_models(rt, log, &names(job), texts, fault),
+        Job::ValueModel { log, .. } => explain_values(rt, log, &texts.first, fault),
         Job::Linearize { trace, .. } | Job::Report { trace, .. } => {
             explain_trace(rt, trace, &texts.first, fault);
         }

@@ -7,8 +7,8 @@ use Rattle.model_answer.proofs.order.put_order.Goals as goal
 
 pub loop-k-preserved : goal.loop-k-preserved
 loop-k-preserved g c =
-    let openings : ℕ = c.args.trace.now.openings in
-    let steps = c.args.trace.now.steps.items in
+    let openings : ℕ = c.args.openings in
+    let steps = c.args.steps.now in
     let k : ℕ = c.loop-k.k in
     let low : k < length c.in_ok-order.order.items = omega arith in
     let inside : k < length c.args.turns.now = omega (arith, c.in_ok-order.ensures.sized) in

@@ -7,4 +7,4 @@ use Rattle.model_answer.proofs.order.put_order.Given as goal
 -- the lines so far
 abbrev pub invariant-loop-k : goal.invariant-loop-k
 invariant-loop-k g l = l.text.items
-    ≡ l.fn.text.items ++ flat_map (λ k. turn_line l.trace.openings l.trace.steps.items (place_in l.turns k)) (range_with_len 0 l.k)
+    ≡ l.fn.text.items ++ flat_map (λ k. turn_line l.openings l.steps (place_in l.turns k)) (range_with_len 0 l.k)

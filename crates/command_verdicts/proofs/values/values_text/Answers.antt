@@ -1,0 +1,24 @@
+-- Where the output failed, a beginning of the answer's text was taken.
+use Rattle.std.proofs.Common.{refl}
+use Rattle.std.proofs.lemmas.Result.{err_from_is_err_and}
+use Rattle.command_verdicts.specs.declared.values.Decided.TheVariants.{Models}
+use Rattle.command_verdicts.proofs.values.values_text.Goals as goal
+
+pub returns-in_err-put_all-in-Ok : goal.returns-in_err-put_all-in-Ok
+returns-in_err-put_all-in-Ok g c =
+    let p = err_from_is_err_and c.from_residual.result c.from_residual.ensures.1 in
+    rw (p.1, p.2) (
+      Models c.in-Ok.answer.decisions,
+      (
+        c.deref.result.now,
+        (c.in-Ok.answer, c.in-Ok.ensures.answer, refl, c.deref.ensures.value),
+        record { bytes = c.in_err-put_all-in-Ok.ensures.err; failed = c.in_err-put_all-in-Ok.ensures.failed },
+      ),
+    )
+
+pub returns-in_ok-put_all-in-Ok : goal.returns-in_ok-put_all-in-Ok
+returns-in_ok-put_all-in-Ok g c = (
+  c.deref.result.now,
+  (c.in-Ok.answer, c.in-Ok.ensures.answer, refl, c.deref.ensures.value),
+  record { bytes = c.in_ok-put_all-in-Ok.ensures.ok; quiet = c.in_ok-put_all-in-Ok.ensures.quiet },
+)

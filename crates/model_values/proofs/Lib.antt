@@ -1,0 +1,12 @@
+pub mod Table
+pub mod Explained
+pub mod Settled
+pub mod Split
+pub mod Rivals
+pub mod Accepted
+pub mod Written
+pub mod ByValues
+pub mod Weights
+pub mod Walked
+pub mod Searching
+pub mod ValuedVerdicts

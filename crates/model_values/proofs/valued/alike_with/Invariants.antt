@@ -1,0 +1,9 @@
+use Rattle.std.proofs.Common.{ℕ, ◌<◌, length}
+use Rattle.model_values.specs.Values.{AreAlike}
+use Rattle.model_values.proofs.valued.alike_with.Given as goal
+
+-- none of the writes so far
+abbrev pub invariant-loop-y : goal.invariant-loop-y
+invariant-loop-y l = record {
+  none : (y : ℕ) → y < l.y → AreAlike l.operations l.left l.x y → ⊥;
+}

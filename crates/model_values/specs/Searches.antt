@@ -1,0 +1,44 @@
+-- A search for an order that explains a trace: it looks at tables of what is known, and where two writes
+-- are in no known order it assumes one way round, and the other once the first is refuted.
+use Rattle.std.specs.Prelude.{◌≡◌, ℕ, ◌+◌, ◌<◌, Bool, true, false, List, [], ◌∷◌, Option, Some, length}
+use Rattle.model_values.specs.declared.question.Unordered.{Unordered}
+use Rattle.model_values.specs.Known.{AreRivals}
+use Rattle.model_values.specs.Unordered.{IsOrderOf}
+
+-- of two writes the first is assumed to come first: as the first way round, or as the second
+pub data Side : Type 0 where
+  First : ℕ → ℕ → Side
+  Second : ℕ → ℕ → Side
+
+-- turns keep what sides assume
+abbrev pub KeepsSides : (ℕ → ℕ) → List Side → Type 0
+KeepsSides turn [] = Unit {0}
+KeepsSides turn (First x y ∷ sides) = (turn x < turn y) × KeepsSides turn sides
+KeepsSides turn (Second x y ∷ sides) = (turn x < turn y) × KeepsSides turn sides
+
+-- sides assume nothing on two writes
+abbrev pub LeaveOpen : List Side → ℕ → ℕ → Type 0
+LeaveOpen [] x y = Unit {0}
+LeaveOpen (First a b ∷ sides) x y = ((a ≡ x → b ≡ y → ⊥) × (a ≡ y → b ≡ x → ⊥)) × LeaveOpen sides x y
+LeaveOpen (Second a b ∷ sides) x y = ((a ≡ x → b ≡ y → ⊥) × (a ≡ y → b ≡ x → ⊥)) × LeaveOpen sides x y
+
+-- a search that has looked at so many tables stands at some sides; or no order keeps these
+pub data Searches (q : Unordered) : List Side → Bool → ℕ → Type 0 where
+  Begins : Searches q [] false 0
+  Splits : (sides : List Side) (n x y : ℕ) → Searches q sides false n → x < length q.operations.now
+      → y < length q.operations.now → AreRivals q.operations.now x y → LeaveOpen sides x y
+      → Searches q (First x y ∷ sides) false (n + 1)
+  Refutes : (sides : List Side) (n : ℕ) → Searches q sides false n
+      → ((turn : ℕ → ℕ) → IsOrderOf q turn → KeepsSides turn sides → ⊥)
+      → Searches q sides true (n + 1)
+  Turns : (sides : List Side) (n x y : ℕ) → Searches q (First x y ∷ sides) true n
+      → Searches q (Second y x ∷ sides) false n
+  Closes : (sides : List Side) (n x y : ℕ) → Searches q (Second x y ∷ sides) true n
+      → Searches q sides true n
+
+-- a search has looked at as many tables as it may, and is at no end
+pub record IsCutOff (q : Unordered) (nodes : Option ℕ) : Type 0 where
+  pub count : ℕ
+  pub most : nodes ≡ Some count
+  pub sides : List Side
+  pub search : Searches q sides false count

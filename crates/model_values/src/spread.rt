@@ -1,0 +1,132 @@
+//! What follows from a table: the source of a load is the last write before it.
+
+ghost use Rattle.std.specs.Prelude.{◌≡◌, ◌⊎◌, ◌*◌, ◌<◌, true, length};
+ghost use Rattle.model_values.specs.Known.{HasSpread, IsRival, IsOwnLoad, is_known};
+
+use crate::known::{add, is_before};
+use crate::question::Unordered;
+use memory_models::kinds::is_write;
+use memory_models::{Kind, Operation};
+
+/// Whether a load or an atomic has a write on its word that is neither its source nor itself.
+fn is_rival(operations: &[Operation], sources: &[usize], x: usize, w: usize) -> bool
+    ensures { result ≡ true → IsRival operations.now sources.now x w }
+{
+    if x >= operations.len() || w >= operations.len() || x >= sources.len() {
+        return false;
+    }
+    let reads = match operations[x].kind {
+        Kind::Load => true,
+        Kind::Atomic => true,
+        _ => false,
+    };
+    reads
+        && sources[x] < operations.len()
+        && is_write(operations[sources[x]].kind)
+        && operations[sources[x]].word == operations[x].word
+        && is_write(operations[w].kind)
+        && operations[x].word == operations[w].word
+        && w != x
+        && w != sources[x]
+}
+
+/// Whether the second is a load, and the first of its processor before it.
+fn is_own_load(operations: &[Operation], w: usize, x: usize) -> bool
+    requires w { w < length operations.now }
+    requires x { x < length operations.now }
+    ensures { result ≡ true → IsOwnLoad operations.now w x }
+{
+    match operations[x].kind {
+        Kind::Load => operations[w].processor == operations[x].processor && w < x,
+        _ => false,
+    }
+}
+
+/// Whether a write is known to be before a load or an atomic, or is one of a load's processor before it.
+fn is_early(operations: &[Operation], table: &[usize], level: usize, x: usize, w: usize) -> bool
+    requires size { length table.now ≡ length operations.now * length operations.now }
+    requires x { x < length operations.now }
+    requires w { w < length operations.now }
+    ensures { result ≡ true → (is_known table.now (length operations.now) level w x ≡ true)
+        ⊎ IsOwnLoad operations.now w x }
+{
+    if is_own_load(operations, w, x) {
+        return true;
+    }
+    is_before(table, operations.len(), level, w, x)
+}
+
+/// Whether one of two facts holds.
+fn either(first: bool, second: bool) -> bool {
+    first || second
+}
+
+/// A write before a load is before the load's source, and one behind the source behind the load.
+/// Whether something new was noted.
+fn spread_rival(question: &Unordered, table: &mut [usize], level: usize, x: usize, w: usize) -> bool
+    requires size { length table.old
+        ≡ length question.now.operations.now * length question.now.operations.now }
+    requires rival { IsRival question.now.operations.now question.now.sources.now x w }
+    ensures { HasSpread question.now level table.old table.new }
+{
+    let size = question.operations.len();
+    let source = question.sources[x];
+    let early = is_early(question.operations, table, level, x, w);
+    let first = add(table, size, level, early, w, source);
+    let late = is_before(table, size, level, source, w);
+    let last = add(table, size, level, late, x, w);
+    either(first, last)
+}
+
+/// The same, if the write is a rival.
+fn spread_pair(question: &Unordered, table: &mut [usize], level: usize, x: usize, w: usize) -> bool
+    requires size { length table.old
+        ≡ length question.now.operations.now * length question.now.operations.now }
+    ensures { HasSpread question.now level table.old table.new }
+{
+    if !is_rival(question.operations, question.sources, x, w) {
+        return false;
+    }
+    spread_rival(question, table, level, x, w)
+}
+
+/// The same for all writes.
+fn spread_row(question: &Unordered, table: &mut [usize], level: usize, x: usize) -> bool
+    requires size { length table.old
+        ≡ length question.now.operations.now * length question.now.operations.now }
+    ensures { HasSpread question.now level table.old table.new }
+{
+    let mut more = false;
+    for w in 0..question.operations.len() {
+        let new = spread_pair(question, table, level, x, w);
+        more = new || more;
+    }
+    more
+}
+
+/// The same for all loads and atomics.
+fn spread_once(question: &Unordered, table: &mut [usize], level: usize) -> bool
+    requires size { length table.old
+        ≡ length question.now.operations.now * length question.now.operations.now }
+    ensures { HasSpread question.now level table.old table.new }
+{
+    let mut more = false;
+    for x in 0..question.operations.len() {
+        let new = spread_row(question, table, level, x);
+        more = new || more;
+    }
+    more
+}
+
+/// The same until nothing new is noted.
+pub(crate) fn spread(question: &Unordered, table: &mut [usize], level: usize)
+    requires size { length table.old
+        ≡ length question.now.operations.now * length question.now.operations.now }
+    ensures { HasSpread question.now level table.old table.new }
+{
+    for pass in 0..table.len() {
+        if !spread_once(question, table, level) {
+            return;
+        }
+    }
+}

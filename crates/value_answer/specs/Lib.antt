@@ -1,0 +1,5 @@
+pub mod Reading
+pub mod Steps
+pub mod Judged
+pub mod Printed
+pub mod Answers
