@@ -1,5 +1,5 @@
 -- What holds in every order that explains a trace.
-use Rattle.std.proofs.Common.{◌≡◌, ◌≢◌, ◌⊎◌, inl, inr, ℕ, ◌+◌, ◌<◌, ◌≤◌, Bool, true, false, List, length, refl, sym, ap, subst, ◌∙◌, arith}
+use Rattle.std.proofs.Common.{◌≡◌, ◌≢◌, ◌⊎◌, inl, inr, ℕ, ◌+◌, ◌<◌, true, false, List, length, refl, sym, ap, subst, ◌∙◌, arith}
 use Rattle.std.specs.Prelude.{slice_index, if◌then◌else◌}
 use Rattle.std.proofs.lemmas.Bool.{cases_eq, cases_lt}
 use Rattle.memory_models.specs.declared.kinds.Kind.{Kind}
@@ -10,7 +10,7 @@ use Rattle.memory_models.specs.Order.{Applies, KeepsOrder, IsMemoryOrder}
 use Rattle.memory_models.specs.Trace.{has, is_load, is_write, uses_word, operation_at, source_at, rule_at, writes_rule, rule_key, IsOwn, AreOnOne, IsMemoryTrace}
 use Rattle.memory_models.proofs.Orders.{load_uses}
 use Rattle.model_values.specs.Known.{IsRival, IsOwnLoad, IsReadBy}
-use Rattle.model_values.specs.Unordered.{IsToldAt, IsOpeningOf, IsPlacing, Explains}
+use Rattle.model_values.specs.Unordered.{IsToldAt, IsOpeningOf, Explains}
 
 -- what explains a trace, in one
 record IsExplained (rules : List Rule) (ops : List Operation) (sources : List ℕ) (words openings : ℕ) (placed : List Operation) (writes : List ℕ) (turn : ℕ → ℕ) : Type 0

@@ -1,6 +1,5 @@
 use Rattle.std.proofs.Common.{ℕ, List, refl, sym, subst}
 use Rattle.memory_models.specs.declared.kinds.Operation.{Operation}
-use Rattle.model_values.specs.declared.valued.Sources.TheVariants.{Told}
 use Rattle.model_values.specs.Unordered.{IsPlacing}
 use Rattle.model_values.specs.Values.{AreKnownSources, AreSourcesOf, IsValuedPlacing}
 use Rattle.model_values.proofs.ValuedVerdicts.{clear_writers, judged_values}
