@@ -10,3 +10,4 @@ pub mod Weights
 pub mod Walked
 pub mod Searching
 pub mod ValuedVerdicts
+pub mod Replies
