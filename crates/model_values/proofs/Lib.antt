@@ -11,3 +11,6 @@ pub mod Walked
 pub mod Searching
 pub mod ValuedVerdicts
 pub mod Replies
+pub mod Sorted
+pub mod Laid
+pub mod Ordered

@@ -13,7 +13,7 @@ use Rattle.memory_models.proofs.Runs.{both_on}
 use Rattle.model_values.specs.declared.valued.Valued.{Valued}
 use Rattle.model_values.specs.Replies.{CanSee, FindsNewest, IsReplyOrder}
 use Rattle.model_values.specs.Values.{IsReader, IsValuedPlacing}
-use Rattle.model_values.proofs.Explained.{keeps_placed}
+use Rattle.model_values.proofs.Explained.{keeps_placed, same_like}
 
 -- an explanation
 record IsExplaining (rules : List Rule) (v : Valued) (placed : List Operation) (writes : List ℕ) (turn : ℕ → ℕ) : Type 0 where
@@ -123,7 +123,7 @@ pub replies : (rules : List Rule) (v : Valued) (placed : List Operation) (writes
 replies rules v placed writes turn i order = record {
   apart = λ x y lx ly same. order.apart x y (subst (λ n. x < n) (sym i.size) lx) (subst (λ n. y < n) (sym i.size) ly) same;
   program = λ x y lx ly keeps. order.program x y (subst (λ n. y < n) (sym i.size) ly)
-      (keeps_placed rules v.operations.now placed x y (i.same x lx) (i.same y ly) keeps);
+      (keeps_placed rules v.operations.now placed x y (same_like v.operations.now placed x (i.same x lx)) (same_like v.operations.now placed y (i.same y ly)) keeps);
   opened = λ x y lx ly opens. (let write-x : is_write (operation_at placed x).kind ≡ true = subst (λ k. is_write k ≡ true) (sym (i.same x lx).kind) opens.first in
       let write-y : is_write (operation_at placed y).kind ≡ true = subst (λ k. is_write k ≡ true) (sym (i.same y ly).kind) opens.second in
       order.word_order x y (subst (λ n. x < n) (sym i.size) lx) (subst (λ n. y < n) (sym i.size) ly) write-x write-y

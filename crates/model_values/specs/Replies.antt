@@ -1,6 +1,6 @@
 -- The words that operations found, by one order of all operations alone: of the writes that an
 -- operation can see, the newest one left what it found.
-use Rattle.std.specs.Prelude.{◌≡◌, ◌⊎◌, ℕ, ◌<◌, true, List, length}
+use Rattle.std.specs.Prelude.{◌≡◌, ◌⊎◌, ℕ, ◌<◌, ◌≤◌, true, List, length}
 use Rattle.memory_models.specs.declared.kinds.Operation.{Operation}
 use Rattle.memory_models.specs.declared.kinds.Rule.{Rule}
 use Rattle.memory_models.specs.Order.{KeepsOrder}
@@ -23,6 +23,12 @@ pub record FindsNewest (v : Valued) (turn : ℕ → ℕ) (x : ℕ) : Type 0 wher
       → is_write (operation_at v.operations.now w).kind ≡ true
       → (operation_at v.operations.now w).word ≡ (operation_at v.operations.now x).word
       → CanSee v.operations.now turn x w → (w ≡ newest) ⊎ (turn w < turn newest)
+
+-- the operations of each processor stand together, and their words are below the number of words
+pub record AreGrouped (v : Valued) : Type 0 where
+  pub processors : (x y : ℕ) → x ≤ y → y < length v.operations.now
+      → (operation_at v.operations.now x).processor ≤ (operation_at v.operations.now y).processor
+  pub word : (x : ℕ) → x < length v.operations.now → (operation_at v.operations.now x).word < v.words
 
 -- one order of all operations that keeps the model's program order and begins each word with its
 -- opening store, and in which each load and atomic finds what the newest write that it can see left
