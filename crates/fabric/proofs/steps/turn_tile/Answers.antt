@@ -1,12 +1,6 @@
-use Rattle.std.proofs.Common.{◌≡◌, refl, sym, ap, ◌∙◌, subst}
-use Rattle.std.specs.Prelude.{true}
-use Rattle.fabric_rule.specs.Core.{Load}
-use Rattle.fabric_rule.specs.Runs.{IsAcceptedLoad}
-use Rattle.fabric_rule.specs.View.{View}
-use Rattle.fabric_rule.specs.Groups.{knowing}
-use Rattle.fabric.proofs.Counting.{agent_low, mine_before, has_before, unready_right, idle_right, seen_right}
+use Rattle.fabric.proofs.Counting.{agent_low, unready_right, idle_right, seen_right}
 use Rattle.fabric.proofs.Takes.{moves_then, sees_then, sees_at_once, only_then, stands_on}
-use Rattle.fabric.proofs.Turning.{accepted_before, idles_before, op_is, only_same, tile_known, waits}
+use Rattle.fabric.proofs.Turning.{idles_before, op_is, only_same, tile_known, waits}
 use Rattle.fabric.proofs.steps.turn_tile.Goals as goal
 
 pub tile_op-requires : goal.tile_op-requires
