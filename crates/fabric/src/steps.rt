@@ -1,5 +1,5 @@
 //! The atomic operations on the row.
-ghost use Rattle.std.specs.Prelude.{◌≡◌, ◌≢◌, ◌<◌, IsTrue, true, Some, []};
+ghost use Rattle.std.specs.Prelude.{◌≡◌, ◌≢◌, ◌<◌, IsTrue, true, false, Some, []};
 ghost use Rattle.tile_laws.specs.Agents.{tile_next_op};
 ghost use Rattle.fabric_rule.specs.Runs.{IsAcceptedLoad};
 ghost use Rattle.fabric_rule.specs.Known.{tile_of, enabled, row_length};
@@ -169,7 +169,7 @@ fn finds_no_flit<A: Allocator>(
 
 // Attempts the step of the tile by its operation, of which the seat knows what it knew before.
 #[inline(always)]
-fn attempt<A: Allocator, B: Turning>(
+fn attempt_op<A: Allocator, B: Turning>(
     row: &Row,
     seat: &mut Seat<(), Knowledge>,
     flags: &mut SeatFlags<A>,
@@ -244,5 +244,5 @@ pub(crate) fn turn_tile<A: Allocator>(
         flags.rests(step);
         return Turned::Idle;
     }
-    attempt::<A, Brand>(row, seat, flags, tile, step, op)
+    attempt_op::<A, Brand>(row, seat, flags, tile, step, op)
 }

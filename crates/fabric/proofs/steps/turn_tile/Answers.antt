@@ -1,12 +1,6 @@
-use Rattle.std.proofs.Common.{◌≡◌, refl, sym, ap, ◌∙◌, subst}
-use Rattle.std.specs.Prelude.{true}
-use Rattle.fabric_rule.specs.Core.{Load}
-use Rattle.fabric_rule.specs.Runs.{IsAcceptedLoad}
-use Rattle.fabric_rule.specs.View.{View}
-use Rattle.fabric_rule.specs.Groups.{knowing}
-use Rattle.fabric.proofs.Counting.{agent_low, mine_before, has_before, unready_right, idle_right, seen_right}
+use Rattle.fabric.proofs.Counting.{agent_low, unready_right, idle_right, seen_right}
 use Rattle.fabric.proofs.Takes.{moves_then, sees_then, sees_at_once, only_then, stands_on}
-use Rattle.fabric.proofs.Turning.{accepted_before, idles_before, op_is, only_same, tile_known, waits}
+use Rattle.fabric.proofs.Turning.{idles_before, op_is, only_same, tile_known, waits}
 use Rattle.fabric.proofs.steps.turn_tile.Goals as goal
 
 pub tile_op-requires : goal.tile_op-requires
@@ -55,14 +49,23 @@ returns-then-finds_no_flit-clause-flags g c = let saw = c.finds_no_flit.ensures.
 
 pub returns-clause-moved : goal.returns-clause-moved
 returns-clause-moved g c = λ e. let saw = c.finds_no_flit.ensures.sees in
-    moves_then c.args.seat.now.me.0 c.finds_no_flit.new.seat.me.0 c.attempt.new.seat.me.0 c.args.step saw.between saw.others saw.view (c.attempt.ensures.moved e)
+    moves_then c.args.seat.now.me.0 c.finds_no_flit.new.seat.me.0 c.attempt_op.new.seat.me.0 c.args.step saw.between saw.others saw.view (c.attempt_op.ensures.moved e)
 
 pub returns-clause-idle : goal.returns-clause-idle
 returns-clause-idle g c = λ e. let saw = c.finds_no_flit.ensures.sees in
-    waits c.args.step c.args.tile.now.place c.args.seat.now.me.0 c.attempt.new.seat.me.0 c.in-Some.op c.requires.tile.place (op_is _ _ _ c.in-Some.ensures)
-    (sees_then c.args.seat.now.me.0 c.finds_no_flit.new.seat.me.0 c.attempt.new.seat.me.0 c.args.step saw.between saw.others saw.view (c.attempt.ensures.idle e))
+    waits c.args.step c.args.tile.now.place c.args.seat.now.me.0 c.attempt_op.new.seat.me.0 c.in-Some.op c.requires.tile.place (op_is _ _ _ c.in-Some.ensures)
+    (sees_then c.args.seat.now.me.0 c.finds_no_flit.new.seat.me.0 c.attempt_op.new.seat.me.0 c.args.step saw.between saw.others saw.view (c.attempt_op.ensures.idle e))
 
 pub returns-clause-rest : goal.returns-clause-rest
 returns-clause-rest g c = let saw = c.finds_no_flit.ensures.sees in
-    only_then c.args.seat.now.me.0 c.finds_no_flit.new.seat.me.0 c.attempt.new.seat.me.0 c.args.step saw.between saw.others saw.view c.requires.load _
-    c.attempt.ensures.rest
+    only_then c.args.seat.now.me.0 c.finds_no_flit.new.seat.me.0 c.attempt_op.new.seat.me.0 c.args.step saw.between saw.others saw.view c.requires.load _
+    c.attempt_op.ensures.rest
+
+pub attempt_op-requires-clause-tile : goal.attempt_op-requires-clause-tile
+attempt_op-requires-clause-tile g c = let saw = c.finds_no_flit.ensures.sees in
+    stands_on c.args.seat.now.me.0 c.finds_no_flit.new.seat.me.0 c.finds_no_flit.new.seat.me.0 c.args.step saw.between saw.others saw.view c.requires.load
+    c.requires.seat.2 c.args.tile.now c.requires.tile
+
+pub attempt_op-requires-clause-flags : goal.attempt_op-requires-clause-flags
+attempt_op-requires-clause-flags g c =
+    seen_right c.args.seat.now c.finds_no_flit.new.seat c.args.flags.now c.requires.load c.finds_no_flit.ensures.sees c.requires.flags

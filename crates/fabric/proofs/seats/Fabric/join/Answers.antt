@@ -1,8 +1,8 @@
-use Rattle.std.proofs.Common.{arith, ◌⊎◌, [], ◌∷◌, ◌++◌, sym, ap, ◌∙◌, subst}
+use Rattle.std.proofs.Common.{arith, ◌⊎◌, sym, ap, ◌∙◌, subst}
 use Rattle.fabric_rule.specs.View.{View}
 use Rattle.fabric_rule.specs.Groups.{Extends}
 use Rattle.fabric_rule.specs.Runs.{IsAcceptedLoad}
-use Rattle.fabric.specs.Seats.{Knowing, Origin, JoinsTo, seat_knows}
+use Rattle.fabric.specs.Seats.{Knowing, Origin, seat_knows}
 use Rattle.fabric.proofs.Meetings.{lawful_view, joined_first}
 use Rattle.fabric.proofs.Sharing.{joins, merges}
 use Rattle.fabric.proofs.Counting.{joined_right, learned_joined}

@@ -1,7 +1,4 @@
-use Rattle.std.proofs.Common.{◌≡◌, sym, ◌∙◌, subst}
-use Rattle.std.specs.Prelude.{false}
-use Rattle.fabric_rule.specs.Known.{enabled}
-use Rattle.fabric.specs.Seats.{Knowing}
+use Rattle.std.proofs.Common.{sym, ◌∙◌}
 use Rattle.fabric.proofs.Counting.{sleeping_idle}
 use Rattle.fabric.proofs.seats.TileSeat.is_awake.Goals as goal
 

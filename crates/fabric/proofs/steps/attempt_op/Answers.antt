@@ -4,7 +4,7 @@ use Rattle.fabric_rule.specs.Known.{moves}
 use Rattle.fabric.proofs.Counting.{agent_low, right_before, mine_before, has_before, moved_right, idle_right}
 use Rattle.fabric.proofs.Turning.{sees, makes, Absorbs, op_is, accepts, has_room, moved_is, idle_is, stands_then, only_tile, before}
 use Rattle.fabric.proofs.Turning.{accepted_before, told_of}
-use Rattle.fabric.proofs.steps.attempt.Goals as goal
+use Rattle.fabric.proofs.steps.attempt_op.Goals as goal
 
 pub absorb-requires-clause-flit : goal.absorb-requires-clause-flit
 absorb-requires-clause-flit g c = let t = told_of _ _ _ _ _ _ _ c.requires.picked.0 c.requires.picked.1 c.perform-found.ensures.told in accepts _ _ _ _ t.suits
