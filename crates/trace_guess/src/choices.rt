@@ -7,13 +7,11 @@ use crate::slots::{Open, is_store};
 use packet::{Op, apply};
 use std::alloc::{AllocError, Allocator};
 
-/// Of the word that is to be followed by another: the place of its value, how many operations find it, and whether it
-/// may come again.
+/// Of the word that is to be followed by another: the place of its value, and how many operations find it.
 #[derive(Clone, Copy)]
 pub(crate) struct Ending {
     pub place: Option<usize>,
     pub finds: u32,
-    pub recurs: bool,
 }
 
 impl<A: Allocator + Copy> Search<A> {
@@ -23,35 +21,20 @@ impl<A: Allocator + Copy> Search<A> {
         Ending {
             place: self.values.place_of(Some(word)),
             finds: self.values.finds_of(word),
-            recurs: self.values.recurs(word),
         }
     }
 
     /// Whether the word may be followed by another, by an operation that finds the value at a place: all others that
-    /// find the word have taken effect, or it comes again.
-    fn may_end(&self, ending: Ending, new: u64, found: Option<usize>) -> bool {
+    /// find the word have taken effect, or it comes again in time.
+    fn may_end(&self, ending: Ending, new: u64, slot: Option<usize>, found: Option<usize>) -> bool {
         let own = if found.is_some() && found == ending.place {
             1
         } else {
             0
         };
-        ending.recurs
-            || new == self.state.word
-            || ending.finds <= own && !self.values.strands(self.state.word, new)
-    }
-
-    /// The event by which a value is due: the first that answers an open operation which finds it.
-    fn due_of(&self, place: Option<usize>) -> usize {
-        let mut due = self.plan.end;
-        for slot in 0..self.slots.table.len() {
-            if let Some(open) = self.waiting_at(slot)
-                && open.found.is_some()
-                && open.found == place
-            {
-                due = due.min(open.answer);
-            }
-        }
-        due
+        new == self.state.word
+            || (ending.finds <= own && !self.strands(new))
+            || self.comes_again(slot)
     }
 
     /// Swaps a choice with the one below, if that is due earlier. Says whether it did.
@@ -104,7 +87,7 @@ impl<A: Allocator + Copy> Search<A> {
         if reply != open.reply
             || self.state.owes && !is_owed
             || slot != answered.slot && self.is_silent(open)
-            || !self.may_end(ending, new, open.found)
+            || !self.may_end(ending, new, Some(slot), open.found)
         {
             return Ok(());
         }
@@ -129,11 +112,14 @@ impl<A: Allocator + Copy> Search<A> {
         if new == self.state.word
             || self.state.owes && is_store(kind.op)
             || !self.values.is_wanted(new, true)
-            || !self.may_end(ending, new, None)
+            || !self.may_end(ending, new, None, None)
         {
             return Ok(());
         }
-        let due = self.due_of(self.values.place_of(Some(new)));
+        let due = match self.values.place_of(Some(new)) {
+            Some(value) => self.due_of(value, None),
+            None => self.plan.end,
+        };
         self.add_choice(from, Taker::Kind(i), kind.op, due)
     }
 

@@ -1,9 +1,11 @@
 //! Guesses an order of a trace, and checks whether it explains the trace: nothing rests on the guess.
 #![tactic(auto)]
 
+mod again;
 mod choices;
 pub mod explained;
 pub mod guess;
+mod listed;
 mod near;
 mod needs;
 mod pairs;
