@@ -1,111 +1,14 @@
-//! Which values come in time for the operations that find them.
+//! What it costs to leave the word: the values that are found later must come again, or still come, in time.
 
 ghost use Rattle.std.specs.Prelude.{◌<◌, ◌≤◌, length};
 
-use crate::listed::{Keyed, Listed, listed_by};
 use crate::needs::{STEPS, before};
-use crate::plan::Plan;
 use crate::search::Search;
+use crate::uses::{AHEAD, place_from};
 use packet::{Op, apply};
-use std::alloc::{AllocError, Allocator};
-
-/// How many operations that find or leave a value are looked at.
-const AHEAD: usize = 8;
-
-/// Of each value the steps that issue operations which find it, those which leave it, and the kinds that do.
-#[derive(Drop)]
-pub(crate) struct Uses<A: Allocator> {
-    pub finders: Listed<A>,
-    pub leavers: Listed<A>,
-    pub kinds: Listed<A>,
-}
-
-/// The steps that issue operations which find, or else leave, values.
-fn steps_by<A: Allocator + Copy>(
-    alloc: A,
-    plan: &Plan<A>,
-    count: usize,
-    finds: bool,
-) -> Result<Listed<A>, AllocError> {
-    let mut keyed = Vec::new(alloc);
-    for item in 0..plan.steps.len() {
-        let step = plan.steps[item];
-        let place = if finds { step.open.found } else { step.open.left };
-        if step.issues
-            && let Some(key) = place
-        {
-            keyed.push(Keyed { key, item })?;
-        }
-    }
-    listed_by(alloc, count, &keyed)
-}
-
-/// The kinds that leave values.
-fn kinds_by<A: Allocator + Copy>(
-    alloc: A,
-    plan: &Plan<A>,
-    count: usize,
-) -> Result<Listed<A>, AllocError> {
-    let mut keyed = Vec::new(alloc);
-    for item in 0..plan.kinds.len() {
-        if let Some(key) = plan.kinds[item].left {
-            keyed.push(Keyed { key, item })?;
-        }
-    }
-    listed_by(alloc, count, &keyed)
-}
-
-/// What uses each of so many values.
-pub(crate) fn uses_of<A: Allocator + Copy>(
-    alloc: A,
-    plan: &Plan<A>,
-    count: usize,
-) -> Result<Uses<A>, AllocError> {
-    Ok(Uses {
-        finders: steps_by(alloc, plan, count, true)?,
-        leavers: steps_by(alloc, plan, count, false)?,
-        kinds: kinds_by(alloc, plan, count)?,
-    })
-}
-
-/// The place of the first of rising numbers from one on.
-fn place_from(numbers: &[usize], least: usize) -> usize {
-    match numbers.binary_search(&least) {
-        Ok(place) => place,
-        Err(place) => place,
-    }
-}
+use std::alloc::Allocator;
 
 impl<A: Allocator + Copy> Search<A> {
-    /// The first event that answers an operation still to be issued which finds a value, up to this event.
-    fn due_later(&self, value: usize, most: usize) -> usize {
-        let steps = self.uses.finders.of(value);
-        let from = place_from(steps, self.state.at);
-        let mut due = most;
-        for n in 0..AHEAD {
-            if let Some(place) = steps.get(from.saturating_add(n))
-                && let Some(step) = self.plan.step_at(*place)
-            {
-                due = due.min(step.open.answer);
-            }
-        }
-        due
-    }
-
-    /// The event by which a value is due: the first that answers an operation which finds it, but for that in a slot.
-    pub(crate) fn due_of(&self, value: usize, but: Option<usize>) -> usize {
-        let mut due = self.due_later(value, self.plan.end);
-        for slot in 0..self.slots.table.len() {
-            if let Some(open) = self.waiting_at(slot)
-                && open.found == Some(value)
-                && but != Some(slot)
-            {
-                due = due.min(open.answer);
-            }
-        }
-        due
-    }
-
     /// Whether an open operation leaves a value.
     fn is_left_open(&self, value: usize) -> bool {
         for slot in 0..self.slots.table.len() {
@@ -156,55 +59,85 @@ impl<A: Allocator + Copy> Search<A> {
         }
     }
 
-    /// Whether an operation, done over and over, may lead to a word from one that another leaves before an event.
-    fn comes_by(&self, op: Op, to: u64, event: usize) -> bool {
+    /// How often an operation is done to come to a word from one that another leaves before an event.
+    fn steps_to(&self, op: Op, to: u64, event: usize) -> Option<usize> {
         let mut word = to;
-        for _ in 0..STEPS {
+        for n in 0..STEPS {
             let Some(from) = before(op, word) else {
-                return apply(op, to).0 == to;
+                return if apply(op, to).0 == to { Some(1) } else { None };
             };
             if self.is_left(from, event) {
-                return true;
+                return Some(n.saturating_add(1));
             }
             word = from;
         }
-        false
+        None
     }
 
-    /// Whether a word may come before an event.
-    fn comes(&self, word: u64, event: usize) -> bool {
+    /// How many operations without an answer it takes at least for a word to come by them before an event, if it may.
+    fn cost_of(&self, word: u64, event: usize) -> Option<usize> {
+        let mut least = None;
         for op in &self.values.wild {
-            if self.comes_by(*op, word, event) {
-                return true;
-            }
-        }
-        self.is_left(word, event)
-    }
-
-    /// Whether a word that is followed by another comes again in time for the operations which find it, but for that
-    /// in a slot.
-    pub(crate) fn comes_again(&self, but: Option<usize>) -> bool {
-        let word = self.state.word;
-        match self.values.place_of(Some(word)) {
-            Some(value) => self.comes(word, self.due_of(value, but)),
-            None => true,
-        }
-    }
-
-    /// Whether an operation without an answer leads from the word to another than this one, which is found, and which
-    /// doesn't come otherwise in time.
-    pub(crate) fn strands(&self, new: u64) -> bool {
-        for op in &self.values.wild {
-            let (to, _) = apply(*op, self.state.word);
-            if to != self.state.word
-                && to != new
-                && self.values.finds_of(to) > 0
-                && let Some(value) = self.values.place_of(Some(to))
-                && !self.is_left(to, self.due_of(value, None))
+            if let Some(cost) = self.steps_to(*op, word, event)
+                && cost < least.unwrap_or(usize::MAX)
             {
-                return true;
+                least = Some(cost);
             }
         }
-        false
+        least
+    }
+
+    /// What it costs that a word which is followed by another comes again in time for the operations which find it, but
+    /// for that in a slot, and so many which leave another; nothing, where it doesn't.
+    pub(crate) fn cost_again(&self, but: Option<usize>, own: u32) -> Option<usize> {
+        let word = self.state.word;
+        let value = self.values.place_of(Some(word))?;
+        let due = self.due_of(value, but);
+        if self.values.suffices(value, own) && self.is_left(word, due) {
+            return Some(0);
+        }
+        self.cost_of(word, due)
+    }
+
+    /// What it costs that a word comes in time for those that find it, where the current one is followed by others;
+    /// nothing, where it doesn't.
+    fn cost_of_found(&self, word: u64) -> Option<usize> {
+        let Some(value) = self.values.place_of(Some(word)) else {
+            return Some(0);
+        };
+        if self.values.finds_of(word) == 0 {
+            return Some(0);
+        }
+        let due = self.due_of(value, None);
+        if self.is_left(word, due) {
+            return Some(0);
+        }
+        self.cost_of(word, due)
+    }
+
+    /// What it costs that words come in time to which an operation, done over and over, leads from the current one, up
+    /// to this one; nothing, where one doesn't.
+    fn cost_by(&self, op: Op, new: u64) -> Option<usize> {
+        let mut word = self.state.word;
+        let mut most = 0usize;
+        for _ in 0..STEPS {
+            let (to, _) = apply(op, word);
+            if to == word || to == new {
+                return Some(most);
+            }
+            most = most.max(self.cost_of_found(to)?);
+            word = to;
+        }
+        Some(most)
+    }
+
+    /// What it costs that words come in time to which operations without an answer lead from the current one, where
+    /// another is next; nothing, where one doesn't.
+    pub(crate) fn cost_to_leave(&self, new: u64) -> Option<usize> {
+        let mut most = 0usize;
+        for op in &self.values.wild {
+            most = most.max(self.cost_by(*op, new)?);
+        }
+        Some(most)
     }
 }

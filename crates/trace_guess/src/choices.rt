@@ -24,17 +24,37 @@ impl<A: Allocator + Copy> Search<A> {
         }
     }
 
-    /// Whether the word may be followed by another, by an operation that finds the value at a place: all others that
-    /// find the word have taken effect, or it comes again in time.
-    fn may_end(&self, ending: Ending, new: u64, slot: Option<usize>, found: Option<usize>) -> bool {
+    /// What it costs that another word follows, by an operation that finds the value at a place: nothing, where all
+    /// others that find the word have taken effect. There is no cost, where the word doesn't come again in time.
+    fn cost_to_end(
+        &self,
+        ending: Ending,
+        new: u64,
+        slot: Option<usize>,
+        found: Option<usize>,
+    ) -> Option<usize> {
         let own = if found.is_some() && found == ending.place {
             1
         } else {
             0
         };
-        new == self.state.word
-            || (ending.finds <= own && !self.strands(new))
-            || self.comes_again(slot)
+        if new == self.state.word {
+            return Some(0);
+        }
+        let leave = self.cost_to_leave(new)?;
+        if ending.finds <= own {
+            return Some(leave);
+        }
+        Some(
+            self.cost_again(slot, own)?
+                .saturating_add(leave)
+                .saturating_add(1),
+        )
+    }
+
+    /// Choices that cost more are due later.
+    fn delayed(&self, due: usize, cost: usize) -> usize {
+        due.saturating_add(self.plan.end.saturating_mul(cost))
     }
 
     /// Swaps a choice with the one below, if that is due earlier. Says whether it did.
@@ -87,11 +107,14 @@ impl<A: Allocator + Copy> Search<A> {
         if reply != open.reply
             || self.state.owes && !is_owed
             || slot != answered.slot && self.is_silent(open)
-            || !self.may_end(ending, new, Some(slot), open.found)
         {
             return Ok(());
         }
-        self.add_choice(from, Taker::Slot(slot), open.op, open.answer)
+        if let Some(cost) = self.cost_to_end(ending, new, Some(slot), open.found) {
+            let due = open.answer.min(self.due_from(new));
+            self.add_choice(from, Taker::Slot(slot), open.op, self.delayed(due, cost))?;
+        }
+        Ok(())
     }
 
     /// Adds the first operation of a kind, if it is issued and leads to a value that an open operation finds.
@@ -112,15 +135,14 @@ impl<A: Allocator + Copy> Search<A> {
         if new == self.state.word
             || self.state.owes && is_store(kind.op)
             || !self.values.is_wanted(new, true)
-            || !self.may_end(ending, new, None, None)
         {
             return Ok(());
         }
-        let due = match self.values.place_of(Some(new)) {
-            Some(value) => self.due_of(value, None),
-            None => self.plan.end,
-        };
-        self.add_choice(from, Taker::Kind(i), kind.op, due)
+        if let Some(cost) = self.cost_to_end(ending, new, None, None) {
+            let due = self.due_from(new);
+            self.add_choice(from, Taker::Kind(i), kind.op, self.delayed(due, cost))?;
+        }
+        Ok(())
     }
 
     /// Adds what may take effect before an operation is answered: the choice that is due first stands last.

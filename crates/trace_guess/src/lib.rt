@@ -3,6 +3,7 @@
 
 mod again;
 mod choices;
+mod due;
 pub mod explained;
 pub mod guess;
 mod listed;
@@ -13,6 +14,7 @@ mod plan;
 mod search;
 mod seen;
 mod slots;
+mod uses;
 mod values;
 mod walk;
 mod words;

@@ -104,4 +104,11 @@ impl<A: Allocator> Values<A> {
     pub(crate) fn finds_of(&self, value: u64) -> u32 {
         count_at(&self.finds, self.place_of(Some(value)))
     }
+
+    /// Whether as many operations that haven't taken effect leave the value at a place as find it and leave another,
+    /// but for so many of the latter.
+    pub(crate) fn suffices(&self, place: usize, but: u32) -> bool {
+        let ends = count_at(&self.ends, Some(place));
+        ends.saturating_sub(but) <= count_at(&self.leaves, Some(place))
+    }
 }

@@ -2,10 +2,10 @@
 
 ghost use Rattle.std.specs.Prelude.{◌<◌, ◌≤◌, length};
 
-use crate::again::{Uses, uses_of};
 use crate::plan::Plan;
 use crate::seen::scattered;
 use crate::slots::{Open, Slots, has, is_store, with};
+use crate::uses::{Uses, uses_of};
 use crate::values::Values;
 use packet::{Op, apply};
 use std::alloc::{AllocError, Allocator};
