@@ -7,13 +7,11 @@ use crate::slots::{Open, is_store};
 use packet::{Op, apply};
 use std::alloc::{AllocError, Allocator};
 
-/// Of the word that is to be followed by another: the place of its value, how many operations find it, and whether it
-/// may come again.
+/// Of the word that is to be followed by another: the place of its value, and how many operations find it.
 #[derive(Clone, Copy)]
 pub(crate) struct Ending {
     pub place: Option<usize>,
     pub finds: u32,
-    pub recurs: bool,
 }
 
 impl<A: Allocator + Copy> Search<A> {
@@ -23,35 +21,40 @@ impl<A: Allocator + Copy> Search<A> {
         Ending {
             place: self.values.place_of(Some(word)),
             finds: self.values.finds_of(word),
-            recurs: self.values.recurs(word),
         }
     }
 
-    /// Whether the word may be followed by another, by an operation that finds the value at a place: all others that
-    /// find the word have taken effect, or it comes again.
-    fn may_end(&self, ending: Ending, new: u64, found: Option<usize>) -> bool {
+    /// What it costs that another word follows, by an operation that finds the value at a place: nothing, where all
+    /// others that find the word have taken effect. There is no cost, where the word doesn't come again in time.
+    fn cost_to_end(
+        &self,
+        ending: Ending,
+        new: u64,
+        slot: Option<usize>,
+        found: Option<usize>,
+    ) -> Option<usize> {
         let own = if found.is_some() && found == ending.place {
             1
         } else {
             0
         };
-        ending.recurs
-            || new == self.state.word
-            || ending.finds <= own && !self.values.strands(self.state.word, new)
+        if new == self.state.word {
+            return Some(0);
+        }
+        let leave = self.cost_to_leave(new)?;
+        if ending.finds <= own {
+            return Some(leave);
+        }
+        Some(
+            self.cost_again(slot, own)?
+                .saturating_add(leave)
+                .saturating_add(1),
+        )
     }
 
-    /// The event by which a value is due: the first that answers an open operation which finds it.
-    fn due_of(&self, place: Option<usize>) -> usize {
-        let mut due = self.plan.end;
-        for slot in 0..self.slots.table.len() {
-            if let Some(open) = self.waiting_at(slot)
-                && open.found.is_some()
-                && open.found == place
-            {
-                due = due.min(open.answer);
-            }
-        }
-        due
+    /// Choices that cost more are due later.
+    fn delayed(&self, due: usize, cost: usize) -> usize {
+        due.saturating_add(self.plan.end.saturating_mul(cost))
     }
 
     /// Swaps a choice with the one below, if that is due earlier. Says whether it did.
@@ -104,11 +107,14 @@ impl<A: Allocator + Copy> Search<A> {
         if reply != open.reply
             || self.state.owes && !is_owed
             || slot != answered.slot && self.is_silent(open)
-            || !self.may_end(ending, new, open.found)
         {
             return Ok(());
         }
-        self.add_choice(from, Taker::Slot(slot), open.op, open.answer)
+        if let Some(cost) = self.cost_to_end(ending, new, Some(slot), open.found) {
+            let due = open.answer.min(self.due_from(new));
+            self.add_choice(from, Taker::Slot(slot), open.op, self.delayed(due, cost))?;
+        }
+        Ok(())
     }
 
     /// Adds the first operation of a kind, if it is issued and leads to a value that an open operation finds.
@@ -129,12 +135,14 @@ impl<A: Allocator + Copy> Search<A> {
         if new == self.state.word
             || self.state.owes && is_store(kind.op)
             || !self.values.is_wanted(new, true)
-            || !self.may_end(ending, new, None)
         {
             return Ok(());
         }
-        let due = self.due_of(self.values.place_of(Some(new)));
-        self.add_choice(from, Taker::Kind(i), kind.op, due)
+        if let Some(cost) = self.cost_to_end(ending, new, None, None) {
+            let due = self.due_from(new);
+            self.add_choice(from, Taker::Kind(i), kind.op, self.delayed(due, cost))?;
+        }
+        Ok(())
     }
 
     /// Adds what may take effect before an operation is answered: the choice that is due first stands last.

@@ -17,7 +17,7 @@ use trace_laws::{Call, Event};
 /// How many slots and kinds of operations a search looks at for each event, and how many at most.
 const LOOKS: u64 = 1 << 13;
 
-const MOST: u64 = 1 << 31;
+const MOST: u64 = 1 << 30;
 
 /// Of each event the first operation that takes effect before it, by the event of its issue, and of each operation
 /// the next one there; where the search has been, and how many slots and kinds it may still look at.

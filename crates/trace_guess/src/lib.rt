@@ -1,9 +1,12 @@
 //! Guesses an order of a trace, and checks whether it explains the trace: nothing rests on the guess.
 #![tactic(auto)]
 
+mod again;
 mod choices;
+mod due;
 pub mod explained;
 pub mod guess;
+mod listed;
 mod near;
 mod needs;
 mod pairs;
@@ -11,6 +14,7 @@ mod plan;
 mod search;
 mod seen;
 mod slots;
+mod uses;
 mod values;
 mod walk;
 mod words;

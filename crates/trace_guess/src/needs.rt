@@ -7,10 +7,10 @@ use packet::{Op, apply};
 use std::alloc::Allocator;
 
 /// How many operations without an answer, one after the other, lead to a value at most.
-const STEPS: usize = 4;
+pub(crate) const STEPS: usize = 4;
 
 /// The word that an operation finds where it leaves this one, if there is but one.
-fn before(op: Op, word: u64) -> Option<u64> {
+pub(crate) fn before(op: Op, word: u64) -> Option<u64> {
     match op {
         Op::Add(more) => Some(word.wrapping_sub(more)),
         Op::Xor(bits) => Some(word ^ bits),
@@ -105,45 +105,10 @@ impl<A: Allocator> Values<A> {
         count_at(&self.finds, self.place_of(Some(value)))
     }
 
-    /// How many leave it.
-    fn leaves_of(&self, value: u64) -> u32 {
-        count_at(&self.leaves, self.place_of(Some(value)))
-    }
-
-    /// Whether an operation, done over and over, may lead to a value from one that another leaves.
-    fn comes_by(&self, op: Op, value: u64) -> bool {
-        let mut word = value;
-        for _ in 0..STEPS {
-            let Some(from) = before(op, word) else {
-                return apply(op, value).0 == value;
-            };
-            if self.leaves_of(from) > 0 {
-                return true;
-            }
-            word = from;
-        }
-        false
-    }
-
-    /// Whether a value may come again.
-    pub(crate) fn recurs(&self, value: u64) -> bool {
-        for op in &self.wild {
-            if self.comes_by(*op, value) {
-                return true;
-            }
-        }
-        self.leaves_of(value) > 0
-    }
-
-    /// Whether an operation without an answer leads from a word to another than this one, which is found and which no
-    /// other operation leaves.
-    pub(crate) fn strands(&self, word: u64, new: u64) -> bool {
-        for op in &self.wild {
-            let (to, _) = apply(*op, word);
-            if to != word && to != new && self.finds_of(to) > 0 && self.leaves_of(to) == 0 {
-                return true;
-            }
-        }
-        false
+    /// Whether as many operations that haven't taken effect leave the value at a place as find it and leave another,
+    /// but for so many of the latter.
+    pub(crate) fn suffices(&self, place: usize, but: u32) -> bool {
+        let ends = count_at(&self.ends, Some(place));
+        ends.saturating_sub(but) <= count_at(&self.leaves, Some(place))
     }
 }

@@ -5,6 +5,7 @@ ghost use Rattle.std.specs.Prelude.{◌<◌, ◌≤◌, length};
 use crate::plan::Plan;
 use crate::seen::scattered;
 use crate::slots::{Open, Slots, has, is_store, with};
+use crate::uses::{Uses, uses_of};
 use crate::values::Values;
 use packet::{Op, apply};
 use std::alloc::{AllocError, Allocator};
@@ -55,6 +56,7 @@ pub(crate) struct Turn {
 pub(crate) struct Search<A: Allocator> {
     pub plan: Plan<A>,
     pub values: Values<A>,
+    pub uses: Uses<A>,
     pub slots: Slots<A>,
     pub turns: Vec<Turn, A>,
     pub choices: Vec<Choice, A>,
@@ -72,9 +74,11 @@ pub(crate) fn search_of<A: Allocator + Copy>(
     looks: u64,
 ) -> Result<Search<A>, AllocError> {
     let table = vec![in alloc; None; plan.width]?;
+    let uses = uses_of(alloc, &plan, values.numbers.len())?;
     Ok(Search {
         plan,
         values,
+        uses,
         slots: Slots { table },
         turns: Vec::new(alloc),
         choices: Vec::new(alloc),

@@ -11,13 +11,14 @@ use trace_laws::Event;
 const WILD: usize = 4;
 
 /// The values of a word, which rise. Of each: how many operations that haven't taken effect find it, how many of these
-/// are open, how many leave it, whether a cas without an answer leads on from it, and the last event that answers one
+/// are open, how many of these leave another, how many operations leave it, whether a cas without an answer leads on from it, and the last event that answers one
 /// which finds it.
 #[derive(Drop)]
 pub(crate) struct Values<A: Allocator> {
     pub numbers: Vec<u64, A>,
     pub finds: Vec<u32, A>,
     pub waits: Vec<u32, A>,
+    pub ends: Vec<u32, A>,
     pub leaves: Vec<u32, A>,
     pub leads: Vec<bool, A>,
     pub lasts: Vec<usize, A>,
@@ -136,6 +137,7 @@ fn empty_values<A: Allocator + Copy>(
         numbers,
         finds: vec![in alloc; 0u32; count]?,
         waits: vec![in alloc; 0u32; count]?,
+        ends: vec![in alloc; 0u32; count]?,
         leaves: vec![in alloc; 0u32; count]?,
         leads: vec![in alloc; false; count]?,
         lasts: vec![in alloc; 0usize; count]?,
@@ -174,12 +176,18 @@ impl<A: Allocator> Values<A> {
     pub(crate) fn take(&mut self, found: Option<usize>, left: Option<usize>) {
         count_down(&mut self.finds, found);
         count_down(&mut self.leaves, left);
+        if left.is_some() {
+            count_down(&mut self.ends, found);
+        }
     }
 
     /// It no longer has taken effect.
     pub(crate) fn put_back(&mut self, found: Option<usize>, left: Option<usize>) {
         count_up(&mut self.finds, found);
         count_up(&mut self.leaves, left);
+        if left.is_some() {
+            count_up(&mut self.ends, found);
+        }
     }
 
     /// An operation that finds the value at a place is open and hasn't taken effect.
