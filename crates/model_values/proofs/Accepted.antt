@@ -1,13 +1,11 @@
 -- Operations with their places, and the sources that they keep.
-use Rattle.std.proofs.Common.{◌≡◌, ℕ, ◌<◌, true, List, length, refl, sym, ap, subst, ◌∙◌}
+use Rattle.std.proofs.Common.{◌≡◌, ℕ, ◌<◌, List, length, sym, ap, subst, ◌∙◌}
 use Rattle.memory_models.specs.declared.kinds.Kind.{Kind}
-use Rattle.memory_models.specs.declared.kinds.Kind.TheVariants.{Fence}
 use Rattle.memory_models.specs.declared.kinds.Operation.{Operation}
 use Rattle.memory_models.specs.Order.{IsMemoryOrder}
-use Rattle.memory_models.specs.Trace.{operation_at}
 use Rattle.model_values.specs.declared.question.Unordered.{Unordered}
 use Rattle.model_values.specs.Known.{AgreesWith, AreSettled}
-use Rattle.model_values.specs.Placed.{ArePlacedBy, IsSame, KeepsSource, ListsWrites, count_below, place_by, placed_operation, writes_at}
+use Rattle.model_values.specs.Placed.{ArePlacedBy, IsSame, KeepsSource, ListsWrites, count_below, place_by, writes_at}
 use Rattle.model_values.specs.Unordered.{IsToldAt, IsPlacing, IsOrderOf}
 use Rattle.model_values.proofs.Settled.{settled_is}
 

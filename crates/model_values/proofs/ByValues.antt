@@ -1,19 +1,17 @@
--- Where the words that are left in a word all differ, what was found says who left it.
-use Rattle.std.proofs.Common.{◌≡◌, ◌≢◌, ◌⊎◌, inl, inr, ℕ, ◌+◌, ◌<◌, ◌≤◌, true, false, List, [], ◌∷◌, ◌++◌, length, refl, sym, ap, subst, ◌∙◌, arith}
+-- Where no two writes left the same in one word, what was found shows who wrote it.
+use Rattle.std.proofs.Common.{◌≡◌, inl, inr, ℕ, ◌+◌, ◌<◌, true, List, [], ◌∷◌, ◌++◌, length, sym, ap, subst, ◌∙◌, arith}
 use Rattle.std.specs.Prelude.{slice_index}
 use Rattle.std.proofs.lemmas.Bool.{cases_eq, cases_lt}
 use Rattle.std.proofs.lemmas.List.{get_or_push, get_or_append_left, length_push}
-use Rattle.memory_models.specs.declared.kinds.Kind.{Kind}
-use Rattle.memory_models.specs.declared.kinds.Kind.TheVariants.{Load, Store, Atomic, Fence}
 use Rattle.memory_models.specs.declared.kinds.Operation.{Operation}
-use Rattle.memory_models.specs.Trace.{is_load, is_write, uses_word, operation_at, source_at, IsMemoryTrace}
+use Rattle.memory_models.specs.Trace.{is_load, is_write, uses_word, operation_at}
 use Rattle.memory_models.proofs.Orders.{load_uses}
 use Rattle.model_values.specs.declared.valued.Valued.{Valued}
-use Rattle.model_values.specs.Placed.{IsSame}
 use Rattle.model_values.specs.Unordered.{IsToldAt, IsPlacing}
-use Rattle.model_values.specs.Values.{FindsBefore, FindsAt, IsKnownSource, IsValuedPlacing, IsReader, AreAlike, IsLeftBy}
+use Rattle.model_values.specs.Values.{FindsAt, IsKnownSource, IsValuedPlacing, IsReader, AreAlike, IsLeftBy}
+use Rattle.model_values.proofs.Explained.{told_same}
 
--- two writes that leave the same are one
+-- two writes that left the same in one word are one write
 one_write : (ops : List Operation) (left : List ℕ) → ((x y : ℕ) → AreAlike ops left x y → ⊥) → (a b : ℕ) → a < length ops → b < length ops
     → is_write (operation_at ops a).kind ≡ true → is_write (operation_at ops b).kind ≡ true → (operation_at ops a).word ≡ (operation_at ops b).word
     → slice_index left a ≡ slice_index left b → a ≡ b
@@ -93,7 +91,7 @@ by_values v sources none by placed writes = (
   λ i. record {
     size = i.size;
     trace = i.trace;
-    same = λ x lx. (let told = i.told x lx in record { processor = told.processor; kind = told.kind; word = told.word; fence = told.fence });
+    same = λ x lx. told_same v.operations.now sources placed writes x (i.told x lx);
     finds = finds_by v sources placed writes by i;
     opened = i.opened;
   },

@@ -1,5 +1,5 @@
 -- What holds in every order that explains a trace.
-use Rattle.std.proofs.Common.{◌≡◌, ◌≢◌, ◌⊎◌, inl, inr, ℕ, ◌+◌, ◌<◌, ◌≤◌, Bool, true, false, List, length, refl, sym, ap, subst, ◌∙◌, arith}
+use Rattle.std.proofs.Common.{◌≡◌, ◌≢◌, ◌⊎◌, inl, inr, ℕ, ◌+◌, ◌<◌, true, false, List, length, refl, sym, ap, subst, ◌∙◌, arith}
 use Rattle.std.specs.Prelude.{slice_index, if◌then◌else◌}
 use Rattle.std.proofs.lemmas.Bool.{cases_eq, cases_lt}
 use Rattle.memory_models.specs.declared.kinds.Kind.{Kind}
@@ -10,7 +10,8 @@ use Rattle.memory_models.specs.Order.{Applies, KeepsOrder, IsMemoryOrder}
 use Rattle.memory_models.specs.Trace.{has, is_load, is_write, uses_word, operation_at, source_at, rule_at, writes_rule, rule_key, IsOwn, AreOnOne, IsMemoryTrace}
 use Rattle.memory_models.proofs.Orders.{load_uses}
 use Rattle.model_values.specs.Known.{IsRival, IsOwnLoad, IsReadBy}
-use Rattle.model_values.specs.Unordered.{IsToldAt, IsOpeningOf, IsPlacing, Explains}
+use Rattle.model_values.specs.Placed.{IsSame}
+use Rattle.model_values.specs.Unordered.{IsToldAt, IsOpeningOf, Explains}
 
 -- what explains a trace, in one
 record IsExplained (rules : List Rule) (ops : List Operation) (sources : List ℕ) (words openings : ℕ) (placed : List Operation) (writes : List ℕ) (turn : ℕ → ℕ) : Type 0
@@ -32,10 +33,19 @@ write_uses Store e = refl
 write_uses Atomic e = refl
 write_uses Fence e = cc
 
+-- an operation is the same but for its place
+pub record IsLike (ops placed : List Operation) (x : ℕ) : Type 0 where
+  pub processor : (operation_at placed x).processor ≡ (operation_at ops x).processor
+  pub kind : (operation_at placed x).kind ≡ (operation_at ops x).kind
+  pub word : (operation_at placed x).word ≡ (operation_at ops x).word
+
+pub same_like : (ops placed : List Operation) (x : ℕ) → IsSame ops placed x → IsLike ops placed x
+same_like ops placed x same = record { processor = same.processor; kind = same.kind; word = same.word }
+
 -- a rule keeps the same operations with their places
-applies_placed : (rule : Rule) (ops : List Operation) (sources : List ℕ) (placed : List Operation) (writes : List ℕ) (x y : ℕ)
-    → IsToldAt ops sources placed writes x → IsToldAt ops sources placed writes y → Applies rule ops x y → Applies rule placed x y
-applies_placed rule ops sources placed writes x y tx ty a = record {
+applies_placed : (rule : Rule) (ops placed : List Operation) (x y : ℕ) → IsLike ops placed x → IsLike ops placed y → Applies rule ops x y
+    → Applies rule placed x y
+applies_placed rule ops placed x y tx ty a = record {
   own = record { processor = tx.processor ∙ a.own.processor ∙ sym ty.processor; before = a.own.before };
   from = subst (λ k. has rule.from k ≡ true) (sym tx.kind) a.from;
   to = subst (λ k. has rule.to k ≡ true) (sym ty.kind) a.to;
@@ -44,12 +54,16 @@ applies_placed rule ops sources placed writes x y tx ty a = record {
       one ∙ a.key ∙ sym two);
 }
 
-keeps_placed : (rules : List Rule) (ops : List Operation) (sources : List ℕ) (placed : List Operation) (writes : List ℕ) (x y : ℕ)
-    → IsToldAt ops sources placed writes x → IsToldAt ops sources placed writes y → KeepsOrder rules ops x y → KeepsOrder rules placed x y
-keeps_placed rules ops sources placed writes x y tx ty (inl k) = inl (k.0, k.1, applies_placed (rule_at rules k.0) ops sources placed writes x y tx ty k.2)
-keeps_placed rules ops sources placed writes x y tx ty (inr w) = inr (applies_placed writes_rule ops sources placed writes x y tx ty w)
+pub keeps_placed : (rules : List Rule) (ops placed : List Operation) (x y : ℕ) → IsLike ops placed x → IsLike ops placed y → KeepsOrder rules ops x y
+    → KeepsOrder rules placed x y
+keeps_placed rules ops placed x y tx ty (inl k) = inl (k.0, k.1, applies_placed (rule_at rules k.0) ops placed x y tx ty k.2)
+keeps_placed rules ops placed x y tx ty (inr w) = inr (applies_placed writes_rule ops placed x y tx ty w)
 
-kept_before : (rules : List Rule) (ops : List Operation) (x y : ℕ) → KeepsOrder rules ops x y → x < y
+pub told_same : (ops : List Operation) (sources : List ℕ) (placed : List Operation) (writes : List ℕ) (x : ℕ) → IsToldAt ops sources placed writes x
+    → IsSame ops placed x
+told_same ops sources placed writes x t = record { processor = t.processor; kind = t.kind; word = t.word; fence = t.fence }
+
+pub kept_before : (rules : List Rule) (ops : List Operation) (x y : ℕ) → KeepsOrder rules ops x y → x < y
 kept_before rules ops x y (inl k) = k.2.own.before
 kept_before rules ops x y (inr w) = w.own.before
 
@@ -58,7 +72,8 @@ pub kept_rises : (rules : List Rule) (ops : List Operation) (sources : List ℕ)
 kept_rises rules ops sources words openings turn ex x y lx ly kept =
     let e = explained rules ops sources words openings turn ex in
     e.order.program x y (subst (λ n. y < n) (sym e.size) ly)
-    (keeps_placed rules ops sources ex.placed ex.writes x y (e.told x lx) (e.told y ly) kept)
+    (keeps_placed rules ops ex.placed x y (same_like ops ex.placed x (told_same ops sources ex.placed ex.writes x (e.told x lx)))
+    (same_like ops ex.placed y (told_same ops sources ex.placed ex.writes y (e.told y ly))) kept)
 
 -- two different writes on one word
 pub record AreWrites (placed : List Operation) (x y : ℕ) : Type 0 where

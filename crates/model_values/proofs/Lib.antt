@@ -10,3 +10,7 @@ pub mod Weights
 pub mod Walked
 pub mod Searching
 pub mod ValuedVerdicts
+pub mod Replies
+pub mod Sorted
+pub mod Laid
+pub mod Ordered

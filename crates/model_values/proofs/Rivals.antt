@@ -1,14 +1,13 @@
 -- What follows from a table of what is known, in each order that explains the trace.
-use Rattle.std.proofs.Common.{◌≡◌, ◌⊎◌, inl, inr, ℕ, ◌+◌, ◌*◌, ◌<◌, ◌≤◌, Bool, true, false, List, length, refl, sym, ap, subst, ◌∙◌, arith}
+use Rattle.std.proofs.Common.{◌≡◌, ◌⊎◌, inl, inr, ℕ, ◌+◌, ◌*◌, ◌<◌, Bool, true, List, length, sym, subst, arith}
 use Rattle.std.specs.Prelude.{slice_index, replicate}
 use Rattle.std.proofs.lemmas.List.{get_or-replicate}
 use Rattle.std.proofs.lemmas.Nat.{mul-add-lt}
-use Rattle.memory_models.specs.declared.kinds.Operation.{Operation}
 use Rattle.model_values.specs.declared.question.Unordered.{Unordered}
 use Rattle.model_values.specs.Known.{is_known, AgreesWith, HasNoted, HasSpread, IsFirstOf, IsOwnLoad, IsRival}
 use Rattle.model_values.specs.Unordered.{IsOrderOf}
 use Rattle.model_values.proofs.Explained.{kept_rises, opening_rises, read_rises, later_rises, earlier_rises}
-use Rattle.model_values.proofs.Table.{has_spread, spread_noted, spread_then, known_le}
+use Rattle.model_values.proofs.Table.{has_spread, spread_noted, known_le}
 
 -- what comes first does in each order that explains the trace
 pub first_rises : (q : Unordered) (x y : ℕ) (turn : ℕ → ℕ) → x < length q.operations.now → y < length q.operations.now

@@ -1,7 +1,7 @@
 -- Splits of a path, and the table of what is known at their levels.
-use Rattle.std.proofs.Common.{◌≡◌, inl, inr, ⊎_elim, ℕ, zero, suc, ◌+◌, ◌*◌, ◌<◌, ◌≤◌, Bool, true, false, List, [], ◌∷◌, ◌++◌, length, take, refl, sym, ap, subst, ◌∙◌, arith}
-use Rattle.std.specs.Prelude.{slice_index, slice_index_or}
-use Rattle.std.proofs.lemmas.Bool.{cases_eq, cases_lt}
+use Rattle.std.proofs.Common.{◌≡◌, inl, inr, ℕ, zero, suc, ◌+◌, ◌*◌, ◌<◌, ◌≤◌, true, List, [], ◌∷◌, ◌++◌, length, take, refl, sym, subst, ◌∙◌, arith}
+use Rattle.std.specs.Prelude.{slice_index}
+use Rattle.std.proofs.lemmas.Bool.{cases_lt}
 use Rattle.std.proofs.lemmas.Nat.{mul-add-lt}
 use Rattle.std.proofs.lemmas.List.{length-take-le, length_push, get_or-take, get_or_push, get_or_append_left}
 use Rattle.model_values.specs.declared.question.Unordered.{Unordered}
@@ -9,7 +9,7 @@ use Rattle.model_values.specs.Answers.{AreSplitsBelow, IsRefuted, IsSplit, IsTur
 use Rattle.model_values.specs.Known.{is_known, AgreesWith, HasNoted, HasSpread, IsForgotten, IsNoted, IsOpenPair, IsSameBelow, unknown}
 use Rattle.model_values.specs.Unordered.{IsOrderOf}
 use Rattle.model_values.proofs.Explained.{one_first}
-use Rattle.model_values.proofs.Table.{known_le, le_known, noted_same, noted_then, noted_below, below_noted, below_then, forgotten_below, same_agrees, forgotten_agrees, unknown_less, unknown_fewer, unknown_most}
+use Rattle.model_values.proofs.Table.{known_le, le_known, noted_then, noted_below, below_noted, below_then, forgotten_below, same_agrees, forgotten_agrees, unknown_less, unknown_fewer, unknown_most}
 
 -- an order that agrees with the level of a split and keeps its first side agrees with the next level
 pub record IsSplitAt (q : Unordered) (table : List ℕ) (i x y : ℕ) : Type 0 where

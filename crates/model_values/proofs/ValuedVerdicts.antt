@@ -1,5 +1,5 @@
 -- The answer on sources is one on the words that were left and found.
-use Rattle.std.proofs.Common.{◌≡◌, ℕ, List, length, sym, ap, subst}
+use Rattle.std.proofs.Common.{◌≡◌, ℕ, List, length, sym, subst}
 use Rattle.std.specs.Prelude.{Option, slice_index}
 use Rattle.rising.specs.Found.{IsPermutationBelow}
 use Rattle.memory_models.specs.declared.kinds.Operation.{Operation}

@@ -1,11 +1,10 @@
 -- What is left of a search gets less with each table that it looks at.
-use Rattle.std.proofs.Common.{◌≡◌, inl, inr, ℕ, zero, suc, ◌+◌, ◌*◌, ◌<◌, ◌≤◌, Bool, true, false, List, [], ◌∷◌, ◌++◌, length, take, refl, sym, ap, subst, ◌∙◌, arith}
+use Rattle.std.proofs.Common.{◌≡◌, ℕ, zero, suc, ◌+◌, ◌<◌, ◌≤◌, Bool, true, false, List, [], ◌∷◌, ◌++◌, length, refl, sym, ap, subst, ◌∙◌, arith}
 use Rattle.std.specs.Prelude.{slice_index, if◌then◌else◌}
 use Rattle.std.proofs.lemmas.List.{length-take-le, length_push}
 use Rattle.model_values.specs.declared.question.Unordered.{Unordered}
-use Rattle.model_values.specs.Answers.{IsSplit, IsTurned, split_at}
-use Rattle.model_values.specs.Known.{HasSpread, IsNoted, IsOpenPair, IsSameBelow, unknown}
-use Rattle.model_values.proofs.Table.{noted_below}
+use Rattle.model_values.specs.Answers.{IsSplit, IsTurned}
+use Rattle.model_values.specs.Known.{HasSpread, IsOpenPair, unknown}
 use Rattle.model_values.proofs.Split.{IsPathOf, less_to, path_spread, split_below, split_fewer, turned_fewer, turned_below}
 
 -- how many tables a search of so many unknown pairs looks at, at most

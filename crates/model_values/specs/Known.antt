@@ -2,7 +2,6 @@
 -- the level of the search at which the pair was noted.
 use Rattle.std.specs.Prelude.{◌≡◌, ◌≢◌, ◌⊎◌, ℕ, ◌+◌, ◌*◌, ◌<◌, ◌≤◌, nat_le, if◌then◌else◌}
 use Rattle.std.specs.Prelude.{Bool, true, List, [], ◌∷◌, length, slice_index}
-use Rattle.memory_models.specs.declared.kinds.Kind.{Kind}
 use Rattle.memory_models.specs.declared.kinds.Kind.TheVariants.{Atomic}
 use Rattle.memory_models.specs.declared.kinds.Operation.{Operation}
 use Rattle.memory_models.specs.Trace.{is_load, is_write, operation_at, IsOwn}

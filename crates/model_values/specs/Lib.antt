@@ -5,3 +5,4 @@ pub mod Answers
 pub mod Values
 pub mod Searches
 pub mod ValuedVerdict
+pub mod Replies

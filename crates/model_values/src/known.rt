@@ -14,7 +14,7 @@ pub(crate) fn is_before(table: &[usize], size: usize, level: usize, x: usize, y:
     table[x * size + y] <= level
 }
 
-/// Notes at a level that one operation comes before another, if it is wanted.
+/// Notes at a level that one operation comes before another, if that is wanted.
 fn put(table: &mut [usize], size: usize, level: usize, wanted: bool, x: usize, y: usize)
     requires size { length table.old ≡ size * size }
     requires x { x < size }
@@ -32,7 +32,7 @@ fn put(table: &mut [usize], size: usize, level: usize, wanted: bool, x: usize, y
     table[place] = level;
 }
 
-/// Notes it, and that the first comes before all that the second comes before.
+/// Notes that, and that the first comes before all that the second comes before.
 fn put_behind(table: &mut [usize], size: usize, level: usize, wanted: bool, x: usize, y: usize)
     requires size { length table.old ≡ size * size }
     requires x { x < size }
@@ -49,8 +49,8 @@ fn put_behind(table: &mut [usize], size: usize, level: usize, wanted: bool, x: u
     }
 }
 
-/// Notes at a level that one operation comes before another, if it is wanted, and what follows from
-/// that.
+/// Notes at a level that one operation comes before another, if that is wanted, and what follows from
+/// it.
 fn add_new(table: &mut [usize], size: usize, level: usize, wanted: bool, x: usize, y: usize)
     requires size { length table.old ≡ size * size }
     requires x { x < size }
@@ -67,7 +67,7 @@ fn add_new(table: &mut [usize], size: usize, level: usize, wanted: bool, x: usiz
     }
 }
 
-/// The same, if it is not known. Whether it is new.
+/// Notes that with what follows, unless it is known. Returns whether it is new.
 pub(crate) fn add(
     table: &mut [usize],
     size: usize,
@@ -88,7 +88,7 @@ pub(crate) fn add(
     wanted
 }
 
-/// An entry, if it is not above a level.
+/// An entry up to a level, and that of an unknown pair in place of a higher one.
 fn level_left(entry: usize, level: usize) -> usize
     ensures kept { entry ≤ level → result ≡ entry }
     ensures gone { level < entry → result ≡ 18446744073709551615 }

@@ -6,6 +6,7 @@ mod accept;
 pub mod by_values;
 mod first;
 mod known;
+pub mod laws;
 mod placed;
 pub mod question;
 mod search;

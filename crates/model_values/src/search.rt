@@ -170,7 +170,7 @@ fn split<A: Allocator>(
     Ok(())
 }
 
-/// Turns back to the second side of the last split, at its level. Whether there is one.
+/// Turns back to the second side of the last split, at its level. Returns whether there is one.
 fn turn_back<A: Allocator>(
     table: &mut [usize],
     size: usize,
@@ -194,7 +194,7 @@ fn turn_back<A: Allocator>(
     true
 }
 
-/// Whether one table more may be looked at.
+/// Whether the search may look at one table more.
 fn spend(left: &mut Option<usize>) -> bool
     ensures none { left.old ≡ None → (result ≡ true) × (left.new ≡ None) }
     ensures spent { result ≡ false → left.old ≡ Some 0 }

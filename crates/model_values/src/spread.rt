@@ -61,8 +61,8 @@ fn either(first: bool, second: bool) -> bool {
     first || second
 }
 
-/// A write before a load is before the load's source, and one behind the source behind the load.
-/// Whether something new was noted.
+/// Notes what follows for a rival write: one before the reader comes before its source, and one behind
+/// the source comes behind the reader. Returns whether it noted something new.
 fn spread_rival(question: &Unordered, table: &mut [usize], level: usize, x: usize, w: usize) -> bool
     requires size { length table.old
         ≡ length question.now.operations.now * length question.now.operations.now }
@@ -78,7 +78,7 @@ fn spread_rival(question: &Unordered, table: &mut [usize], level: usize, x: usiz
     either(first, last)
 }
 
-/// The same, if the write is a rival.
+/// Notes that for a write that is a rival, and nothing for another one.
 fn spread_pair(question: &Unordered, table: &mut [usize], level: usize, x: usize, w: usize) -> bool
     requires size { length table.old
         ≡ length question.now.operations.now * length question.now.operations.now }
@@ -90,7 +90,7 @@ fn spread_pair(question: &Unordered, table: &mut [usize], level: usize, x: usize
     spread_rival(question, table, level, x, w)
 }
 
-/// The same for all writes.
+/// Notes that for one reader and all writes.
 fn spread_row(question: &Unordered, table: &mut [usize], level: usize, x: usize) -> bool
     requires size { length table.old
         ≡ length question.now.operations.now * length question.now.operations.now }
@@ -104,7 +104,7 @@ fn spread_row(question: &Unordered, table: &mut [usize], level: usize, x: usize)
     more
 }
 
-/// The same for all loads and atomics.
+/// Notes that for all readers.
 fn spread_once(question: &Unordered, table: &mut [usize], level: usize) -> bool
     requires size { length table.old
         ≡ length question.now.operations.now * length question.now.operations.now }
@@ -118,7 +118,7 @@ fn spread_once(question: &Unordered, table: &mut [usize], level: usize) -> bool
     more
 }
 
-/// The same until nothing new is noted.
+/// Notes that for all readers, again and again until nothing is new.
 pub(crate) fn spread(question: &Unordered, table: &mut [usize], level: usize)
     requires size { length table.old
         ≡ length question.now.operations.now * length question.now.operations.now }

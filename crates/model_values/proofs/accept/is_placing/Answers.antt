@@ -1,4 +1,4 @@
-use Rattle.model_values.proofs.Accepted.{told_of, told_to}
+use Rattle.model_values.proofs.Accepted.{told_of}
 use Rattle.model_values.proofs.accept.is_placing.Goals as goal
 
 pub returns-clause-yes : goal.returns-clause-yes

@@ -1,4 +1,3 @@
-use Rattle.std.proofs.Common.{arith}
 use Rattle.model_values.proofs.Table.{is_set}
 use Rattle.model_values.proofs.known.put.Goals as goal
 

@@ -1,9 +1,8 @@
-use Rattle.std.proofs.Common.{◌≡◌, ◌+◌, ◌<◌, true, false, length, refl, sym, ap, subst, ◌∙◌, arith}
+use Rattle.std.proofs.Common.{◌+◌, ◌<◌, true, length, ap, subst, ◌∙◌, arith}
 use Rattle.model_values.specs.declared.search.Looked.TheVariants.{Refuted, Open}
 use Rattle.model_values.specs.Answers.{IsLookedAt}
 use Rattle.model_values.specs.Known.{HasSpread}
 use Rattle.model_values.proofs.Searching.{IsSearching, IsSpent, searching_first, searching_cut, searching_back, searching_on}
-use Rattle.model_values.proofs.Split.{path_spread, split_room}
 use Rattle.model_values.proofs.Weights.{left_back, left_on}
 use Rattle.model_values.proofs.search.search.Goals as goal
 

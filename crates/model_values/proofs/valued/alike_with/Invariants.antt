@@ -1,4 +1,4 @@
-use Rattle.std.proofs.Common.{ℕ, ◌<◌, length}
+use Rattle.std.proofs.Common.{ℕ, ◌<◌}
 use Rattle.model_values.specs.Values.{AreAlike}
 use Rattle.model_values.proofs.valued.alike_with.Given as goal
 

@@ -1,4 +1,4 @@
-use Rattle.std.proofs.Common.{ℕ, ◌<◌, length}
+use Rattle.std.proofs.Common.{ℕ, ◌<◌}
 use Rattle.model_values.specs.Values.{IsLeftBy}
 use Rattle.model_values.proofs.valued.source_of.Given as goal
 

@@ -1,0 +1,9 @@
+use Rattle.model_values.proofs.Ordered.{ordered}
+use Rattle.model_values.proofs.Replies.{replies}
+use Rattle.model_values.proofs.laws.replies_follow.Goals as goal
+
+pub returns-clause-follow : goal.returns-clause-follow
+returns-clause-follow c rules v placed writes i turn order = replies rules v placed writes turn i order
+
+pub returns-clause-explain : goal.returns-clause-explain
+returns-clause-explain c rules v groups turn order = ordered rules v turn groups order
