@@ -1,3 +1,3 @@
 pub mod Refusing
-pub mod Judging
+pub mod NoPlacing
 pub mod Answering

@@ -1,5 +1,6 @@
 -- What is printed of the models that words alone obey (this project's own format).
-use Rattle.std.specs.Prelude.{◌≡◌, ℕ, Bool, true, false, List, [], ◌++◌, Option, Some, None, codes}
+use Rattle.std.specs.Prelude.{ℕ, Bool, true, false, List, [], ◌++◌, Option, Some, None, codes}
+use Rattle.std.specs.Prelude.{if◌then◌else◌}
 use Rattle.std.specs.Prelude.{decimal}
 use Rattle.model_answer.specs.declared.judged.Obeys.{Obeys}
 use Rattle.model_answer.specs.declared.model.MemoryModel.{MemoryModel}
@@ -56,20 +57,19 @@ order_text openings steps model (verdict.Obeys e) =
 order_text openings steps model verdict.Breaks = []
 order_text openings steps model verdict.Undecided = []
 
--- that of the strongest model that is obeyed; nothing where there is none
-abbrev pub strongest_text : {A : Type 0} → ℕ → List Logged → ValueVerdicts A
-    → Option MemoryModel → List ℕ
-strongest_text openings steps all None = []
-strongest_text openings steps all (Some model) =
-    order_text openings steps model (value_verdict_by model all)
+-- the model of which an order is asked for: the strongest that is obeyed for certain
+abbrev pub asked_model : Bool → Decisions → Option MemoryModel
+asked_model order all = if order then strongest_obeyed true (obeyed_by all) else None
 
--- nothing where no order is asked for
-abbrev pub asked_text : {A : Type 0} → ℕ → List Logged → ValueVerdicts A → Bool → List ℕ
-asked_text openings steps all false = []
-asked_text openings steps all true =
-    strongest_text openings steps all (strongest_obeyed true (obeyed_by (decisions_of all)))
+-- its order; nothing where there is no such model
+abbrev pub asked_text : {A : Type 0} → ℕ → List Logged → ValueVerdicts A → Option MemoryModel
+    → List ℕ
+asked_text openings steps all None = []
+asked_text openings steps all (Some model) =
+    order_text openings steps model (value_verdict_by model all)
 
 -- what is printed: the models, the order
 abbrev pub verdicts_text : {A : Type 0} → ℕ → Bool → ℕ → List Logged → ValueVerdicts A → List ℕ
 verdicts_text nodes order openings steps all =
-    decisions_text nodes (decisions_of all) ++ asked_text openings steps all order
+    decisions_text nodes (decisions_of all)
+    ++ asked_text openings steps all (asked_model order (decisions_of all))

@@ -1,10 +1,8 @@
 //! The text of an answer by words alone.
 
 ghost use Rattle.std.specs.Prelude.{◌≡◌, ◌++◌, IfOk, OnOk, codes, decimal};
-ghost use Rattle.model_answer.specs.Answer.{strongest_obeyed};
-ghost use Rattle.value_answer.specs.Judged.{decisions_of};
-ghost use Rattle.value_answer.specs.Printed.{asked_text, decision_line, decisions_text, obeyed_by};
-ghost use Rattle.value_answer.specs.Printed.{order_text, strongest_text, verdicts_text};
+ghost use Rattle.value_answer.specs.Printed.{asked_model, asked_text, decision_line, decisions_text};
+ghost use Rattle.value_answer.specs.Printed.{order_text, verdicts_text};
 
 use crate::decision::{Decision, Decisions};
 use crate::judging::ValueVerdicts;
@@ -76,28 +74,43 @@ fn put_order_of<A: Allocator + Copy>(
     match verdict {
         OrderVerdict::Obeys(explanation) => {
             put_heading(text, model)?;
-            put_order(alloc, text, openings, steps, &explanation.turns)
+            put_order(alloc, text, openings, steps, &explanation.turns)?;
+            Ok(())
         }
         OrderVerdict::Breaks => Ok(()),
         OrderVerdict::Undecided => Ok(()),
     }
 }
 
-/// Adds the order of the strongest model that is obeyed; nothing where there is none.
-fn put_strongest<A: Allocator + Copy>(
+/// The model of which an order is asked for: the strongest that is obeyed for certain.
+fn asked_model(order: bool, all: Decisions) -> Option<MemoryModel>
+    ensures { result ≡ asked_model order all }
+{
+    if order {
+        strongest_obeyed(true, all.obeyed())
+    } else {
+        None
+    }
+}
+
+/// Adds the order of a model, if there is one.
+fn put_order_by<A: Allocator + Copy>(
     alloc: A,
     text: &mut Vec<u8, A>,
     openings: usize,
     steps: &[Logged],
     all: &ValueVerdicts<A>,
+    model: Option<MemoryModel>,
 ) -> Result<(), AllocError>
     ensures { OnOk result (text.new.items ≡ text.old.items
-        ++ strongest_text openings steps.now all.now
-        (strongest_obeyed true (obeyed_by (decisions_of all.now)))) }
+        ++ asked_text openings steps.now all.now model) }
 {
-    match strongest_obeyed(true, all.decisions().obeyed()) {
+    match model {
         None => Ok(()),
-        Some(model) => put_order_of(alloc, text, openings, steps, model, all.by(model)),
+        Some(model) => {
+            put_order_of(alloc, text, openings, steps, model, all.by(model))?;
+            Ok(())
+        }
     }
 }
 
@@ -116,9 +129,9 @@ pub(crate) fn text_of<A: Allocator + Copy>(
         text.items ≡ verdicts_text nodes order openings steps.now all.now) }
 {
     let mut text = Vec::new(alloc);
-    put_decisions(&mut text, nodes, all.decisions())?;
-    if order {
-        put_strongest(alloc, &mut text, openings, steps, all)?;
-    }
+    let decisions = all.decisions();
+    put_decisions(&mut text, nodes, decisions)?;
+    let model = asked_model(order, decisions);
+    put_order_by(alloc, &mut text, openings, steps, all, model)?;
     Ok(text)
 }
