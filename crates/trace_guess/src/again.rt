@@ -76,7 +76,7 @@ impl<A: Allocator + Copy> Search<A> {
 
     /// How many operations without an answer it takes at least for a word to come by them before an event, if it may.
     fn cost_of(&self, word: u64, event: usize) -> Option<usize> {
-        let mut least = None;
+        let mut least = self.values.cost_of_others();
         for op in &self.values.wild {
             if let Some(cost) = self.steps_to(*op, word, event)
                 && cost < least.unwrap_or(usize::MAX)

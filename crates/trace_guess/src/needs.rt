@@ -2,7 +2,7 @@
 
 ghost use Rattle.std.specs.Prelude.{◌<◌, ◌≤◌, length};
 
-use crate::values::{Values, count_at};
+use crate::values::{Values, WILD, count_at};
 use packet::{Op, apply};
 use std::alloc::Allocator;
 
@@ -110,5 +110,13 @@ impl<A: Allocator> Values<A> {
     pub(crate) fn suffices(&self, place: usize, but: u32) -> bool {
         let ends = count_at(&self.ends, Some(place));
         ends.saturating_sub(but) <= count_at(&self.leaves, Some(place))
+    }
+
+    /// What it costs that a value comes by operations without an answer that aren't looked at, if there may be some.
+    pub(crate) fn cost_of_others(&self) -> Option<usize> {
+        if self.wild.len() < WILD {
+            return None;
+        }
+        Some(STEPS)
     }
 }

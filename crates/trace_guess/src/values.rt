@@ -8,7 +8,7 @@ use std::alloc::{AllocError, Allocator};
 use trace_laws::Event;
 
 /// How many unlike operations without an answer are looked at that leave a word which depends on what they find.
-const WILD: usize = 4;
+pub(crate) const WILD: usize = 4;
 
 /// The values of a word, which rise. Of each: how many operations that haven't taken effect find it, how many of these
 /// are open, how many of these leave another, how many operations leave it, whether a cas without an answer leads on from it, and the last event that answers one
