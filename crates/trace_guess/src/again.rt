@@ -1,4 +1,5 @@
-//! What it costs to leave the word: the values that are found later must come again, or still come, in time.
+//! What it costs to leave the word: values that are found later must come again, or still come, in time. A cost grows
+//! with the operations without an answer that this takes; there is none, where a value can't come.
 
 ghost use Rattle.std.specs.Prelude.{◌<◌, ◌≤◌, length};
 
@@ -74,7 +75,7 @@ impl<A: Allocator + Copy> Search<A> {
         None
     }
 
-    /// How many operations without an answer it takes at least for a word to come by them before an event, if it may.
+    /// How many operations without an answer it takes at least for a word to come by them before an event.
     fn cost_of(&self, word: u64, event: usize) -> Option<usize> {
         let mut least = self.values.cost_of_others();
         for op in &self.values.wild {
@@ -87,8 +88,8 @@ impl<A: Allocator + Copy> Search<A> {
         least
     }
 
-    /// What it costs that a word which is followed by another comes again in time for the operations which find it, but
-    /// for that in a slot, and so many which leave another; nothing, where it doesn't.
+    /// The cost for the word to come again in time for the operations that find it. The operation in a slot takes
+    /// effect now; it may be one of those, and leave another word.
     pub(crate) fn cost_again(&self, but: Option<usize>, own: u32) -> Option<usize> {
         let word = self.state.word;
         let value = self.values.place_of(Some(word))?;
@@ -99,8 +100,7 @@ impl<A: Allocator + Copy> Search<A> {
         self.cost_of(word, due)
     }
 
-    /// What it costs that a word comes in time for those that find it, where the current one is followed by others;
-    /// nothing, where it doesn't.
+    /// The cost for a word to come in time for the operations that find it, otherwise than from the current one.
     fn cost_of_found(&self, word: u64) -> Option<usize> {
         let Some(value) = self.values.place_of(Some(word)) else {
             return Some(0);
@@ -115,8 +115,8 @@ impl<A: Allocator + Copy> Search<A> {
         self.cost_of(word, due)
     }
 
-    /// What it costs that words come in time to which an operation, done over and over, leads from the current one, up
-    /// to this one; nothing, where one doesn't.
+    /// The highest cost of the words to which an operation, done over and over, leads from the current one, up to a
+    /// new one.
     fn cost_by(&self, op: Op, new: u64) -> Option<usize> {
         let mut word = self.state.word;
         let mut most = 0usize;
@@ -131,8 +131,8 @@ impl<A: Allocator + Copy> Search<A> {
         Some(most)
     }
 
-    /// What it costs that words come in time to which operations without an answer lead from the current one, where
-    /// another is next; nothing, where one doesn't.
+    /// The highest cost of the words to which operations without an answer lead from the current one, where a new one
+    /// follows.
     pub(crate) fn cost_to_leave(&self, new: u64) -> Option<usize> {
         let mut most = 0usize;
         for op in &self.values.wild {

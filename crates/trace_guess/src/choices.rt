@@ -24,8 +24,8 @@ impl<A: Allocator + Copy> Search<A> {
         }
     }
 
-    /// What it costs that another word follows, by an operation that finds the value at a place: nothing, where all
-    /// others that find the word have taken effect. There is no cost, where the word doesn't come again in time.
+    /// The cost for another word to follow, by the operation in a slot, which finds the value at a place. The word
+    /// must come again, unless all others that find it have taken effect.
     fn cost_to_end(
         &self,
         ending: Ending,
@@ -52,7 +52,7 @@ impl<A: Allocator + Copy> Search<A> {
         )
     }
 
-    /// Choices that cost more are due later.
+    /// When a choice of some cost is due: later than all that cost less.
     fn delayed(&self, due: usize, cost: usize) -> usize {
         due.saturating_add(self.plan.end.saturating_mul(cost))
     }

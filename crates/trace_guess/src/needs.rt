@@ -112,7 +112,7 @@ impl<A: Allocator> Values<A> {
         ends.saturating_sub(but) <= count_at(&self.leaves, Some(place))
     }
 
-    /// What it costs that a value comes by operations without an answer that aren't looked at, if there may be some.
+    /// The cost for a value to come by operations without an answer that aren't looked at, where there may be some.
     pub(crate) fn cost_of_others(&self) -> Option<usize> {
         if self.wild.len() < WILD {
             return None;

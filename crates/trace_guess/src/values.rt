@@ -10,9 +10,9 @@ use trace_laws::Event;
 /// How many unlike operations without an answer are looked at that leave a word which depends on what they find.
 pub(crate) const WILD: usize = 4;
 
-/// The values of a word, which rise. Of each: how many operations that haven't taken effect find it, how many of these
-/// are open, how many of these leave another, how many operations leave it, whether a cas without an answer leads on from it, and the last event that answers one
-/// which finds it.
+/// The values of a word, which rise. Of each: how many operations that haven't taken effect find it, how many of
+/// these are open, how many find it and leave another, how many leave it, whether a cas without an answer leads on
+/// from it, and the last event that answers one which finds it.
 #[derive(Drop)]
 pub(crate) struct Values<A: Allocator> {
     pub numbers: Vec<u64, A>,
