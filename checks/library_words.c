@@ -13,14 +13,18 @@ static void must(bool is_so, const char *what, int line) {
 
 static bool is_text(const char *text, const char *wanted) { return text && strcmp(text, wanted) == 0; }
 
-/* What comes of the first answer to adds of 1 that are all open on one word. */
-static uint32_t first_answer(uint64_t count) {
+/* What comes of the first answer to adds that are all open on one word: of 1 each, or each of another number. */
+static uint32_t first_answer(uint64_t count, bool is_one_number) {
   static const uint64_t zero = 0;
   torusmem_watch w = TORUSMEM_WATCH_INIT;
   bool is_begun = torusmem_watch_begin(&w, &zero, 1).code == TORUSMEM_OK;
-  for (uint64_t at = 0; at < count; at++)
-    is_begun = is_begun && torusmem_watch_issue(&w, at, TORUSMEM_ADD, 0, 1, 0).code == TORUSMEM_OK;
-  uint32_t code = torusmem_watch_answer(&w, 0, 1, count - 1, 1000000).code;
+  uint64_t sum = 0;
+  for (uint64_t at = 0; at < count; at++) {
+    uint64_t number = is_one_number ? 1 : UINT64_C(1) << at;
+    is_begun = is_begun && torusmem_watch_issue(&w, at, TORUSMEM_ADD, 0, number, 0).code == TORUSMEM_OK;
+    sum += number;
+  }
+  uint32_t code = torusmem_watch_answer(&w, 0, 1, sum - 1, 100000).code;
   torusmem_watch_end(&w);
   return is_begun ? code : TORUSMEM_EMPTY;
 }
@@ -41,6 +45,7 @@ int main(void) {
   int first = 0, second = 0, third = 0;
   MUST(sscanf(torusmem_version(), "%d.%d.%d", &first, &second, &third) == 3);
   MUST(TORUSMEM_VERSION_NUMBER == 1000000 * first + 1000 * second + third);
-  MUST(first_answer(9) == TORUSMEM_OK && first_answer(10) == TORUSMEM_TOO_MANY);
+  MUST(first_answer(8, false) == TORUSMEM_OK && first_answer(9, false) == TORUSMEM_TOO_MANY);
+  MUST(first_answer(64, true) == TORUSMEM_OK);
   return wrongs == 0 ? 0 : 1;
 }
