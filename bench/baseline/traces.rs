@@ -584,7 +584,7 @@ fn main() {
             continue;
         }
         let start = Instant::now();
-        let verdict = judge(&opening, &events, 1023);
+        let verdict = judge(&opening, &events, 1_000_000);
         println!("judge {}", start.elapsed().as_nanos());
         let (kind, sum) = match verdict {
             Ok(Ok(order)) => (0, sum_of(&order)),
