@@ -1,6 +1,7 @@
 -- What the line of a channel alone keeps from a move.
-use Rattle.std.proofs.Common.{◌≡◌, ℕ, ◌<◌, List, length, Option, Some, None}
-use Rattle.std.specs.Prelude.{slice_index_or, IfSome}
+use Rattle.std.proofs.Common.{◌≡◌, ◌≢◌, ℕ, ◌<◌, length, None, sym, subst}
+use Rattle.std.proofs.lemmas.List.{get_or_default}
+use Rattle.std.specs.Prelude.{slice_index_or}
 use Rattle.wormhole.specs.State.{NetLine}
 use Rattle.wormhole.specs.Events.{CanHappen}
 use Rattle.network_machine.specs.declared.channel.Channel.{Channel}
@@ -9,9 +10,9 @@ use Rattle.network_machine.specs.declared.moves.Move.TheVariants.{Send, More, Ta
 use Rattle.network_machine.specs.Lines.{ShowsLine}
 use Rattle.network_machine.specs.Lets.{KeepsFrom}
 use Rattle.network_machine.specs.Moves.{move_channel}
-use Rattle.network_machine.specs.Machine.{NetworkMachineSpec, plain_network, Prevents}
+use Rattle.network_machine.specs.Machine.{NetworkMachineSpec, plain_network, Prevents, IsKept, KeepsOthers}
 use Rattle.network_machine.proofs.Which.{only_send, only_more, only_take, only_put, only_accept, only_credit}
-use Rattle.network_machine.proofs.Puts.{line_at}
+use Rattle.network_machine.proofs.Puts.{line_at, some_channel}
 
 -- no event makes such a move
 pub kept : (m : NetworkMachineSpec) (of : Move) (c : Channel) → move_channel of < length m.channels → c ≡ slice_index_or m.channels (move_channel of) c
@@ -37,7 +38,17 @@ kept m (Credit x) c here at keeps number top depth s shows e can =
     only_credit (λ e. CanHappen (plain_network m.table number top depth) s.lines e → ⊥) x
     (λ may. keeps (s.lines x) (line_at m s shows x here c at) may.returns) e can.is can.may
 
--- a hindrance, if there is one, keeps from it
-pub if_some : {A : Type 0} (r : Option A) (L : Option A → Type 0) (P : Type 0) → L r → ((h : A) → L (Some h) → P) → IfSome r (λ h. P)
-if_some None L P lets f = tt
-if_some (Some h) L P lets f = f h lets
+-- a move that its channel keeps from being made is one
+pub kept_prevents : (m : NetworkMachineSpec) (of : Move) → IsKept m of → Prevents m of
+kept_prevents m of is =
+    (let d = some_channel m.channels (move_channel of) is.here in
+    let c = slice_index_or m.channels (move_channel of) d in
+    kept m of c is.here (get_or_default m.channels (move_channel of) d c is.here) (is.keeps d))
+
+-- and stays so, while something changes at other channels
+pub kept_elsewhere : (old new : NetworkMachineSpec) (x y : ℕ) (of : Move) → KeepsOthers old new x y → move_channel of ≢ x → move_channel of ≢ y
+    → IsKept old of → IsKept new of
+kept_elsewhere old new x y of keeps other other_2 is = record {
+  here = subst (λ n. move_channel of < n) (sym keeps.size) is.here;
+  keeps = λ d l shows. is.keeps d l (subst (ShowsLine l) (keeps.others (move_channel of) d other other_2) shows);
+}

@@ -14,7 +14,7 @@ use Rattle.network_machine.specs.Keeping.{AllKeepToRoutes}
 use Rattle.network_machine.specs.Moves.{MakesEvent, event_move}
 use Rattle.network_machine.specs.Forwards.{forward, Forwards}
 use Rattle.network_machine.specs.Outputs.{IsWayOut}
-use Rattle.network_machine.specs.Machine.{NetworkMachineSpec, ShowsNetwork, plain_network, Permits, MakesAll, SameTables, HasMadeMove}
+use Rattle.network_machine.specs.Machine.{NetworkMachineSpec, ShowsNetwork, plain_network, Permits, Prevents, MakesAll, MovesAll, SameTables, HasMadeMove}
 use Rattle.network_machine.proofs.Keeping.{keeps_on}
 use Rattle.network_machine.proofs.Puts.{same_way}
 
@@ -50,3 +50,21 @@ moved old new of arrive same allows true made = λ number top depth s shows.
     })
 moved old new of arrive same allows false made = λ number top depth s shows.
     (let a = allows number top depth s shows in absurd (made number top depth s shows a.0 a.1.is a.1.may))
+
+-- a put that was made
+pub puts_move : (old new : NetworkMachineSpec) (x : ℕ) → AllArrive old.table → SameTables old new → MakesAll old new (Put x) true → MovesAll old new (Put x)
+puts_move old new x arrive same made = λ number top depth s shows.
+    (let h = made number top depth s shows in
+    record {
+      event = h.0;
+      can = record { is = h.1; may = h.2; answers = tt };
+      shows = record {
+        lines = h.3;
+        keep = subst (λ (t : Table). AllKeepToRoutes t (lines_after (plain_network old.table number top depth) s.lines h.0)) (sym same.table)
+            (keeps_on old.table number top depth arrive s.lines h.0 shows.keep h.2);
+      };
+    })
+
+-- and one that no event makes
+pub puts_prevent : (old new : NetworkMachineSpec) (x : ℕ) → MakesAll old new (Put x) false → Prevents old (Put x)
+puts_prevent old new x made = λ number top depth s shows e can. made number top depth s shows e can.is can.may

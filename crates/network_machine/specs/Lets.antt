@@ -3,6 +3,9 @@ use Rattle.std.specs.Prelude.{◌≡◌, ◌≢◌, ℕ, ◌<◌, Bool, true, fa
 use Rattle.wormhole.specs.State.{NetLine, in_line}
 use Rattle.network_machine.specs.declared.moves.Hindrance.{Hindrance}
 use Rattle.network_machine.specs.declared.moves.Move.{Move}
+use Rattle.network_machine.specs.declared.channel.Channel.{Channel}
+use Rattle.network_machine.specs.declared.free.Lets.{Lets}
+use Rattle.network_machine.specs.Lines.{ShowsLine}
 use Rattle.network_machine.specs.declared.moves.Move.TheVariants.{Send, More, Take, Put, Accept}
 use Rattle.network_machine.specs.declared.moves.Move.TheVariants.{Credit}
 
@@ -10,11 +13,6 @@ use Rattle.network_machine.specs.declared.moves.Move.TheVariants.{Credit}
 abbrev pub LetsTake : NetLine → Option Hindrance → Type 0
 LetsTake l None = (flit : ℕ) × (more : List ℕ) × (l.latch ≡ None) × (l.flits ≡ flit ∷ more)
 LetsTake l (Some h) = (flit : ℕ) (more : List ℕ) → l.latch ≡ None → l.flits ≡ flit ∷ more → ⊥
-
--- it has a flit to put
-abbrev pub LetsPut : NetLine → Option Hindrance → Type 0
-LetsPut l None = (flit : ℕ) × (l.latch ≡ Some flit)
-LetsPut l (Some h) = l.latch ≡ None
 
 -- a credit comes back
 abbrev pub LetsReturn : NetLine → Option Hindrance → Type 0
@@ -49,3 +47,17 @@ KeepsFrom l (Take x) = (flit : ℕ) (more : List ℕ) → l.latch ≡ None → l
 KeepsFrom l (Put x) = l.latch ≡ None
 KeepsFrom l (Accept x) = (flit : ℕ) (more : List ℕ) → l.flits ≡ flit ∷ more → ⊥
 KeepsFrom l (Credit x) = 0 < l.returning → ⊥
+
+-- whether a move is among those that a channel lets be made; a new packet always is
+abbrev pub is_let : Lets → Move → Bool
+is_let l (Send p) = true
+is_let l (More x) = l.more
+is_let l (Take x) = l.take
+is_let l (Put x) = l.put
+is_let l (Accept x) = l.accept
+is_let l (Credit x) = l.credit
+
+-- the others are kept from being made
+abbrev pub LetsMoves : Channel → Lets → Type 0
+LetsMoves c lets = (l : NetLine) (of : Move) → ShowsLine l c → is_let lets of ≡ false
+    → KeepsFrom l of

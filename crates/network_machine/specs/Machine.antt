@@ -1,8 +1,8 @@
 -- What a machine shows, and what becomes of it when a move is attempted.
-use Rattle.std.specs.Prelude.{◌≡◌, ℕ, ◌<◌, List, length}
+use Rattle.std.specs.Prelude.{◌≡◌, ℕ, ◌<◌, List, length, slice_index_or}
 use Rattle.std.specs.Prelude.{Option, Some, None, Bool, true}
 use Rattle.wormhole.specs.Net.{Net}
-use Rattle.wormhole.specs.State.{NetState, empty}
+use Rattle.wormhole.specs.State.{NetLine, NetState, empty}
 use Rattle.wormhole.specs.Events.{NetEvent, after}
 use Rattle.network_judge.specs.declared.table.Reply.{Reply}
 use Rattle.network_judge.specs.Table.{Table, joins_of}
@@ -14,7 +14,9 @@ use Rattle.network_machine.specs.declared.moves.Hindrance.{Hindrance}
 use Rattle.network_machine.specs.Keeping.{AllKeepToRoutes}
 use Rattle.network_machine.specs.declared.moves.Move.TheVariants.{Send, More, Take, Put, Accept}
 use Rattle.network_machine.specs.declared.moves.Move.TheVariants.{Credit}
-use Rattle.network_machine.specs.Moves.{CanMove, ShowAll, MakesEvent}
+use Rattle.network_machine.specs.Lines.{ShowsLine}
+use Rattle.network_machine.specs.Lets.{KeepsFrom}
+use Rattle.network_machine.specs.Moves.{CanMove, ShowAll, MakesEvent, move_channel, OthersStay}
 
 -- a machine: its table, who answers where, and its channels
 pub record NetworkMachineSpec : Type 0 where
@@ -61,6 +63,17 @@ abbrev pub Prevents : NetworkMachineSpec → Move → Type 0
 Prevents m move = (number : ℕ → ℕ) (top depth : ℕ) (s : NetState) → ShowsNetwork m s
     → (event : NetEvent)
     → CanMove (plain_network m.table number top depth) m.replies s.lines move event → ⊥
+
+-- what stands at its channel alone keeps a move from being made
+pub record IsKept (m : NetworkMachineSpec) (of : Move) : Type 0 where
+  pub here : move_channel of < length m.channels
+  pub keeps : (d : Channel) (l : NetLine)
+      → ShowsLine l (slice_index_or m.channels (move_channel of) d) → KeepsFrom l of
+
+-- each channel but two is as it was
+pub record KeepsOthers (old new : NetworkMachineSpec) (x y : ℕ) : Type 0 where
+  pub size : length new.channels ≡ length old.channels
+  pub others : OthersStay old.channels new.channels x y
 
 -- no hindrance, and an event makes the move; or one, and none does
 abbrev pub Settles : NetworkMachineSpec → Move → Option Hindrance → Type 0

@@ -1,5 +1,5 @@
 -- The moves of a network, as its events, and when each may be made.
-use Rattle.std.specs.Prelude.{◌≡◌, ℕ, ◌<◌, true, false, Bool, List, length, Option, Some, None}
+use Rattle.std.specs.Prelude.{◌≡◌, ◌≢◌, ℕ, ◌<◌, true, false, Bool, List, length, Option, Some, None}
 use Rattle.std.specs.Prelude.{slice_index_or}
 use Rattle.wormhole.specs.Net.{Net, net_flits}
 use Rattle.wormhole.specs.State.{NetLine}
@@ -35,6 +35,15 @@ move_channel (Put x) = x
 move_channel (Accept x) = x
 move_channel (Credit x) = x
 
+-- a move changes what stands at its channel alone
+abbrev pub IsOfOneChannel : Move → Type 0
+IsOfOneChannel (Send p) = Unit {0}
+IsOfOneChannel (More x) = Unit {0}
+IsOfOneChannel (Take x) = Unit {0}
+IsOfOneChannel (Put x) = ⊥
+IsOfOneChannel (Accept x) = Unit {0}
+IsOfOneChannel (Credit x) = Unit {0}
+
 -- a receiver that takes a flit has a credit on each channel on which it answers
 abbrev pub HasAnswerCredits : List Reply → (ℕ → NetLine) → Move → Type 0
 HasAnswerCredits replies ls (Send p) = Unit {0}
@@ -63,6 +72,11 @@ ShowAll ls cs = (x : ℕ) (d : Channel) → x < length cs → ShowsLine (ls x) (
 -- each has room
 abbrev pub ChannelsHaveRoom : List Channel → Type 0
 ChannelsHaveRoom cs = (x : ℕ) (d : Channel) → x < length cs → ChannelHasRoom (slice_index_or cs x d)
+
+-- each channel but two stays as it is
+abbrev pub OthersStay : List Channel → List Channel → ℕ → ℕ → Type 0
+OthersStay old new x y = (z : ℕ) (d : Channel) → z ≢ x → z ≢ y
+    → slice_index_or new z d ≡ slice_index_or old z d
 
 -- an event makes the move, and the channels show the lines after it; or none does
 abbrev pub MakesEvent : Net → (ℕ → NetLine) → Move → List Channel → Bool → Type 0

@@ -1,8 +1,12 @@
 //! Moves that are attempted.
 
-ghost use Rattle.std.specs.Prelude.{◌≡◌, true, false, OnOk, OnErr, IfErr};
+ghost use Rattle.std.specs.Prelude.{◌≡◌, true, false, OnOk, OnErr, IfErr, IfSome, IfNone};
 ghost use Rattle.network_machine.specs.declared.moves.Move.TheVariants.{Send, More, Take, Put, Accept, Credit};
-ghost use Rattle.network_machine.specs.Machine.{SameTables, MovesAll, Prevents, MakesAll, IsInReach};
+ghost use Rattle.network_machine.specs.Machine.{SameTables, MovesAll, Prevents, MakesAll};
+ghost use Rattle.network_machine.specs.Machine.{IsInReach, KeepsOthers};
+ghost use Rattle.network_machine.specs.Outputs.{IsWayOut};
+ghost use Rattle.network_judge.specs.Verdicts.{AllArrive};
+ghost use Rattle.network_machine.specs.Moves.{move_channel, IsOfOneChannel};
 
 use crate::flit::{is_head, is_tail};
 use crate::machine::Machine;
@@ -16,6 +20,7 @@ impl<'a, A: Allocator> Machine<'a, A> {
     fn make_send(&mut self, packet: Packet) -> bool
         requires { IsInReach self.old (Send packet) }
         ensures made { MakesAll self.old self.new (Send packet) result }
+        ensures others { KeepsOthers self.old self.new packet.from packet.from }
         ensures same { SameTables self.old self.new }
     {
         begin_at(&mut self.channels, packet)
@@ -25,6 +30,7 @@ impl<'a, A: Allocator> Machine<'a, A> {
     fn make_more(&mut self, x: usize) -> bool
         requires { IsInReach self.old (More x) }
         ensures made { MakesAll self.old self.new (More x) result }
+        ensures others { KeepsOthers self.old self.new x x }
         ensures same { SameTables self.old self.new }
     {
         if !is_sender(self.kind(x)) {
@@ -37,12 +43,34 @@ impl<'a, A: Allocator> Machine<'a, A> {
     fn make_take(&mut self, x: usize) -> bool
         requires { IsInReach self.old (Take x) }
         ensures made { MakesAll self.old self.new (Take x) result }
+        ensures others { KeepsOthers self.old self.new x x }
         ensures same { SameTables self.old self.new }
     {
         if is_receiver(self.kind(x)) {
             return false;
         }
         take_at(&mut self.channels, x)
+    }
+
+    /// Puts the flit from a latch into its output, channel y, if an event does.
+    fn put_along(&mut self, x: usize, y: usize, flit: u64) -> bool
+        requires { IsWayOut self.old.table self.old.channels x flit y }
+        ensures made { MakesAll self.old self.new (Put x) result }
+        ensures others { KeepsOthers self.old self.new x y }
+        ensures stays { result ≡ false → self.new ≡ self.old }
+        ensures same { SameTables self.old self.new }
+        ensures arrive { AllArrive self.old.table }
+    {
+        let head = is_head(flit);
+        forward_known(
+            &mut self.channels,
+            &mut self.owned,
+            x,
+            y,
+            flit,
+            head,
+            is_tail(flit),
+        )
     }
 
     /// Puts the flit from a latch.
@@ -53,18 +81,7 @@ impl<'a, A: Allocator> Machine<'a, A> {
     {
         match self.way_out(x) {
             Err(_) => false,
-            Ok((flit, y)) => {
-                let head = is_head(flit);
-                forward_known(
-                    &mut self.channels,
-                    &mut self.owned,
-                    x,
-                    y,
-                    flit,
-                    head,
-                    is_tail(flit),
-                )
-            }
+            Ok((flit, y)) => self.put_along(x, y, flit),
         }
     }
 
@@ -72,6 +89,7 @@ impl<'a, A: Allocator> Machine<'a, A> {
     fn make_accept(&mut self, x: usize) -> bool
         requires { IsInReach self.old (Accept x) }
         ensures made { MakesAll self.old self.new (Accept x) result }
+        ensures others { KeepsOthers self.old self.new x x }
         ensures same { SameTables self.old self.new }
     {
         if !is_receiver(self.kind(x)) {
@@ -84,6 +102,7 @@ impl<'a, A: Allocator> Machine<'a, A> {
     fn make_credit(&mut self, x: usize) -> bool
         requires { IsInReach self.old (Credit x) }
         ensures made { MakesAll self.old self.new (Credit x) result }
+        ensures others { KeepsOthers self.old self.new x x }
         ensures same { SameTables self.old self.new }
     {
         credit_at(&mut self.channels, x)
@@ -93,6 +112,8 @@ impl<'a, A: Allocator> Machine<'a, A> {
     fn make(&mut self, of: Move) -> bool
         requires { IsInReach self.old of }
         ensures made { MakesAll self.old self.new of result }
+        ensures others { IsOfOneChannel of
+            → KeepsOthers self.old self.new (move_channel of) (move_channel of) }
         ensures same { SameTables self.old self.new }
     {
         match of {
@@ -105,9 +126,32 @@ impl<'a, A: Allocator> Machine<'a, A> {
         }
     }
 
-    /// Attempts a move, and answers whether it is made; if not, nothing changes. It takes no memory.
-    pub fn try_move(&mut self, of: Move) -> bool
+    /// Attempts to put the flit from a latch, and answers the channel into which it goes.
+    fn try_put(&mut self, x: usize) -> Option<usize>
+        ensures moves { IfSome result (λ y. MovesAll self.old self.new (Put x)) }
+        ensures others { IfSome result (KeepsOthers self.old self.new x) }
+        ensures prevented { IfNone result (Prevents self.old (Put x)) }
+        ensures stays { IfNone result (self.new ≡ self.old) }
+        ensures same { SameTables self.old self.new }
+    {
+        if x >= self.channels.len() {
+            return None;
+        }
+        let Ok((flit, y)) = self.way_out(x) else {
+            return None;
+        };
+        if !self.put_along(x, y, flit) {
+            return None;
+        }
+        Some(y)
+    }
+
+    /// Attempts another move than a put.
+    fn try_here(&mut self, of: Move) -> bool
+        requires { IsOfOneChannel of }
         ensures moves { result ≡ true → MovesAll self.old self.new of }
+        ensures others { result ≡ true
+            → KeepsOthers self.old self.new (move_channel of) (move_channel of) }
         ensures prevented { result ≡ false → Prevents self.old of }
         ensures stays { result ≡ false → self.new ≡ self.old }
         ensures same { SameTables self.old self.new }
@@ -117,6 +161,27 @@ impl<'a, A: Allocator> Machine<'a, A> {
         }
         let _made = self.make(of);
         true
+    }
+
+    /// Attempts a move, and answers, where it is made, another channel at which something changed, or
+    /// its own where there is none. If it isn't made, nothing changes. It takes no memory.
+    pub fn try_move(&mut self, of: Move) -> Option<usize>
+        ensures moves { IfSome result (λ y. MovesAll self.old self.new of) }
+        ensures others { IfSome result (KeepsOthers self.old self.new (move_channel of)) }
+        ensures prevented { IfNone result (Prevents self.old of) }
+        ensures stays { IfNone result (self.new ≡ self.old) }
+        ensures same { SameTables self.old self.new }
+    {
+        match of {
+            Move::Put(x) => self.try_put(x),
+            _ => {
+                if self.try_here(of) {
+                    Some(of.channel())
+                } else {
+                    None
+                }
+            }
+        }
     }
 
     /// Attempts a move: where an event makes it, the machine shows the state after the event; where

@@ -6,7 +6,7 @@ ghost use Rattle.wormhole.specs.State.{NetLine};
 ghost use Rattle.wormhole.specs.Events.{unlatched};
 ghost use Rattle.network_machine.specs.Lines.{ShowsLine, ChannelHasRoom, TakesFlit, PutsFlit};
 ghost use Rattle.network_machine.specs.Lines.{PutsFrom, Credits, Accepts, Begins, SendsMore};
-ghost use Rattle.network_machine.specs.Lets.{LetsTake, LetsReturn, LetsAccept, LetsBegin, LetsGoOn, LetsPut};
+ghost use Rattle.network_machine.specs.Lets.{LetsTake, LetsReturn, LetsAccept, LetsBegin, LetsGoOn};
 ghost use Rattle.network_machine.specs.Lets.{TellsFlits};
 
 use crate::flit::{head_flit, rest_flit};
@@ -52,6 +52,7 @@ pub fn put(channel: &mut Channel, flit: u64) -> bool
     ensures room { ChannelHasRoom channel.new }
     ensures left { channel.new.left ≡ channel.old.left }
     ensures owner { channel.new.owner ≡ channel.old.owner }
+    ensures stays { result ≡ false → channel.new ≡ channel.old }
     ensures line { (l : NetLine) → ShowsLine l channel.old → PutsFlit l channel.new flit result }
 {
     if channel.held == 0 {
@@ -90,6 +91,7 @@ pub fn put_from(channel: &mut Channel, flit: u64, x: usize, is_tail: bool) -> bo
     ensures room { ChannelHasRoom channel.new }
     ensures owner { channel.new.owner
         ≡ (if result then cond is_tail None (Some x) else channel.old.owner) }
+    ensures stays { result ≡ false → channel.new ≡ channel.old }
     ensures line { (l : NetLine) → ShowsLine l channel.old
         → PutsFrom l channel.new flit x is_tail result }
 {
@@ -172,16 +174,6 @@ pub fn take_hindrance(channel: &Channel, x: usize) -> Option<Hindrance>
         return Some(Hindrance::Empty(x));
     }
     None
-}
-
-/// Why the router behind a channel has no flit to put, where its latch is empty.
-pub fn latch_hindrance(channel: &Channel, x: usize) -> Option<Hindrance>
-    ensures { (l : NetLine) → ShowsLine l channel.now → LetsPut l result }
-{
-    match channel.latch {
-        None => Some(Hindrance::LatchEmpty(x)),
-        Some(_) => None,
-    }
 }
 
 /// Why no credit comes back, where none does.

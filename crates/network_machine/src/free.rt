@@ -1,48 +1,55 @@
 //! Whether a move may be made, without why it may not.
 
-ghost use Rattle.std.specs.Prelude.{◌≡◌, true, false, IfSome};
-ghost use Rattle.wormhole.specs.State.{NetLine};
+ghost use Rattle.std.specs.Prelude.{◌≡◌, ◌<◌, length, true, false};
 ghost use Rattle.network_judge.specs.Verdicts.{AllArrive};
-ghost use Rattle.network_machine.specs.Lines.{ShowsLine};
-ghost use Rattle.network_machine.specs.Lets.{KeepsFrom};
-ghost use Rattle.network_machine.specs.Machine.{Permits, Prevents, IsInReach};
+ghost use Rattle.network_machine.specs.Lets.{LetsMoves, is_let};
+ghost use Rattle.network_machine.specs.declared.moves.Move.{Move};
+ghost use Rattle.network_machine.specs.Moves.{move_channel};
+ghost use Rattle.network_machine.specs.Machine.{Permits, Prevents, IsInReach, IsKept};
 
-use crate::channel::{
-    Channel, accept_hindrance, begin_hindrance, credit_hindrance, latch_hindrance, more_hindrance,
-    take_hindrance,
-};
+use crate::channel::Channel;
 use crate::machine::Machine;
-use crate::moves::{Hindrance, Move};
+use crate::moves::Move;
 use std::alloc::Allocator;
 
-/// Why what stands at a channel alone keeps it from a move, where it does.
-fn channel_hindrance(channel: &Channel, of: Move) -> Option<Hindrance>
-    ensures { IfSome result (λ h. (l : NetLine) → ShowsLine l channel.now → KeepsFrom l of) }
+/// Which moves what stands at a channel alone lets be made.
+#[derive(Clone, Copy)]
+pub struct Lets {
+    /// Its sender goes on with a packet.
+    pub more: bool,
+    /// The router behind it takes a flit.
+    pub take: bool,
+    /// The router behind it puts a flit.
+    pub put: bool,
+    /// Its receiver takes a flit.
+    pub accept: bool,
+    /// A credit of it comes back.
+    pub credit: bool,
+}
+
+/// Which moves what stands at a channel alone lets be made.
+fn lets_of(channel: &Channel) -> Lets
+    ensures { LetsMoves channel.now result }
 {
-    match of {
-        Move::Send(packet) => begin_hindrance(channel, packet.from),
-        Move::More(x) => more_hindrance(channel, x),
-        Move::Take(x) => take_hindrance(channel, x),
-        Move::Put(x) => latch_hindrance(channel, x),
-        Move::Accept(x) => accept_hindrance(channel, x),
-        Move::Credit(x) => credit_hindrance(channel, x),
+    let has_flits = !channel.flits.is_empty();
+    Lets {
+        more: channel.left > 0 && channel.held > 0,
+        take: channel.latch.is_none() && has_flits,
+        put: channel.latch.is_some(),
+        accept: has_flits,
+        credit: channel.returning > 0,
     }
 }
 
 impl<'a, A: Allocator> Machine<'a, A> {
-    /// Whether what stands at its channel alone keeps a move from being made.
-    fn is_kept(&self, of: Move) -> bool
-        ensures kept { result ≡ true → Prevents self.now of }
-        ensures arrive { AllArrive self.now.table }
+    /// Which moves what stands at a channel alone lets be made: it keeps the others from being
+    /// made.
+    pub fn lets(&self, x: usize) -> Lets
+        requires { x < length self.now.channels }
+        ensures { (of : Move) → move_channel of ≡ x → is_let result of ≡ false
+            → IsKept self.now of }
     {
-        let x = of.channel();
-        if x >= self.channels.len() {
-            return false;
-        }
-        match channel_hindrance(&self.channels[x], of) {
-            None => false,
-            Some(_) => true,
-        }
+        lets_of(&self.channels[x])
     }
 
     /// Whether an event makes a move.
@@ -52,9 +59,6 @@ impl<'a, A: Allocator> Machine<'a, A> {
         ensures reach { result ≡ true → IsInReach self.now of }
         ensures arrive { AllArrive self.now.table }
     {
-        if self.is_kept(of) {
-            return false;
-        }
         match self.hindrance(of) {
             None => true,
             Some(_) => false,

@@ -6,7 +6,7 @@ mod attempt;
 pub mod channel;
 mod ending;
 pub mod flit;
-mod free;
+pub mod free;
 mod hindrance;
 pub mod laws;
 pub mod machine;
@@ -19,5 +19,6 @@ mod run;
 mod steps;
 
 pub use channel::Channel;
+pub use free::Lets;
 pub use machine::Machine;
 pub use moves::{Ending, Hindrance, Move, Packet};

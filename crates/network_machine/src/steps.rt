@@ -5,7 +5,7 @@ ghost use Rattle.wormhole.specs.Net.{Net, IsParcel};
 ghost use Rattle.wormhole.specs.State.{NetLine, update};
 ghost use Rattle.wormhole.specs.Events.{unlatched};
 ghost use Rattle.network_machine.specs.declared.moves.Move.TheVariants.{Send, More, Take, Credit, Accept};
-ghost use Rattle.network_machine.specs.Moves.{ShowAll, ChannelsHaveRoom, MakesEvent};
+ghost use Rattle.network_machine.specs.Moves.{ShowAll, ChannelsHaveRoom, MakesEvent, OthersStay};
 ghost use Rattle.network_machine.specs.Packets.{packet_of};
 ghost use Rattle.network_machine.specs.Owned.{SameOwners, OwnersAfter, AreOwned};
 ghost use Rattle.network_machine.specs.Forwards.{PutsAt, IsLatchOutput, Forwards};
@@ -22,6 +22,7 @@ pub(crate) fn begin_at(channels: &mut [Channel], packet: Packet) -> bool
     ensures count { length channels.new ≡ length channels.old }
     ensures room { ChannelsHaveRoom channels.new }
     ensures owners { SameOwners channels.old channels.new }
+    ensures others { OthersStay channels.old channels.new packet.from packet.from }
     ensures lines { (n : Net) (ls : ℕ → NetLine) → packet.from < n.channels
         → n.injects packet.from ≡ true
         → (0 < packet.length → IsParcel n (packet_of packet.from packet.to packet.length))
@@ -37,6 +38,7 @@ pub(crate) fn send_more_at(channels: &mut [Channel], x: usize) -> bool
     ensures count { length channels.new ≡ length channels.old }
     ensures room { ChannelsHaveRoom channels.new }
     ensures owners { SameOwners channels.old channels.new }
+    ensures others { OthersStay channels.old channels.new x x }
     ensures lines { (n : Net) (ls : ℕ → NetLine) → x < n.channels → n.injects x ≡ true
         → ShowAll ls channels.old → MakesEvent n ls (More x) channels.new result }
 {
@@ -51,6 +53,7 @@ pub(crate) fn take_at(channels: &mut [Channel], x: usize) -> bool
     ensures count { length channels.new ≡ length channels.old }
     ensures room { ChannelsHaveRoom channels.new }
     ensures owners { SameOwners channels.old channels.new }
+    ensures others { OthersStay channels.old channels.new x x }
     ensures lines { (n : Net) (ls : ℕ → NetLine) → x < n.channels → n.ejects x ≡ false
         → ShowAll ls channels.old → MakesEvent n ls (Take x) channels.new result }
 {
@@ -64,6 +67,7 @@ pub(crate) fn credit_at(channels: &mut [Channel], x: usize) -> bool
     ensures count { length channels.new ≡ length channels.old }
     ensures room { ChannelsHaveRoom channels.new }
     ensures owners { SameOwners channels.old channels.new }
+    ensures others { OthersStay channels.old channels.new x x }
     ensures lines { (n : Net) (ls : ℕ → NetLine) → x < n.channels
         → ShowAll ls channels.old → MakesEvent n ls (Credit x) channels.new result }
 {
@@ -77,6 +81,7 @@ pub(crate) fn accept_at(channels: &mut [Channel], x: usize) -> bool
     ensures count { length channels.new ≡ length channels.old }
     ensures room { ChannelsHaveRoom channels.new }
     ensures owners { SameOwners channels.old channels.new }
+    ensures others { OthersStay channels.old channels.new x x }
     ensures lines { (n : Net) (ls : ℕ → NetLine) → x < n.channels → n.ejects x ≡ true
         → ShowAll ls channels.old → MakesEvent n ls (Accept x) channels.new result }
 {
@@ -90,6 +95,8 @@ fn put_at(channels: &mut [Channel], y: usize, flit: u64, x: usize, is_tail: bool
     ensures count { length channels.new ≡ length channels.old }
     ensures room { ChannelsHaveRoom channels.new }
     ensures owners { OwnersAfter channels.old channels.new x y is_tail result }
+    ensures others { OthersStay channels.old channels.new y y }
+    ensures stays { result ≡ false → channels.new ≡ channels.old }
     ensures lines { (ls : ℕ → NetLine) → ShowAll ls channels.old
         → PutsAt ls channels.new y flit x is_tail result }
 {
@@ -103,6 +110,7 @@ fn unlatch_at(channels: &mut [Channel], x: usize)
     ensures count { length channels.new ≡ length channels.old }
     ensures room { ChannelsHaveRoom channels.new }
     ensures owners { SameOwners channels.old channels.new }
+    ensures others { OthersStay channels.old channels.new x x }
     ensures lines { (ls : ℕ → NetLine) → ShowAll ls channels.old
         → ShowAll (update ls x (unlatched (ls x))) channels.new }
 {
@@ -133,6 +141,8 @@ fn forward_at(
     ensures count { length channels.new ≡ length channels.old }
     ensures room { ChannelsHaveRoom channels.new }
     ensures owners { OwnersAfter channels.old channels.new x y is_tail result }
+    ensures others { OthersStay channels.old channels.new x y }
+    ensures stays { result ≡ false → channels.new ≡ channels.old }
     ensures lines { (n : Net) (ls : ℕ → NetLine) → IsLatchOutput n ls x y flit is_head is_tail
         → ShowAll ls channels.old → Forwards n ls channels.new x y flit is_head result }
 {
@@ -167,6 +177,8 @@ pub(crate) fn forward_known(
     ensures room { ChannelsHaveRoom channels.new }
     ensures many { length known.new ≡ length known.old }
     ensures owned { AreOwned known.new channels.new }
+    ensures others { OthersStay channels.old channels.new x y }
+    ensures stays { result ≡ false → channels.new ≡ channels.old }
     ensures lines { (n : Net) (ls : ℕ → NetLine) → IsLatchOutput n ls x y flit is_head is_tail
         → ShowAll ls channels.old → Forwards n ls channels.new x y flit is_head result }
 {

@@ -12,7 +12,7 @@ use Rattle.network_rounds.specs.declared.senders.Timed.{Timed}
 use Rattle.network_rounds.specs.Senders.{queue_at}
 use Rattle.network_rounds.specs.declared.choices.Part.TheVariants.{Senders, Takes, Puts}
 
-range_more : (n : ℕ) → range_with_len 0 (n + 1) ≡ range_with_len 0 n ++ n ∷ []
+pub range_more : (n : ℕ) → range_with_len 0 (n + 1) ≡ range_with_len 0 n ++ n ∷ []
 range_more n = sym (map-id (range_with_len 0 (n + 1))) ∙ (map-range_with_len_more (λ m. m) 0 n n (omega arith) ∙ ap (λ (ms : List ℕ). ms ++ n ∷ []) (map-id (range_with_len 0 n)))
 
 pub group_more : (h : ℕ → Option Move) (n : ℕ)

@@ -2,5 +2,9 @@ pub mod SevenWords
 pub mod Refused
 pub mod Lists
 pub mod Groups
+pub mod Queues
+pub mod Noted
+pub mod Told
+pub mod Picked
 pub mod Meeting
 pub mod Longer

@@ -1,5 +1,6 @@
 -- The choices of a network in the order of a round, in groups.
 use Rattle.std.specs.Prelude.{ℕ, ◌==◌, if◌then◌else◌, List, [], ◌∷◌, ◌++◌, map, length, Option, Some, None}
+use Rattle.std.specs.Prelude.{Bool, nat_lt, filter}
 use Rattle.std.specs.Prelude.{slice_get, slice_index, option_to_list}
 use Rattle.std.specs.List.{flat_map, range_with_len}
 use Rattle.network_judge.specs.declared.table.Kind.{Kind}
@@ -33,6 +34,10 @@ abbrev pub parts_of : ℕ → List Part
 parts_of routers = part.Senders ∷ part.Takes ∷ (map (λ router. part.Puts router)
     (range_with_len 0 routers) ++ part.Receivers ∷ part.Credits ∷ [])
 
--- the choices of all channels, with so many routers
+-- whether a group has choices
+abbrev pub has_choices : List Move → Bool
+has_choices group = nat_lt 0 (length group)
+
+-- the choices of all channels, with so many routers: the groups that have choices
 abbrev pub groups_of : List Kind → List ℕ → ℕ → List (List Move)
-groups_of kinds routers count = map (group_of kinds routers) (parts_of count)
+groups_of kinds routers count = filter has_choices (map (group_of kinds routers) (parts_of count))

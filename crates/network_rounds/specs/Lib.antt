@@ -1,6 +1,7 @@
 pub mod Reasons
 pub mod Packets
 pub mod Traffic
+pub mod Flags
 pub mod Joined
 pub mod Attempts
 pub mod Rounds

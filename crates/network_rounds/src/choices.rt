@@ -1,8 +1,9 @@
 //! The choices of a network in the order of a round, in groups.
 
-ghost use Rattle.std.specs.Prelude.{◌≡◌, ◌<◌, ◌≤◌, ◌++◌, length, map, option_to_list, IfOk, OnOk};
+ghost use Rattle.std.specs.Prelude.{◌≡◌, ◌<◌, ◌≤◌, ◌++◌, ◌∷◌, [], length, map, option_to_list, IfOk, OnOk};
 ghost use Rattle.std.specs.Prelude.{if◌then◌else◌, Some, None};
 ghost use Rattle.network_rounds.specs.Choices.{choice_in_part, group_of, parts_of, groups_of};
+ghost use Rattle.network_rounds.specs.Choices.{has_choices};
 
 use network_judge::Kind;
 use network_judge::walk::{is_receiver, is_sender, kind_at};
@@ -104,6 +105,20 @@ fn parts_of<A: Allocator + Copy>(alloc: A, routers: usize) -> Result<Vec<Part, A
     Ok(parts)
 }
 
+/// Adds a group, if it has choices.
+fn push_group<A: Allocator>(
+    groups: &mut Vec<Vec<Move, A>, A>,
+    group: Vec<Move, A>,
+) -> Result<(), AllocError>
+    ensures { OnOk result (groups.new.items
+        ≡ groups.old.items ++ (if has_choices group.items then group ∷ [] else [])) }
+{
+    if !group.is_empty() {
+        groups.push(group)?;
+    }
+    Ok(())
+}
+
 /// The choices of all channels, in the order of a round, with so many routers; `routers` has the number
 /// of the router behind each channel.
 ///
@@ -121,7 +136,7 @@ pub fn groups_of<A: Allocator + Copy>(
     let parts = parts_of(alloc, count)?;
     let mut groups = Vec::new(alloc);
     for k in 0..parts.len() {
-        groups.push(group_of(alloc, kinds, routers, parts[k])?)?;
+        push_group(&mut groups, group_of(alloc, kinds, routers, parts[k])?)?;
     }
     Ok(groups)
 }

@@ -1,37 +1,9 @@
 //! What the moves of a round come to, by channels. Counts are exact up to 2^64 - 1, and stay there.
 
-ghost use Rattle.std.specs.Prelude.{◌≡◌, ◌≢◌, ◌+◌, ◌<◌, ◌^◌, ℕ, length, slice_index};
+ghost use Rattle.std.specs.Prelude.{◌≡◌, ◌≢◌, ◌+◌, ◌<◌, ◌^◌, ℕ, length, slice_index, Some};
 ghost use Rattle.network_rounds.specs.Counts.{channel_left, begun_by, one_at, flits_gone, packets_begun};
 
 use network_machine::Move;
-
-/// The channel that a flit leaves by a move.
-fn left_by(of: Move) -> Option<usize>
-    ensures { result ≡ channel_left of }
-{
-    match of {
-        Move::Send(_) => None,
-        Move::More(_) => None,
-        Move::Take(x) => Some(x),
-        Move::Put(_) => None,
-        Move::Accept(x) => Some(x),
-        Move::Credit(_) => None,
-    }
-}
-
-/// The channel into which a sender begins a packet by a move.
-fn begun_by(of: Move) -> Option<usize>
-    ensures { result ≡ begun_by of }
-{
-    match of {
-        Move::Send(packet) => Some(packet.from),
-        Move::More(_) => None,
-        Move::Take(_) => None,
-        Move::Put(_) => None,
-        Move::Accept(_) => None,
-        Move::Credit(_) => None,
-    }
-}
 
 /// Counts one more at a place.
 fn count_at(counts: &mut [u64], x: usize)
@@ -43,37 +15,47 @@ fn count_at(counts: &mut [u64], x: usize)
     counts[x] = counts[x].saturating_add(1);
 }
 
-/// Counts one more at a place, if one is given and it is there.
-fn count_one(counts: &mut [u64], at: Option<usize>)
+/// Counts one more at a place, if it is there.
+fn count_one(counts: &mut [u64], x: usize)
     ensures { (z : ℕ) → z < length counts.old
-        → slice_index counts.old z + one_at z at < 2 ^ 64
-        → slice_index counts.new z ≡ slice_index counts.old z + one_at z at }
+        → slice_index counts.old z + one_at z (Some x) < 2 ^ 64
+        → slice_index counts.new z ≡ slice_index counts.old z + one_at z (Some x) }
 {
-    if let Some(x) = at {
-        if x < counts.len() {
-            count_at(counts, x);
-        }
+    if x < counts.len() {
+        count_at(counts, x);
     }
 }
 
-/// Adds to the count of each channel how many flits leave it by some moves.
-pub fn count_flits(flits: &mut [u64], moves: &[Move])
-    ensures { (x : ℕ) → x < length flits.old
+/// Adds what a move comes to.
+fn count_move(begun: &mut [u64], flits: &mut [u64], of: Move)
+    ensures begun { (x : ℕ) → x < length begun.old
+        → slice_index begun.old x + one_at x (begun_by of) < 2 ^ 64
+        → slice_index begun.new x ≡ slice_index begun.old x + one_at x (begun_by of) }
+    ensures flits { (x : ℕ) → x < length flits.old
+        → slice_index flits.old x + one_at x (channel_left of) < 2 ^ 64
+        → slice_index flits.new x ≡ slice_index flits.old x + one_at x (channel_left of) }
+{
+    match of {
+        Move::Send(packet) => count_one(begun, packet.from),
+        Move::More(_) => {}
+        Move::Take(x) => count_one(flits, x),
+        Move::Put(_) => {}
+        Move::Accept(x) => count_one(flits, x),
+        Move::Credit(_) => {}
+    }
+}
+
+/// Adds to the counts how many packets each sender begins and how many flits leave each channel by some
+/// moves.
+pub fn count_moves(begun: &mut [u64], flits: &mut [u64], moves: &[Move])
+    ensures begun { (x : ℕ) → x < length begun.old
+        → slice_index begun.old x + packets_begun x moves.now < 2 ^ 64
+        → slice_index begun.new x ≡ slice_index begun.old x + packets_begun x moves.now }
+    ensures flits { (x : ℕ) → x < length flits.old
         → slice_index flits.old x + flits_gone x moves.now < 2 ^ 64
         → slice_index flits.new x ≡ slice_index flits.old x + flits_gone x moves.now }
 {
     for k in 0..moves.len() {
-        count_one(flits, left_by(moves[k]));
-    }
-}
-
-/// Adds to the count of each sender how many packets it begins by some moves.
-pub fn count_packets(packets: &mut [u64], moves: &[Move])
-    ensures { (x : ℕ) → x < length packets.old
-        → slice_index packets.old x + packets_begun x moves.now < 2 ^ 64
-        → slice_index packets.new x ≡ slice_index packets.old x + packets_begun x moves.now }
-{
-    for k in 0..moves.len() {
-        count_one(packets, begun_by(moves[k]));
+        count_move(begun, flits, moves[k]);
     }
 }

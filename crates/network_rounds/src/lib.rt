@@ -6,6 +6,7 @@
 mod attempting;
 pub mod choices;
 pub mod counting;
+pub mod flags;
 pub mod joined;
 mod picking;
 pub mod reading;
@@ -18,11 +19,12 @@ pub mod simulating;
 mod spelling;
 
 pub use choices::{Part, groups_of};
-pub use counting::{count_flits, count_packets};
+pub use counting::count_moves;
+pub use flags::Flags;
 pub use joined::check_joined;
 pub use reading::{Traffic, read_traffic};
 pub use reason::TrafficReason;
 pub use round::clocked_round;
-pub use senders::{Timed, due_packets, queues_of};
+pub use senders::{Timed, due_packets, queues_of, senders_of};
 pub use sentence::TrafficSentence;
 pub use simulating::simulate_round;

@@ -1,9 +1,10 @@
 //! Packets that senders begin from some round on.
 
 ghost use Rattle.std.specs.Prelude.{◌≡◌, ◌+◌, ◌≤◌, ◌<◌, ◌++◌, ◌∷◌, [], length, take, slice_index, IfOk};
+ghost use Rattle.std.specs.Prelude.{ℕ, List, OnOk};
 ghost use Rattle.std.specs.Prelude.{option_to_list, map};
 ghost use Rattle.std.specs.List.{range_with_len};
-ghost use Rattle.network_rounds.specs.Senders.{queue_of, queue_at, due_of, dues_of};
+ghost use Rattle.network_rounds.specs.Senders.{queue_of, queue_at, due_of, dues_of, AreSenders};
 
 use network_machine::{Move, Packet};
 use std::alloc::{AllocError, Allocator};
@@ -51,10 +52,12 @@ fn put_if(moves: &mut [Move], count: usize, of: Option<Move>) -> usize
 /// many these are. It takes no memory.
 pub fn due_packets<A: Allocator>(
     queues: &[Vec<Timed, A>],
+    senders: &[usize],
     begun: &[u64],
     round: u64,
     sends: &mut [Move],
 ) -> usize
+    requires senders { AreSenders queues.now senders.now }
     requires begun { length begun.now ≡ length queues.now }
     requires room { length queues.now ≤ length sends.old }
     ensures few { result ≤ length queues.now }
@@ -62,29 +65,44 @@ pub fn due_packets<A: Allocator>(
         ≡ dues_of (queue_at queues.now) (slice_index begun.now) round (length queues.now) }
 {
     let mut count = 0;
-    for x in 0..queues.len() {
+    for k in 0..senders.len() {
+        let x = senders[k];
         count = put_if(sends, count, due_of(&queues[x], begun[x], round));
     }
     count
 }
 
-/// The packets of a sender, in their order.
+/// No packets for each of so many channels.
 ///
 /// Errors: memory.
-fn queue_of<A: Allocator + Copy>(
+fn no_queues<A: Allocator + Copy>(
     alloc: A,
-    traffic: &[Timed],
-    x: usize,
-) -> Result<Vec<Timed, A>, AllocError>
-    ensures { IfOk result (λ queue. queue.items ≡ queue_of traffic.now x) }
+    channels: usize,
+) -> Result<Vec<Vec<Timed, A>, A>, AllocError>
+    ensures { IfOk result (λ queues. map (λ queue. queue.items) queues.items
+        ≡ map (queue_of []) (range_with_len 0 channels)) }
 {
-    let mut queue = Vec::new(alloc);
-    for k in 0..traffic.len() {
-        if traffic[k].packet.from == x {
-            queue.push(traffic[k])?;
-        }
+    let mut queues = Vec::with_capacity(alloc, channels)?;
+    for _x in 0..channels {
+        queues.push(Vec::new(alloc))?;
     }
-    Ok(queue)
+    Ok(queues)
+}
+
+/// Adds a packet behind those of its sender, if it is there.
+///
+/// Errors: memory.
+fn add_packet<A: Allocator>(queues: &mut [Vec<Timed, A>], timed: Timed) -> Result<(), AllocError>
+    ensures { OnOk result ((traffic : List Timed) (channels : ℕ)
+        → map (λ queue. queue.items) queues.old ≡ map (queue_of traffic) (range_with_len 0 channels)
+        → map (λ queue. queue.items) queues.new
+        ≡ map (queue_of (traffic ++ timed ∷ [])) (range_with_len 0 channels)) }
+{
+    let x = timed.packet.from;
+    if x < queues.len() {
+        queues[x].push(timed)?;
+    }
+    Ok(())
 }
 
 /// The packets of all senders: a queue for each channel.
@@ -98,9 +116,27 @@ pub fn queues_of<A: Allocator + Copy>(
     ensures { IfOk result (λ queues. map (λ queue. queue.items) queues.items
         ≡ map (queue_of traffic.now) (range_with_len 0 channels)) }
 {
-    let mut queues = Vec::new(alloc);
-    for x in 0..channels {
-        queues.push(queue_of(alloc, traffic, x)?)?;
+    let mut queues = no_queues(alloc, channels)?;
+    for k in 0..traffic.len() {
+        add_packet(&mut queues, traffic[k])?;
     }
     Ok(queues)
+}
+
+/// The senders that have packets, in rising order.
+///
+/// Errors: memory.
+pub fn senders_of<A: Allocator + Copy>(
+    alloc: A,
+    queues: &[Vec<Timed, A>],
+) -> Result<Vec<usize, A>, AllocError>
+    ensures { IfOk result (λ senders. AreSenders queues.now senders.items) }
+{
+    let mut senders = Vec::new(alloc);
+    for x in 0..queues.len() {
+        if !queues[x].is_empty() {
+            senders.push(x)?;
+        }
+    }
+    Ok(senders)
 }

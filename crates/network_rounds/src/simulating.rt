@@ -6,10 +6,13 @@ ghost use Rattle.std.specs.List.{sum_by};
 ghost use Rattle.network_machine.specs.Machine.{SameTables};
 ghost use Rattle.network_machine.specs.Runs.{RunsTo};
 ghost use Rattle.network_rounds.specs.Counts.{flits_gone, packets_begun};
+ghost use Rattle.network_rounds.specs.Flags.{AreFlags, choices_of};
 ghost use Rattle.network_rounds.specs.Rounds.{IsRound};
+ghost use Rattle.network_rounds.specs.Senders.{AreSenders};
 ghost use Rattle.network_rounds.specs.Simulations.{choices_in};
 
-use crate::counting::{count_flits, count_packets};
+use crate::counting::count_moves;
+use crate::flags::Flags;
 use crate::round::clocked_round;
 use crate::senders::{Timed, due_packets};
 use network_machine::{Machine, Move};
@@ -21,7 +24,9 @@ use std::alloc::Allocator;
 pub fn simulate_round<A: Allocator, B: Allocator, C: Allocator>(
     machine: &mut Machine<A>,
     queues: &[Vec<Timed, B>],
+    senders: &[usize],
     groups: &[Vec<Move, C>],
+    flags: &mut Flags<C>,
     before: u64,
     begun: &mut [u64],
     flits: &mut [u64],
@@ -30,10 +35,12 @@ pub fn simulate_round<A: Allocator, B: Allocator, C: Allocator>(
     made: &mut [Move],
 ) -> usize
     requires before { before < 2 ^ 32 }
+    requires senders { AreSenders queues.now senders.now }
     requires begun { length begun.old ≡ length queues.now }
     requires sends { length queues.now ≤ length sends.old }
     requires enabled { length queues.now + sum_by (λ group. length group.items) groups.now
         ≤ length enabled.old }
+    requires flags { AreFlags machine.old (choices_of groups.now) flags.old }
     requires made { length queues.now + sum_by (λ group. length group.items) groups.now
         ≤ length made.old }
     ensures few { result ≤ length made.new }
@@ -41,6 +48,7 @@ pub fn simulate_round<A: Allocator, B: Allocator, C: Allocator>(
         (choices_in queues.now groups.now (slice_index begun.old) before) (take result made.new) }
     ensures runs { RunsTo machine.old machine.new (take result made.new) }
     ensures same { SameTables machine.old machine.new }
+    ensures flags { AreFlags machine.new (choices_of groups.now) flags.new }
     ensures begun { (x : ℕ) → x < length begun.old
         → slice_index begun.old x + packets_begun x (take result made.new) < 2 ^ 64
         → slice_index begun.new x
@@ -49,9 +57,8 @@ pub fn simulate_round<A: Allocator, B: Allocator, C: Allocator>(
         → slice_index flits.old x + flits_gone x (take result made.new) < 2 ^ 64
         → slice_index flits.new x ≡ slice_index flits.old x + flits_gone x (take result made.new) }
 {
-    let due = due_packets(queues, begun, before + 1, sends);
-    let count = clocked_round(machine, &sends[..due], groups, before, enabled, made);
-    count_packets(begun, &made[..count]);
-    count_flits(flits, &made[..count]);
+    let due = due_packets(queues, senders, begun, before + 1, sends);
+    let count = clocked_round(machine, &sends[..due], groups, flags, before, enabled, made);
+    count_moves(begun, flits, &made[..count]);
     count
 }

@@ -2,3 +2,4 @@ pub mod Pieces
 pub mod Watching
 pub mod Simulating
 pub mod Telling
+pub mod Numbers

@@ -11,7 +11,7 @@ use crate::plan::Plan;
 use crate::running::{Extent, watch_rounds};
 use crate::watch::Watch;
 use network_machine::{Machine, Move};
-use network_rounds::Timed;
+use network_rounds::{Flags, Timed, senders_of};
 use std::alloc::{AllocError, Allocator, Global};
 
 /// The most rounds of a simulation.
@@ -65,13 +65,18 @@ pub(crate) fn run_packets<A: Allocator + Copy>(
     let mut begun = vec![in alloc; 0; channels]?;
     let mut flits = vec![in alloc; 0; channels]?;
     let mut sends = vec![in alloc; Move::Credit(0); channels]?;
+    let mut choices = Flags::open(alloc, machine.channels(), groups)?;
+    choices.tell_all(machine);
+    let senders = senders_of(alloc, queues)?;
     let mut enabled = vec![in alloc; Move::Credit(0); room]?;
     let mut made = vec![in alloc; Move::Credit(0); room]?;
     let extent = watch_rounds(
         machine,
         plan,
         queues,
+        &senders,
         groups,
+        &mut choices,
         MOST_ROUNDS,
         &mut begun,
         &mut flits,

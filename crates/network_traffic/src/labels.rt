@@ -165,8 +165,8 @@ impl<A: Allocator> Labels<A> {
             ≡ labels_after t packets (labels_spec self.old) (Take x) }
     {
         let first = first_at(&self.flits, x);
-        set_packet(&mut self.latches, x, first);
         drop_at(&mut self.flits, x);
+        set_packet(&mut self.latches, x, first);
     }
 
     /// The flit in the latch behind a channel goes on.
@@ -176,11 +176,12 @@ impl<A: Allocator> Labels<A> {
         ensures { labels_spec self.new ≡ labels_after (plan_table plan.now) plan.now.packets.now
             (labels_spec self.old) (Put x) }
     {
-        if let Some(k) = packet_at(&self.latches, x) {
+        let latched = packet_at(&self.latches, x);
+        set_packet(&mut self.latches, x, None);
+        if let Some(k) = latched {
             let y = plan.output(x, k);
             put_onto(&mut self.flits, y, k);
         }
-        set_packet(&mut self.latches, x, None);
     }
 
     /// The receiver of a channel takes its first flit.
@@ -192,6 +193,7 @@ impl<A: Allocator> Labels<A> {
     }
 
     /// What becomes of the flits by a move.
+    #[inline(always)]
     pub(crate) fn make<B: Allocator>(&mut self, plan: &Plan<B>, of: Move)
         requires plan { IsPlan plan.now }
         requires channels { HasChannels (labels_spec self.old) (length plan.now.kinds.now) }

@@ -1,8 +1,9 @@
 //! The packets of a simulation, and where the flits of each go.
 
 ghost use Rattle.std.specs.Prelude.{◌≡◌, ◌+◌, ◌<◌, ◌^◌, [], ◌∷◌, ◌++◌, length, map};
-ghost use Rattle.std.specs.Prelude.{IfOk, OnOk, IfSome, slice_index, if◌then◌else◌};
-ghost use Rattle.network_traffic.specs.Plans.{output_for, numbers_of, all_numbers, next_number};
+ghost use Rattle.std.specs.Prelude.{◌≢◌, ℕ, List, IfOk, OnOk, IfSome, slice_index};
+ghost use Rattle.std.specs.List.{range_with_len};
+ghost use Rattle.network_traffic.specs.Plans.{output_for, all_numbers, next_number};
 ghost use Rattle.network_traffic.specs.Plans.{IsPlan, plan_table, GoToReceivers};
 ghost use Rattle.network_judge.specs.Table.{table_of, IsFull};
 
@@ -46,38 +47,36 @@ impl<'a, A: Allocator> Plan<'a, A> {
     }
 }
 
-/// Adds the number of a packet, if it is one of them.
+/// No numbers for each of so many channels.
 ///
 /// Errors: memory.
-fn push_if<A: Allocator>(
-    numbers: &mut Vec<usize, A>,
-    is_one: bool,
-    k: usize,
-) -> Result<(), AllocError>
-    ensures { OnOk result (numbers.new.items
-        ≡ numbers.old.items ++ (if is_one then k ∷ [] else [])) }
+fn no_numbers<A: Allocator + Copy>(
+    alloc: A,
+    channels: usize,
+) -> Result<Vec<Vec<usize, A>, A>, AllocError>
+    ensures { IfOk result (λ all. map (λ numbers. numbers.items) all.items
+        ≡ all_numbers [] channels) }
 {
-    if is_one {
-        numbers.push(k)?;
+    let mut all = Vec::with_capacity(alloc, channels)?;
+    for _x in 0..channels {
+        all.push(Vec::new(alloc))?;
     }
-    Ok(())
+    Ok(all)
 }
 
-/// The numbers of the packets of a sender, in their order.
+/// Adds the number of a packet behind those of its sender, if it is there.
 ///
 /// Errors: memory.
-fn numbers_of<A: Allocator + Copy>(
-    alloc: A,
-    packets: &[Timed],
-    x: usize,
-) -> Result<Vec<usize, A>, AllocError>
-    ensures { IfOk result (λ numbers. numbers.items ≡ numbers_of packets.now x) }
+fn add_number<A: Allocator>(all: &mut [Vec<usize, A>], x: usize, k: usize) -> Result<(), AllocError>
+    ensures { OnOk result ((old new : ℕ → List ℕ) (channels : ℕ)
+        → map (λ numbers. numbers.items) all.old ≡ map old (range_with_len 0 channels)
+        → ((y : ℕ) → x ≢ y → old y ≡ new y) → new x ≡ old x ++ k ∷ []
+        → map (λ numbers. numbers.items) all.new ≡ map new (range_with_len 0 channels)) }
 {
-    let mut numbers = Vec::new(alloc);
-    for k in 0..packets.len() {
-        push_if(&mut numbers, packets[k].packet.from == x, k)?;
+    if x < all.len() {
+        all[x].push(k)?;
     }
-    Ok(numbers)
+    Ok(())
 }
 
 /// The numbers of the packets of all senders: a list for each channel.
@@ -91,9 +90,9 @@ pub(crate) fn all_numbers<A: Allocator + Copy>(
     ensures { IfOk result (λ all. map (λ numbers. numbers.items) all.items
         ≡ all_numbers packets.now channels) }
 {
-    let mut all = Vec::new(alloc);
-    for x in 0..channels {
-        all.push(numbers_of(alloc, packets, x)?)?;
+    let mut all = no_numbers(alloc, channels)?;
+    for k in 0..packets.len() {
+        add_number(&mut all, packets[k].packet.from, k)?;
     }
     Ok(all)
 }

@@ -3,6 +3,8 @@
 ghost use Rattle.std.specs.Prelude.{◌≡◌, ◌+◌, ◌<◌, ◌≤◌, ◌^◌, ◌==◌, ◌&&◌, not, [], ℕ, length};
 ghost use Rattle.std.specs.Prelude.{slice_get, slice_index, if◌then◌else◌};
 ghost use Rattle.std.specs.List.{sum_by};
+ghost use Rattle.network_rounds.specs.Flags.{AreFlags, choices_of};
+ghost use Rattle.network_rounds.specs.Senders.{AreSenders};
 ghost use Rattle.network_traffic.specs.Plans.{IsPlan, plan_table};
 ghost use Rattle.network_traffic.specs.Labels.{labels_spec, HasChannels};
 ghost use Rattle.network_traffic.specs.Watches.{ShowsRounds};
@@ -11,7 +13,7 @@ ghost use Rattle.network_traffic.specs.Simulated.{is_later, some_later, IsSimula
 use crate::plan::Plan;
 use crate::watch::Watch;
 use network_machine::{Machine, Move};
-use network_rounds::{Timed, simulate_round};
+use network_rounds::{Flags, Timed, simulate_round};
 use std::alloc::Allocator;
 
 /// How far a simulation goes.
@@ -70,7 +72,9 @@ pub(crate) fn watch_rounds<A: Allocator, B: Allocator>(
     machine: &mut Machine<A>,
     plan: &Plan<B>,
     queues: &[Vec<Timed, B>],
+    senders: &[usize],
     groups: &[Vec<Move, B>],
+    choices: &mut Flags<B>,
     most: u64,
     begun: &mut [u64],
     flits: &mut [u64],
@@ -81,6 +85,8 @@ pub(crate) fn watch_rounds<A: Allocator, B: Allocator>(
 ) -> Extent
     requires plan { IsPlan plan.now }
     requires most { most < 2 ^ 32 }
+    requires senders { AreSenders queues.now senders.now }
+    requires flags { AreFlags machine.old (choices_of groups.now) choices.old }
     requires begun { length begun.old ≡ length queues.now }
     requires none_begun { (x : ℕ) → x < length begun.old → slice_index begun.old x ≡ 0 }
     requires none_left { (x : ℕ) → x < length flits.old → slice_index flits.old x ≡ 0 }
@@ -98,7 +104,7 @@ pub(crate) fn watch_rounds<A: Allocator, B: Allocator>(
     let mut last = 0;
     while rounds < most {
         let count = simulate_round(
-            machine, queues, groups, rounds, begun, flits, sends, enabled, made,
+            machine, queues, senders, groups, choices, rounds, begun, flits, sends, enabled, made,
         );
         rounds += 1;
         watch.note(plan, rounds, &made[..count]);

@@ -6,9 +6,8 @@ ghost use Rattle.network_machine.specs.declared.moves.Move.{Move};
 ghost use Rattle.network_judge.specs.Table.{channels_of};
 ghost use Rattle.network_traffic.specs.Plans.{IsPlan, plan_table};
 ghost use Rattle.network_traffic.specs.Labels.{labels_spec, HasChannels};
-ghost use Rattle.network_traffic.specs.Fates.{Stamped, stamped, packet_begun, packet_accepted};
-ghost use Rattle.network_traffic.specs.Fates.{wait_between};
-ghost use Rattle.network_traffic.specs.Watches.{ShowsLog, ShowsRounds};
+ghost use Rattle.network_traffic.specs.Fates.{Stamped, stamped, labels_behind, wait_between};
+ghost use Rattle.network_traffic.specs.Watches.{ShowsFates, ShowsLog, ShowsRounds};
 
 use crate::fates::{Fates, count_down, note_round};
 use crate::labels::{Labels, first_at};
@@ -29,33 +28,6 @@ pub struct Watch<A: Allocator = Global> {
     pub waited: Vec<u64, A>,
 }
 
-/// The packet that a move begins.
-fn packet_begun<A: Allocator, B: Allocator>(
-    plan: &Plan<A>,
-    labels: &Labels<B>,
-    of: Move,
-) -> Option<usize>
-    requires plan { IsPlan plan.now }
-    requires channels { HasChannels (labels_spec labels.now) (length plan.now.kinds.now) }
-    ensures { result ≡ packet_begun (plan_table plan.now) plan.now.packets.now
-        (labels_spec labels.now) of }
-{
-    match of {
-        Move::Send(packet) => next_number(&plan.numbers, &labels.begun, packet.from),
-        _ => None,
-    }
-}
-
-/// The packet of which a receiver takes a flit by a move.
-fn packet_accepted<A: Allocator>(labels: &Labels<A>, of: Move) -> Option<usize>
-    ensures { result ≡ packet_accepted (labels_spec labels.now) of }
-{
-    match of {
-        Move::Accept(x) => first_at(&labels.flits, x),
-        _ => None,
-    }
-}
-
 /// Counts for each channel whether a flit stands in the latch behind it before and after a round.
 fn count_waits<A: Allocator>(
     before: &[Option<usize>],
@@ -70,10 +42,41 @@ fn count_waits<A: Allocator>(
         → slice_index waited.new.items x ≡ slice_index waited.old.items x
         + wait_between (slice_index_or before.now x None) (slice_index_or after.now x None) }
 {
-    for x in 0..waited.len() {
-        if before[x].is_some() && after[x].is_some() {
-            waited[x] = waited[x].saturating_add(1);
+    let counts = waited.as_mut_slice();
+    for x in 0..counts.len() {
+        let waits = before[x].is_some() & after[x].is_some();
+        counts[x] = counts[x].wrapping_add(waits as u64);
+    }
+}
+
+/// Notes what becomes of packets by a move of a round, before it is made of the flits.
+#[inline(always)]
+fn note_fate<A: Allocator, B: Allocator>(
+    fates: &mut Fates<A>,
+    plan: &Plan<B>,
+    labels: &Labels<A>,
+    round: u64,
+    of: Move,
+)
+    requires plan { IsPlan plan.now }
+    requires channels { HasChannels (labels_spec labels.now) (length plan.now.kinds.now) }
+    ensures { (log : List Stamped)
+        → labels_spec labels.now ≡ labels_behind (plan_table plan.now) plan.now.packets.now log
+        → ShowsFates (plan_table plan.now) plan.now.packets.now log fates.old
+        → ShowsFates (plan_table plan.now) plan.now.packets.now
+        (record { round = round; move = of } ∷ log) fates.new }
+{
+    match of {
+        Move::Send(packet) => {
+            let begun = next_number(&plan.numbers, &labels.begun, packet.from);
+            note_round(&mut fates.begun, begun, round);
         }
+        Move::Accept(x) => {
+            let accepted = first_at(&labels.flits, x);
+            let whole = count_down(&mut fates.left, accepted);
+            note_round(&mut fates.delivered, whole, round);
+        }
+        _ => {}
     }
 }
 
@@ -89,11 +92,7 @@ impl<A: Allocator> Watch<A> {
             log self.old → ShowsLog (plan_table plan.now) plan.now.packets.now
             (record { round = round; move = of } ∷ log) self.new }
     {
-        let begun = packet_begun(plan, &self.labels, of);
-        let accepted = packet_accepted(&self.labels, of);
-        note_round(&mut self.fates.begun, begun, round);
-        let whole = count_down(&mut self.fates.left, accepted);
-        note_round(&mut self.fates.delivered, whole, round);
+        note_fate(&mut self.fates, plan, &self.labels, round, of);
         self.labels.make(plan, of);
     }
 

@@ -9,4 +9,6 @@ loop-k-preserved g c = record {
   adds = makes_next c.args.machine.now c.loop-k.machine c.attempt_one-count.new.machine c.args.moves.now c.loop-k.k _ _ _ _ c.loop-k-test.true
       c.loop-k.invariant.adds c.attempt_one-count.ensures.adds;
   same = same_over c.args.machine.now c.loop-k.machine c.attempt_one-count.new.machine c.loop-k.invariant.same c.attempt_one-count.ensures.same;
+  channels = c.attempt_one-count.ensures.channels;
+  flags = λ choices are. c.attempt_one-count.ensures.flags choices (c.loop-k.invariant.flags choices are);
 }

@@ -1,6 +1,8 @@
-use Rattle.std.proofs.Common.{◌≡◌, ◌≤◌, [], length, take}
+use Rattle.std.proofs.Common.{◌≡◌, ◌≤◌, [], List, length, take}
+use Rattle.network_machine.specs.declared.moves.Move.{Move}
 use Rattle.network_machine.specs.Machine.{SameTables}
 use Rattle.network_rounds.specs.Attempts.{AddsMade}
+use Rattle.network_rounds.specs.Flags.{AreFlags}
 use Rattle.network_rounds.proofs.attempting.attempt_moves.Given as goal
 
 -- the attempts so far
@@ -10,4 +12,6 @@ invariant-loop-k g l = record {
   few : l.count ≤ l.k;
   adds : AddsMade l.initial.machine l.machine (take l.k l.moves) [] (take l.count l.made);
   same : SameTables l.initial.machine l.machine;
+  channels : length l.flags.places.items ≡ length l.machine.channels;
+  flags : (choices : List Move) → AreFlags l.initial.machine choices l.initial.flags → AreFlags l.machine choices l.flags;
 }

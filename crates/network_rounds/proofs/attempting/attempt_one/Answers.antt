@@ -1,13 +1,26 @@
-use Rattle.std.proofs.Common.{refl}
-use Rattle.std.proofs.lemmas.List.{take_more_set}
-use Rattle.network_rounds.proofs.Lists.{makes_one, misses_one}
+use Rattle.std.proofs.Common.{refl, subst, sym}
+use Rattle.network_machine.specs.Machine.{KeepsOthers}
+use Rattle.network_rounds.specs.Flags.{AreFlags}
+use Rattle.network_rounds.proofs.Lists.{misses_one}
+use Rattle.network_rounds.proofs.Told.{tells_both, tells_same}
+use Rattle.network_rounds.proofs.attempting.attempt_one.Goals.{then-y-x, else-y-x}
 use Rattle.network_rounds.proofs.attempting.attempt_one.Goals as goal
 
-pub returns-then-not-try_move-clause-adds : goal.returns-then-not-try_move-clause-adds
-returns-then-not-try_move-clause-adds g c =
-    misses_one c.args.machine.now c.try_move.new.self c.args.of _ _ (c.if-not-try_move.ensures.prevented refl) (c.if-not-try_move.ensures.stays refl) refl
+pub returns-in_default-clause-adds : goal.returns-in_default-clause-adds
+returns-in_default-clause-adds g c =
+    misses_one c.args.machine.now c.try_move.new.self c.args.of _ _ c.in_default.ensures.prevented c.in_default.ensures.stays refl
 
-pub returns-clause-adds : goal.returns-clause-adds
-returns-clause-adds g c =
-    makes_one c.args.machine.now c.try_move.new.self c.args.of _ _ (c.if-not-try_move.ensures.moves refl, c.try_move.ensures.same)
-    (take_more_set c.args.made.now c.args.count c.args.of c.requires)
+pub returns-clause-flags : goal.returns-clause-flags
+returns-clause-flags g c = λ choices are.
+    let old = c.args.machine.now in
+    let new = c.try_move.new.self in
+    let x = c.channel-x.result in
+    let y = c.in-Some.y in
+    let others = subst (λ z. KeepsOthers old new z y) (sym c.channel-x.ensures) c.in-Some.ensures.others in
+    elim c.if-y-x.branch [
+      | then-y-x w ↦ subst (AreFlags new choices) (sym w.flags-is)
+          (tells_both old new choices x y c.args.flags.now c.tell_channel.new.self w.tell_channel-then-y-x.new.self others c.tell_channel.ensures.flags
+          w.tell_channel-then-y-x.ensures.flags are)
+      | else-y-x w ↦ subst (AreFlags new choices) (sym w.flags-is)
+          (tells_same old new choices x y c.args.flags.now c.tell_channel.new.self others w.if-y-x.false c.tell_channel.ensures.flags are)
+    ]

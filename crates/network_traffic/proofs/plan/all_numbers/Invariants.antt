@@ -1,8 +1,8 @@
 use Rattle.std.proofs.Common.{◌≡◌, map}
 use Rattle.std.specs.List.{range_with_len}
-use Rattle.network_traffic.specs.Plans.{numbers_of}
+use Rattle.network_traffic.proofs.Numbers.{numbers_before}
 use Rattle.network_traffic.proofs.plan.all_numbers.Given as goal
 
--- the lists so far
-abbrev pub invariant-loop-x : goal.invariant-loop-x
-invariant-loop-x g l = map (λ numbers. numbers.items) l.all.items ≡ map (numbers_of l.packets) (range_with_len 0 l.x)
+-- the numbers of the packets so far
+abbrev pub invariant-loop-k : goal.invariant-loop-k
+invariant-loop-k g l = map (λ numbers. numbers.items) l.all.items ≡ map (numbers_before l.packets l.k) (range_with_len 0 l.channels)

@@ -17,6 +17,7 @@ loop-rounds-init g c = record {
       (record { latches = length-replicate (length c.args.plan.now.kinds.now) None; begun = length-replicate (length c.args.plan.now.kinds.now) 0 });
   stood = c.requires.watch.stood;
   waited = c.requires.watch.waited;
+  flags = c.requires.flags;
   watched = watched_none (plan_table c.args.plan.now) c.args.plan.now.packets.now c.args.queues.now c.args.groups.now c.args.machine.now
       c.args.begun.now c.args.flits.now (length c.args.made.now) c.args.watch.now
       (λ x here. c.requires.none_begun x (let size = c.requires.begun in omega (arith, here, size))) c.requires.none_left c.requires.watch;
@@ -41,6 +42,7 @@ loop-rounds-preserved g c =
       channels = c.note.ensures.channels;
       stood = c.note.ensures.stood;
       waited = c.note.ensures.waited;
+      flags = r.ensures.flags;
       watched = record { simulates = w.simulates; shows = w.shows; last = w.last; goes = w.on c.if-ends.false };
     }
 

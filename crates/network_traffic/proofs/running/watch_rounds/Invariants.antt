@@ -1,4 +1,5 @@
 use Rattle.std.proofs.Common.{◌≡◌, ◌-◌, ◌≤◌, length}
+use Rattle.network_rounds.specs.Flags.{AreFlags, choices_of}
 use Rattle.network_traffic.specs.Plans.{plan_table}
 use Rattle.network_traffic.specs.Labels.{labels_spec, HasChannels}
 use Rattle.network_traffic.proofs.Simulating.{WatchedSoFar}
@@ -16,6 +17,7 @@ invariant-loop-rounds g l = record {
   channels : HasChannels (labels_spec l.watch.labels) (length l.plan.kinds.now);
   stood : length l.watch.stood.items ≡ length l.plan.kinds.now;
   waited : length l.watch.waited.items ≡ length l.plan.kinds.now;
+  flags : AreFlags l.machine (choices_of l.groups) l.choices;
   watched : WatchedSoFar (plan_table l.plan) l.plan.packets.now l.queues l.groups l.initial.machine l.machine l.begun l.flits l.rounds
       (length l.initial.made) l.last l.watch;
 }

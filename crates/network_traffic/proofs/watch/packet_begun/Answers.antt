@@ -1,9 +1,0 @@
-use Rattle.std.proofs.Common.{sym, ap, ◌∙◌, length}
-use Rattle.network_traffic.proofs.Pieces.{numbers_many}
-use Rattle.network_traffic.proofs.watch.packet_begun.Goals as goal
-
-pub next_number-requires : goal.next_number-requires
-next_number-requires g c =
-    ap length c.deref-in-Send.ensures.value
-    ∙ (c.requires.channels.begun ∙ sym (ap length c.deref.ensures.value
-    ∙ numbers_many c.args.plan.now.numbers.items c.args.plan.now.packets.now _ c.requires.plan.numbers))
