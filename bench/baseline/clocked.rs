@@ -148,23 +148,70 @@ fn routers_of(net: &Network) -> Vec<usize> {
     number
 }
 
+/// The choices in the order of a round: the groups that have choices.
 fn groups_of(net: &Network) -> Vec<Vec<Move>> {
     let of = |kind: Kind| (0..net.kinds.len()).filter(move |x| net.kinds[*x] == kind);
     let inputs = || (0..net.kinds.len()).filter(|x| net.kinds[*x] != Kind::Ejection);
-    let mut groups = vec![of(Kind::Injection).map(Move::More).collect(), inputs().map(Move::Take).collect()];
+    let mut groups: Vec<Vec<Move>> = vec![of(Kind::Injection).map(Move::More).collect(), inputs().map(Move::Take).collect()];
     let routers = routers_of(net);
     for router in 0..net.kinds.len() {
         groups.push(inputs().filter(|x| routers[*x] == router).map(Move::Put).collect());
     }
     groups.push(of(Kind::Ejection).map(Move::Accept).collect());
     groups.push((0..net.kinds.len()).map(Move::Credit).collect());
+    groups.retain(|group| !group.is_empty());
     groups
+}
+
+/// The places of the choices of a channel among those of all groups: more, take, put, accept, credit.
+type Places = [usize; 5];
+
+/// Of each choice whether what stands at its channel lets it be made, and where the choices of each channel are.
+struct Flags {
+    up: Vec<bool>,
+    places: Vec<Places>,
+}
+
+impl Flags {
+    fn open(channels: usize, groups: &[Vec<Move>]) -> Self {
+        let mut places = vec![[usize::MAX; 5]; channels];
+        let mut count = 0;
+        for of in groups.iter().flatten() {
+            let (x, kind) = match *of {
+                Move::Send(_) => continue,
+                Move::More(x) => (x, 0),
+                Move::Take(x) => (x, 1),
+                Move::Put(x) => (x, 2),
+                Move::Accept(x) => (x, 3),
+                Move::Credit(x) => (x, 4),
+            };
+            places[x][kind] = count;
+            count += 1;
+        }
+        Flags { up: vec![true; count], places }
+    }
+
+    fn tell(&mut self, at: &Channel, x: usize) {
+        let lets = [
+            at.left > 0 && at.held > 0,
+            at.latch.is_none() && at.count > 0,
+            at.latch.is_some(),
+            at.count > 0,
+            at.returning > 0,
+        ];
+        for (place, may) in self.places[x].iter().zip(lets) {
+            if *place < self.up.len() {
+                self.up[*place] = may;
+            }
+        }
+    }
 }
 
 struct Run<'a> {
     net: &'a Network,
     packets: &'a [Packet],
     queues: Vec<Vec<u32>>,
+    senders: Vec<usize>,
     channels: Vec<Channel>,
     begun: Vec<usize>,
     left: Vec<u64>,
@@ -184,6 +231,7 @@ impl<'a> Run<'a> {
         Run {
             net,
             packets,
+            senders: (0..count).filter(|x| !queues[*x].is_empty()).collect(),
             queues,
             channels: vec![Channel { held: depth, ..Channel::default() }; count],
             begun: vec![0; count],
@@ -226,7 +274,8 @@ impl<'a> Run<'a> {
         }
     }
 
-    fn make(&mut self, of: Move, round: u64) {
+    /// Makes a move, and answers its channel and the other at which something changed.
+    fn make(&mut self, of: Move, round: u64) -> (usize, usize) {
         match of {
             Move::Send(k) => {
                 let packet = self.packets[k];
@@ -236,24 +285,28 @@ impl<'a> Run<'a> {
                 at.course = k as u32;
                 self.begun[packet.from] += 1;
                 self.sent[k] = Some(round);
+                (packet.from, packet.from)
             }
             Move::More(x) => {
                 let at = &mut self.channels[x];
                 at.push(Flit { packet: at.course, is_head: false, is_tail: at.left == 1 });
                 at.left -= 1;
+                (x, x)
             }
             Move::Take(x) => {
                 let flit = self.channels[x].pop();
                 self.channels[x].latch = Some(flit);
                 self.flits[x] += 1;
+                (x, x)
             }
             Move::Put(x) => {
-                let Some(flit) = self.channels[x].latch else { return };
-                let Some(y) = self.output(x, flit) else { return };
+                let Some(flit) = self.channels[x].latch else { return (x, x) };
+                let Some(y) = self.output(x, flit) else { return (x, x) };
                 self.channels[x].latch = None;
                 self.channels[y].push(flit);
                 self.channels[y].owner = (!flit.is_tail).then_some(x);
                 self.channels[x].owned = (!flit.is_tail).then_some(y);
+                (x, y)
             }
             Move::Accept(x) => {
                 let k = self.channels[x].pop().packet as usize;
@@ -262,10 +315,12 @@ impl<'a> Run<'a> {
                 if self.left[k] == 0 {
                     self.delivered[k] = Some(round);
                 }
+                (x, x)
             }
             Move::Credit(x) => {
                 self.channels[x].returning -= 1;
                 self.channels[x].held += 1;
+                (x, x)
             }
         }
     }
@@ -275,24 +330,36 @@ impl<'a> Run<'a> {
     }
 
     /// Makes a round, and answers how many moves it makes.
-    fn round(&mut self, groups: &[Vec<Move>], before: u64, enabled: &mut Vec<Move>, stood: &mut [bool]) -> usize {
+    fn round(&mut self, groups: &[Vec<Move>], flags: &mut Flags, before: u64, enabled: &mut Vec<Move>, stood: &mut [bool]) -> usize {
         enabled.clear();
-        for x in 0..self.queues.len() {
-            stood[x] = self.channels[x].latch.is_some();
+        for (stood, at) in stood.iter_mut().zip(&self.channels) {
+            *stood = at.latch.is_some();
+        }
+        for &x in &self.senders {
             if let Some(k) = self.next_of(x) {
                 if self.packets[k].round <= before + 1 && self.is_free(Move::Send(k)) {
                     enabled.push(Move::Send(k));
                 }
             }
         }
-        for group in groups.iter().filter(|group| !group.is_empty()) {
+        let mut from = 0;
+        for group in groups {
             let first = (before % group.len() as u64) as usize;
-            enabled.extend(group[first..].iter().chain(&group[..first]).filter(|of| self.is_free(**of)));
+            let up = &flags.up[from..from + group.len()];
+            for (moves, up) in [(&group[first..], &up[first..]), (&group[..first], &up[..first])] {
+                let may = moves.iter().zip(up).filter(|(_, up)| **up).map(|(of, _)| of);
+                enabled.extend(may.filter(|of| self.is_free(**of)));
+            }
+            from += group.len();
         }
         let mut count = 0;
         for of in enabled {
             if self.is_free(*of) {
-                self.make(*of, before + 1);
+                let (x, y) = self.make(*of, before + 1);
+                flags.tell(&self.channels[x], x);
+                if y != x {
+                    flags.tell(&self.channels[y], y);
+                }
                 count += 1;
             }
         }
@@ -305,10 +372,14 @@ impl<'a> Run<'a> {
     /// Makes rounds until nothing moves and no packet is to come; answers the rounds, and the last that moves.
     fn run(&mut self) -> (u64, u64) {
         let groups = groups_of(self.net);
+        let mut flags = Flags::open(self.queues.len(), &groups);
+        for (x, at) in self.channels.iter().enumerate() {
+            flags.tell(at, x);
+        }
         let (mut enabled, mut stood) = (Vec::new(), vec![false; self.queues.len()]);
         let mut last = 0;
         for before in 0..MOST_ROUNDS {
-            if self.round(&groups, before, &mut enabled, &mut stood) > 0 {
+            if self.round(&groups, &mut flags, before, &mut enabled, &mut stood) > 0 {
                 last = before + 1;
             } else if (0..self.queues.len()).all(|x| self.next_of(x).map_or(true, |k| self.packets[k].round <= before + 1)) {
                 return (before + 1, last);
