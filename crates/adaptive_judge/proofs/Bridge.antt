@@ -9,8 +9,8 @@ use Rattle.network_judge.specs.declared.table.Kind.TheVariants.{Injection, Hop, 
 use Rattle.network_judge.specs.Table.{kind_of, joins_of, is_sender, is_receiver}
 use Rattle.network_judge.specs.TableNet.{Flits}
 use Rattle.network_judge.specs.Marks.{is_marked_at}
-use Rattle.adaptive.specs.Choices.{AdaptiveNet, IsAdaptiveNet, Comes, BeginsIn, ByChoice, IsChoice, Roams, FromHere, ByNoEscape, ExtendedDependency, HasEscapes}
-use Rattle.adaptive.specs.Verdicts.{LacksEscape, LacksEscapeFirst}
+use Rattle.adaptive_judge.specs.Choices.{AdaptiveNet, IsAdaptiveNet, Comes, BeginsIn, ByChoice, IsChoice, Roams, FromHere, ByNoEscape, ExtendedDependency, HasEscapes}
+use Rattle.adaptive_judge.specs.Verdicts.{LacksEscape, LacksEscapeFirst}
 use Rattle.adaptive_judge.specs.Spread.{Path, Stop, Go, any_below, names, opens, leads_on, choice_step}
 use Rattle.adaptive_judge.specs.Choosing.{ChoiceTable, table, base_of, chooses_of, network, IsWritten, IsShaped}
 use Rattle.adaptive_judge.specs.Flags.{AreDown, ComesTo, IsWaitOf, IsBareTo, IsFirstBareTo, HasWaits}

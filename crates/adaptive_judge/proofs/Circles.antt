@@ -17,8 +17,8 @@ use Rattle.network_judge.specs.Marks.{is_marked_at}
 use Rattle.network_judge.specs.Replies.{reply_at, IsReply, AreReplies}
 use Rattle.network_judge.specs.Graph.{flag_at}
 use Rattle.network_judge.proofs.Graphs.{either_low, either_high, reply_leads, reply_edge}
-use Rattle.adaptive.specs.Choices.{AdaptiveNet, Comes, ByChoice, HasEscapes, AreReplyEnds, AreRising}
-use Rattle.adaptive.proofs.Held.{roams_come}
+use Rattle.adaptive_judge.specs.Choices.{AdaptiveNet, Comes, ByChoice, HasEscapes, AreReplyEnds, AreRising}
+use Rattle.adaptive_judge.proofs.Held.{roams_come}
 use Rattle.adaptive_judge.specs.Choosing.{ChoiceTable, table, network, IsShaped}
 use Rattle.adaptive_judge.specs.Flags.{AreDown, HasWaits}
 use Rattle.adaptive_judge.specs.Waiting.{waiting}

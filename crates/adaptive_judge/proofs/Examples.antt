@@ -9,7 +9,7 @@ use Rattle.network_judge.specs.declared.table.Kind.TheVariants.{Injection, Hop, 
 use Rattle.network_judge.specs.Marks.{is_marked_at}
 use Rattle.network_judge.specs.Table.{kind_of, joins_of, is_sender, is_receiver}
 use Rattle.network_judge.proofs.Firsts.{any, any_at}
-use Rattle.adaptive.proofs.Reach.{or_cases}
+use Rattle.adaptive_judge.proofs.Reach.{or_cases}
 use Rattle.adaptive_judge.specs.Spread.{Stop, Go, names}
 use Rattle.adaptive_judge.specs.Choosing.{ChoiceTable, table, base_of, chooses_of, IsWritten, IsShaped}
 use Rattle.adaptive_judge.specs.Travel.{GoesRoundAt}

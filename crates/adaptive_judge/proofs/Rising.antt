@@ -7,13 +7,13 @@ use Rattle.wormhole.specs.Ends.{IsQuiet}
 use Rattle.network_judge.specs.declared.table.Reply.{Reply}
 use Rattle.network_judge.specs.Replies.{AreReplies}
 use Rattle.network_judge.specs.TableNet.{Flits}
-use Rattle.adaptive.specs.Choices.{IsAdaptiveNet, HasEscapes, AreRising}
-use Rattle.adaptive.specs.Flow.{IsReachable}
-use Rattle.adaptive.specs.Progress.{GoesByEscapes, MoveByEscapes}
-use Rattle.adaptive.specs.Arrivals.{sum_of_packets}
-use Rattle.adaptive.proofs.Reached.{words_reached, tracks_reached}
-use Rattle.adaptive.proofs.Quiet as quiet
-use Rattle.adaptive.proofs.Arrive.{sent_reached, all_come}
+use Rattle.adaptive_judge.specs.Choices.{IsAdaptiveNet, HasEscapes, AreRising}
+use Rattle.adaptive_judge.specs.Flow.{IsReachable}
+use Rattle.adaptive_judge.specs.Progress.{GoesByEscapes, MoveByEscapes}
+use Rattle.adaptive_judge.specs.Arrivals.{sum_of_packets}
+use Rattle.adaptive_judge.proofs.Reached.{words_reached, tracks_reached}
+use Rattle.adaptive_judge.proofs.Quiet as quiet
+use Rattle.adaptive_judge.proofs.Arrive.{sent_reached, all_come}
 use Rattle.adaptive_judge.specs.Choosing.{ChoiceTable, table, network, IsShaped}
 use Rattle.adaptive_judge.specs.Judged.{answers_of}
 use Rattle.adaptive_judge.proofs.Bridge.{is_adaptive}

@@ -1,7 +1,7 @@
 -- A way between two channels is an extended dependency.
 use Rattle.std.proofs.Common.{◌≡◌, inl, inr, ℕ, ◌+◌, ◌-◌, Bool, true, List, [], ◌∷◌, length}
-use Rattle.adaptive.specs.Choices.{AdaptiveNet, Comes, Roams, FromHere, ByNoEscape, ExtendedDependency}
-use Rattle.adaptive.specs.Verdicts.{IsEdge, IsDependencyCycle}
+use Rattle.adaptive_judge.specs.Choices.{AdaptiveNet, Comes, Roams, FromHere, ByNoEscape, ExtendedDependency}
+use Rattle.adaptive_judge.specs.Verdicts.{IsEdge, IsDependencyCycle}
 use Rattle.adaptive_judge.specs.declared.verdict.Dependency as dependency
 use Rattle.adaptive_judge.specs.declared.verdict.How.{How}
 use Rattle.adaptive_judge.specs.declared.verdict.How.TheVariants.{Over, Replied}

@@ -11,8 +11,8 @@ use Rattle.network_judge.specs.declared.table.Join.{Join}
 use Rattle.network_judge.specs.Table.{table_of, joins_of}
 use Rattle.network_judge.specs.Marks.{is_marked_at}
 use Rattle.network_judge.specs.TableNet.{Flits}
-use Rattle.adaptive.specs.Choices.{AdaptiveNet, Comes, BeginsIn, ByChoice, HasEscapes}
-use Rattle.adaptive.specs.Work.{AreNearer}
+use Rattle.adaptive_judge.specs.Choices.{AdaptiveNet, Comes, BeginsIn, ByChoice, HasEscapes}
+use Rattle.adaptive_judge.specs.Work.{AreNearer}
 use Rattle.adaptive_judge.specs.declared.verdict.Travel.{Travel}
 use Rattle.adaptive_judge.specs.declared.verdict.Travel.TheVariants.{Bounded, Round}
 use Rattle.adaptive_judge.specs.Spread.{Path, Stop, Go, names, opens, leads_on}

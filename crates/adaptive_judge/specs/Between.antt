@@ -9,7 +9,7 @@ use Rattle.network_judge.specs.Marks.{is_marked_at}
 use Rattle.network_judge.specs.Replies.{reply_at}
 use Rattle.rising.specs.declared.search.Look.{Look}
 use Rattle.rising.specs.Search.{path_look}
-use Rattle.adaptive.specs.Choices.{AdaptiveNet, Comes, IsChoice}
+use Rattle.adaptive_judge.specs.Choices.{AdaptiveNet, Comes, IsChoice}
 use Rattle.adaptive_judge.specs.declared.verdict.Dependency as dependency
 use Rattle.adaptive_judge.specs.declared.verdict.How.{How}
 use Rattle.adaptive_judge.specs.declared.verdict.How.TheVariants.{Over, Replied}

@@ -6,7 +6,7 @@ use Rattle.network_judge.specs.declared.table.Join.{Join}
 use Rattle.network_judge.specs.Table.{Table, table_of, kind_of, joins_of, is_sender, is_receiver}
 use Rattle.network_judge.specs.TableNet.{Flits}
 use Rattle.network_judge.specs.Marks.{is_marked_at}
-use Rattle.adaptive.specs.Choices.{AdaptiveNet}
+use Rattle.adaptive_judge.specs.Choices.{AdaptiveNet}
 use Rattle.adaptive_judge.specs.Spread.{opens}
 
 -- kinds and pairs as of any table; the choices have a block for each channel as destination, in

@@ -3,8 +3,8 @@ use Rattle.std.specs.Prelude.{◌≡◌, ℕ, ◌==◌, ◌&&◌, Bool, List, le
 use Rattle.std.specs.List.{list_any}
 use Rattle.network_judge.specs.declared.table.Reply.{Reply}
 use Rattle.network_judge.specs.TableNet.{Flits}
-use Rattle.adaptive.specs.Choices.{HasEscapes, AreRising}
-use Rattle.adaptive.specs.Verdicts.{LacksEscapeFirst}
+use Rattle.adaptive_judge.specs.Choices.{HasEscapes, AreRising}
+use Rattle.adaptive_judge.specs.Verdicts.{LacksEscapeFirst}
 use Rattle.adaptive_judge.specs.declared.verdict.Verdict.{Verdict}
 use Rattle.adaptive_judge.specs.declared.verdict.Verdict.TheVariants.{Rising, NoEscape, Cycle}
 use Rattle.adaptive_judge.specs.Choosing.{ChoiceTable, network}

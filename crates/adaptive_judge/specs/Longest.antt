@@ -4,7 +4,7 @@ use Rattle.std.specs.Prelude.{slice_index}
 use Rattle.rising.specs.Graph.{Digraph}
 use Rattle.network_judge.specs.declared.table.Join.{Join}
 use Rattle.network_judge.specs.Table.{table_of, joins_of}
-use Rattle.adaptive.specs.Choices.{AdaptiveNet, IsChoice}
+use Rattle.adaptive_judge.specs.Choices.{AdaptiveNet, IsChoice}
 
 -- packets to ejection channel j come to a channel over so many channels, it and the one that they
 -- begin in counted

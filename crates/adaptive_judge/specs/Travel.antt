@@ -4,8 +4,8 @@ use Rattle.rising.specs.Graph.{Digraph}
 use Rattle.network_judge.specs.declared.table.Kind.{Kind}
 use Rattle.network_judge.specs.declared.table.Join.{Join}
 use Rattle.network_judge.specs.Marks.{is_marked_at}
-use Rattle.adaptive.specs.Choices.{AdaptiveNet, Comes, IsChoice}
-use Rattle.adaptive.specs.Work.{AreNearer}
+use Rattle.adaptive_judge.specs.Choices.{AdaptiveNet, Comes, IsChoice}
+use Rattle.adaptive_judge.specs.Work.{AreNearer}
 use Rattle.adaptive_judge.specs.declared.verdict.Travel.{Travel}
 use Rattle.adaptive_judge.specs.declared.verdict.Travel.TheVariants.{Bounded, Round}
 use Rattle.adaptive_judge.specs.Spread.{Path, leads_on, choice_step}

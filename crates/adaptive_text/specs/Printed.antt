@@ -13,7 +13,7 @@ use Rattle.network_text.specs.declared.reason.NetworkReason.{NetworkReason}
 use Rattle.network_text.specs.declared.reason.NetworkReason.TheVariants as reason
 use Rattle.network_text.specs.Reasons.{network_fault_of}
 use Rattle.network_text.specs.Network.{NetworkSpec, network_or_why}
-use Rattle.network_text.specs.Answer.{pair_line, first_lines, number_line, no_route_line, Tells}
+use Rattle.network_text.specs.Answer.{pair_line, first_lines, number_line, no_route_line, TellsNetworkVerdict}
 use Rattle.adaptive_judge.specs.declared.accepting.JudgedNet.{JudgedNet}
 use Rattle.adaptive_judge.specs.declared.accepting.JudgedNet.TheVariants.{WrongPair, WrongChoice}
 use Rattle.adaptive_judge.specs.declared.accepting.JudgedNet.TheVariants.{Judged}
@@ -136,7 +136,7 @@ routing_of lines = by_fault network_fault_of (routing_or_why lines)
 
 -- what is judged of a network, and whether its numbers rise
 abbrev pub TellsRouting : {A : Type 0} → Routing → Answer A → Type 0
-TellsRouting (Fixed n) a = Tells n a
+TellsRouting (Fixed n) a = TellsNetworkVerdict n a
 TellsRouting (Chosen t) a = TellsChoosing t a
 
 -- what is answered to a text of these lines: the verdict of its network, or its first fault, or out

@@ -26,5 +26,5 @@ abbrev pub holding : WatchHandle → Watch Global → WatchHandle
 holding handle w = record handle { slot = slot_with handle.slot w }
 
 -- where a watch is lent the handle ends with what m leaves, and else as it was
-abbrev pub LendsHeld : MutBor WatchHandle → Option (MutBor (Watch Global)) → Fml
-LendsHeld handle m = LendsIf handle_row watch_row handle m (holding handle.now) handle.now
+abbrev pub LendsHeldWatch : MutBor WatchHandle → Option (MutBor (Watch Global)) → Fml
+LendsHeldWatch handle m = LendsIf handle_row watch_row handle m (holding handle.now) handle.now

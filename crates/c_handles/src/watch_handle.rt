@@ -1,6 +1,6 @@
 ghost use Rattle.std.specs.Prelude.{◌≡◌, ◌↔◌, Some, None, IsSome, IsTrue, MatchOption, IfErr, IfOk};
 ghost use Rattle.std.specs.Borrow.{sem};
-ghost use Rattle.c_handles.specs.HeldWatch.{held, LendsHeld};
+ghost use Rattle.c_handles.specs.HeldWatch.{held, LendsHeldWatch};
 
 use crate::kept::Kept;
 use crate::watch_slot::Slot;
@@ -19,7 +19,7 @@ impl WatchHandle {
     /// The watch that it holds, to look at and to change, or `None` where it holds none.
     #[inline(always)]
     pub fn watch(&mut self) -> Option<&mut Kept>
-        ensures* writes_back { sem 𝓛 (LendsHeld self.entry result) }
+        ensures* writes_back { sem 𝓛 (LendsHeldWatch self.entry result) }
         ensures value { MatchOption result (held self.old ≡ None)
             (λ m. held self.old ≡ Some m.now) }
     {

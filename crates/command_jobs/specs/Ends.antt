@@ -1,7 +1,7 @@
 -- What is found of the end of a run, to be told behind its report (this project's own format).
 use Rattle.std.specs.Prelude.{ℕ, List, Bool, Option, IfSome, Result}
 use Rattle.std.specs.Str.Lines.{lines}
-use Rattle.core_machine.specs.Machine.{Core, shown}
+use Rattle.core_laws.specs.Machine.{Core, shown}
 use Rattle.machine_core.specs.Loading.{load_by}
 use Rattle.program_fault.specs.declared.fault.ProgramFault.{ProgramFault}
 use Rattle.program_fault.specs.declared.texts.Texts.{Texts}

@@ -51,26 +51,26 @@ done_in (Ok ended) = Ok tt
 done_in (Err fault) = Err fault
 
 -- a job without scripts has none that isn't finished
-abbrev pub IsFinished : Result Ended ProgramFault → Type 0
-IsFinished result = IfOk result (λ ended. ended.finished ≡ true)
+abbrev pub IsFinishedJob : Result Ended ProgramFault → Type 0
+IsFinishedJob result = IfOk result (λ ended. ended.finished ≡ true)
 
 -- The output takes, and the job answers, what the command does that it names: over its texts in the
 -- order of its words, and with its numbers.
-abbrev pub Answers : Job → Texts → Output → Output → Result Ended ProgramFault → Type 0
-Answers (Steps machine script steps) texts old new result = PrintsRun
+abbrev pub AnswersJob : Job → Texts → Output → Output → Result Ended ProgramFault → Type 0
+AnswersJob (Steps machine script steps) texts old new result = PrintsRun
     (asked_of (lines texts.first.items) (lines texts.second.items) (lines texts.third.items))
     old new (finished_in result)
-Answers (Round machine script rounds clocked) texts old new result = PrintsRounds clocked
+AnswersJob (Round machine script rounds clocked) texts old new result = PrintsRounds clocked
     (load_by (lines texts.first.items) (lines texts.second.items)) rounds old new
     (finished_in result)
-Answers (Route machine src dst class) texts old new result =
+AnswersJob (Route machine src dst class) texts old new result =
     PrintsRoute (lines texts.first.items) src dst class old new (done_in result)
-    × IsFinished result
-Answers (Channels machine) texts old new result =
-    PrintsChannels (lines texts.first.items) old new (done_in result) × IsFinished result
-Answers (Check report) texts old new result =
-    PrintsVerdict texts.first.items old new (done_in result) × IsFinished result
-Answers _ texts old new result = Unit {0}
+    × IsFinishedJob result
+AnswersJob (Channels machine) texts old new result =
+    PrintsChannels (lines texts.first.items) old new (done_in result) × IsFinishedJob result
+AnswersJob (Check report) texts old new result =
+    PrintsVerdict texts.first.items old new (done_in result) × IsFinishedJob result
+AnswersJob _ texts old new result = Unit {0}
 
 -- the version of the program was printed
 abbrev pub PrintsVersion : {A : Type 0} → Output → Output → Result A ProgramFault → Type 0

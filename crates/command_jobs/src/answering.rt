@@ -8,7 +8,7 @@ ghost use Rattle.commands.specs.Ends.{HasEndedRounds, ShowsReached};
 ghost use Rattle.commands.specs.Run.{HasRun, PrintsRun, asked_of};
 ghost use Rattle.commands.specs.Rounds.{PrintsRounds};
 ghost use Rattle.command_jobs.specs.Ends.{ShowsEnd};
-ghost use Rattle.command_jobs.specs.Jobs.{Answers, IsFinished, done_in, finished_in};
+ghost use Rattle.command_jobs.specs.Jobs.{AnswersJob, IsFinishedJob, done_in, finished_in};
 ghost use Rattle.command_jobs.specs.Jobs.{is_of_commands};
 
 use crate::progress_line::ProgressLine;
@@ -55,7 +55,7 @@ pub fn answer<R: Eprint + Clock + AllocGlobal, W: Out, E: Ending>(
     ending: &mut E,
 ) -> Result<Ended, ProgramFault>
     requires { is_of_commands job.now ≡ true }
-    ensures answers { Answers job.now texts.now (output (W.taken out.old) (W.failures out.old))
+    ensures answers { AnswersJob job.now texts.now (output (W.taken out.old) (W.failures out.old))
         (output (W.taken out.new) (W.failures out.new)) result }
     ensures ends { ShowsEnd job.now texts.now (E.saw ending.new)
         (output (W.taken out.old) (W.failures out.old))
@@ -85,7 +85,7 @@ pub fn answer<R: Eprint + Clock + AllocGlobal, W: Out, E: Ending>(
 /// What became of a job without scripts.
 fn plain(done: Result<(), ProgramFault>) -> Result<Ended, ProgramFault>
     ensures done { done_in result ≡ done }
-    ensures finished { IsFinished result }
+    ensures finished { IsFinishedJob result }
 {
     match done {
         Ok(()) => Ok(Ended {

@@ -1,8 +1,7 @@
 //! The texts that a job names, and what they are.
 
 use command_line::Job;
-use error_lines::Kind;
-use program_fault::Names;
+use program_fault::{Kind, Names};
 
 /// The names of the texts of a job that are read before it begins.
 pub fn names<'a>(job: &Job<'a>) -> Names<'a> {

@@ -4,8 +4,7 @@ use crate::answering::Ended;
 use crate::naming::names;
 use crate::run_end::RunEnd;
 use command_line::Job;
-use error_lines::tell_end;
-use program_fault::{ProgramFault, fault_text, status_of};
+use program_fault::{ProgramFault, fault_text, status_of, tell_end};
 use std::io::{self, BufWriter, Printer, Write};
 use torus::Fault;
 

@@ -3,8 +3,7 @@
 use crate::naming::names;
 use crate::printing::fault_told;
 use command_line::{Job, Request};
-use error_lines::explain_unread;
-use program_fault::{Failure, ProgramFault, Texts, Unread, read_texts};
+use program_fault::{Failure, ProgramFault, Texts, Unread, explain_unread, read_texts};
 use std::io::Input;
 use std::rt::Files;
 use torus::Fault;

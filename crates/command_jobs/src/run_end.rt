@@ -1,7 +1,7 @@
 //! What became of the scripts of a run, for whoever is to be told.
 ghost use Rattle.std.specs.Prelude.{IfSome};
 ghost use Rattle.std.specs.Str.Lines.{lines};
-ghost use Rattle.core_machine.specs.Machine.{shown};
+ghost use Rattle.core_laws.specs.Machine.{shown};
 ghost use Rattle.sentences.specs.Ended.{IsEndInTextOrder};
 
 use commands::Ending;

@@ -70,72 +70,72 @@ abbrev pub IsFlag : Text → Bool → List Row → Type 0
 IsFlag id given rows = one_of id rows ≡ Some (flag_text given)
 
 -- the values are those of the job: words as they are given, and the numbers that are written
-abbrev pub AreOf : Job → List Row → Type 0
-AreOf (Steps machine script steps) rows = (first_of (codes "MACHINE") rows ≡ Some machine.now)
+abbrev pub AreOfJob : Job → List Row → Type 0
+AreOfJob (Steps machine script steps) rows = (first_of (codes "MACHINE") rows ≡ Some machine.now)
     × (first_of (codes "SCRIPT") rows ≡ Some script.now)
     × (first_of (codes "STEPS") rows ≡ Some steps.now)
     × IsFlag (codes "moves") false rows
-AreOf (Round machine script rounds clocked) rows =
+AreOfJob (Round machine script rounds clocked) rows =
     (first_of (codes "MACHINE") rows ≡ Some machine.now)
     × (first_of (codes "SCRIPT") rows ≡ Some script.now)
     × (number_in (codes "rounds") rows ≡ Some rounds)
     × IsFlag (codes "clocked") clocked rows
-AreOf (Run machine script workers turns) rows = (first_of (codes "MACHINE") rows ≡ Some machine.now)
+AreOfJob (Run machine script workers turns) rows = (first_of (codes "MACHINE") rows ≡ Some machine.now)
     × (first_of (codes "SCRIPT") rows ≡ Some script.now)
     × (number_in (codes "workers") rows ≡ Some workers)
     × (number_in (codes "turns") rows ≡ Some turns)
-AreOf (Live machine) rows = first_of (codes "MACHINE") rows ≡ Some machine.now
-AreOf (Route machine src dst class) rows = (first_of (codes "MACHINE") rows ≡ Some machine.now)
+AreOfJob (Live machine) rows = first_of (codes "MACHINE") rows ≡ Some machine.now
+AreOfJob (Route machine src dst class) rows = (first_of (codes "MACHINE") rows ≡ Some machine.now)
     × (number_in (codes "SRC") rows ≡ Some src) × (number_in (codes "DST") rows ≡ Some dst)
     × (one_of (codes "reply") rows ≡ Some (class_word class))
-AreOf (Channels machine) rows = first_of (codes "MACHINE") rows ≡ Some machine.now
-AreOf (Check report) rows = first_of (codes "REPORT") rows ≡ Some report.now
-AreOf (Network network) rows = (first_of (codes "NETWORK") rows ≡ Some network.now)
+AreOfJob (Channels machine) rows = first_of (codes "MACHINE") rows ≡ Some machine.now
+AreOfJob (Check report) rows = first_of (codes "REPORT") rows ≡ Some report.now
+AreOfJob (Network network) rows = (first_of (codes "NETWORK") rows ≡ Some network.now)
     × IsFlag (codes "run") false rows × (first_of (codes "replay") rows ≡ None)
     × (number_in (codes "depth") rows ≡ None)
-AreOf (LockUp network depth) rows = (first_of (codes "NETWORK") rows ≡ Some network.now)
+AreOfJob (LockUp network depth) rows = (first_of (codes "NETWORK") rows ≡ Some network.now)
     × IsFlag (codes "run") true rows × (first_of (codes "replay") rows ≡ None)
     × (depth_in rows ≡ depth)
-AreOf (Replay network run depth) rows = (first_of (codes "NETWORK") rows ≡ Some network.now)
+AreOfJob (Replay network run depth) rows = (first_of (codes "NETWORK") rows ≡ Some network.now)
     × IsFlag (codes "run") false rows × (first_of (codes "replay") rows ≡ Some run.now)
     × (depth_in rows ≡ depth)
-AreOf (Simulate network traffic depth) rows =
+AreOfJob (Simulate network traffic depth) rows =
     (first_of (codes "NETWORK") rows ≡ Some network.now)
     × (first_of (codes "TRAFFIC") rows ≡ Some traffic.now)
     × (number_in (codes "depth") rows ≡ Some depth)
-AreOf (Linearize trace configurations) rows =
+AreOfJob (Linearize trace configurations) rows =
     (first_of (codes "TRACE") rows ≡ Some trace.now)
     × (number_in (codes "configurations") rows ≡ Some configurations)
     × IsFlag (codes "report") false rows
-AreOf (Report trace configurations) rows =
+AreOfJob (Report trace configurations) rows =
     (first_of (codes "TRACE") rows ≡ Some trace.now)
     × (number_in (codes "configurations") rows ≡ Some configurations)
     × IsFlag (codes "report") true rows
-AreOf (Watch trace configurations) rows = (first_of (codes "TRACE") rows ≡ Some trace.now)
+AreOfJob (Watch trace configurations) rows = (first_of (codes "TRACE") rows ≡ Some trace.now)
     × (number_in (codes "configurations") rows ≡ Some configurations)
-AreOf (Model log model order) rows = (first_of (codes "LOG") rows ≡ Some log.now)
+AreOfJob (Model log model order) rows = (first_of (codes "LOG") rows ≡ Some log.now)
     × (first_of (codes "model") rows ≡ Some model.now)
     × IsFlag (codes "order") order rows × (all_of (codes "texts") rows ≡ None)
     × IsFlag (codes "values") false rows × (number_in (codes "nodes") rows ≡ None)
-AreOf (RunModel log model order machine script) rows =
+AreOfJob (RunModel log model order machine script) rows =
     (first_of (codes "LOG") rows ≡ Some log.now)
     × (first_of (codes "model") rows ≡ Some model.now)
     × IsFlag (codes "order") order rows
     × (all_of (codes "texts") rows ≡ Some (machine.now ∷ script.now ∷ []))
     × IsFlag (codes "values") false rows × (number_in (codes "nodes") rows ≡ None)
-AreOf (ValueModel log model order nodes) rows = (first_of (codes "LOG") rows ≡ Some log.now)
+AreOfJob (ValueModel log model order nodes) rows = (first_of (codes "LOG") rows ≡ Some log.now)
     × (first_of (codes "model") rows ≡ Some model.now)
     × IsFlag (codes "order") order rows × (all_of (codes "texts") rows ≡ None)
     × IsFlag (codes "values") true rows × (nodes_in rows ≡ nodes)
-AreOf (Schedule machine script rounds clocked) rows =
+AreOfJob (Schedule machine script rounds clocked) rows =
     (first_of (codes "MACHINE") rows ≡ Some machine.now)
     × (first_of (codes "SCRIPT") rows ≡ Some script.now)
     × (number_in (codes "rounds") rows ≡ Some rounds)
     × IsFlag (codes "clocked") clocked rows
-AreOf (Draw machine script seed steps) rows = (first_of (codes "MACHINE") rows ≡ Some machine.now)
+AreOfJob (Draw machine script seed steps) rows = (first_of (codes "MACHINE") rows ≡ Some machine.now)
     × (first_of (codes "SCRIPT") rows ≡ Some script.now)
     × (number_in (codes "seed") rows ≡ Some seed) × (number_in (codes "steps") rows ≡ steps)
-AreOf (Moves machine script steps) rows = (first_of (codes "MACHINE") rows ≡ Some machine.now)
+AreOfJob (Moves machine script steps) rows = (first_of (codes "MACHINE") rows ≡ Some machine.now)
     × (first_of (codes "SCRIPT") rows ≡ Some script.now)
     × (first_of (codes "STEPS") rows ≡ Some steps.now)
     × IsFlag (codes "moves") true rows
@@ -158,4 +158,4 @@ AreJobLimits _ = Unit {0}
 
 -- a job of the subcommand of this name, with the values of these rows, within its limits
 abbrev pub NamesJob : Text → List Row → Job → Type 0
-NamesJob name rows job = (name_of job ≡ name) × AreOf job rows × AreJobLimits job
+NamesJob name rows job = (name_of job ≡ name) × AreOfJob job rows × AreJobLimits job

@@ -2,7 +2,7 @@
 
 ghost use Rattle.std.specs.Prelude.{◌≡◌, ◌↔◌, IfSome, Some, map, codes, true};
 ghost use Rattle.command_line.specs.CommandLine.{AsksVersion, name_by, rows_by};
-ghost use Rattle.command_line.specs.Job.{AreOf, IsFlag, AreJobLimits, name_of};
+ghost use Rattle.command_line.specs.Job.{AreOfJob, IsFlag, AreJobLimits, name_of};
 
 use crate::command::{Request, read_request};
 use crate::refused::{NoRequest, misuse_text};
@@ -46,7 +46,7 @@ pub fn request_told<'a, R: Print + Eprint + AllocGlobal, S: AsStr>(
     ensures named { IfSome result
         (λ r. name_by (map S.text words.entry.now) ≡ Some (name_of r.job)) }
     ensures given { IfSome result
-        (λ r. IfSome (rows_by (map S.text words.entry.now)) (AreOf r.job)) }
+        (λ r. IfSome (rows_by (map S.text words.entry.now)) (AreOfJob r.job)) }
     ensures explain { IfSome result
         (λ r. IfSome (rows_by (map S.text words.entry.now)) (IsFlag (codes "explain") r.explain)) }
     ensures limits { IfSome result (λ r. AreJobLimits r.job) }

@@ -2,7 +2,7 @@ ghost use Rattle.std.specs.Prelude.{◌≡◌, IfErr, IfOk, IfSome, Some, map, c
 ghost use Rattle.clap.specs.Words.{HasMatchesOf, found_of, rows_of};
 ghost use Rattle.clap.specs.Words.{subcommand_name_of, subcommand_rows_of};
 ghost use Rattle.command_line.specs.CommandLine.{name_by, rows_by, torusmem_app};
-ghost use Rattle.command_line.specs.Job.{AreOf, IsFlag, NamesJob, AreJobLimits, name_of, rows_in};
+ghost use Rattle.command_line.specs.Job.{AreOfJob, IsFlag, NamesJob, AreJobLimits, name_of, rows_in};
 ghost use Rattle.command_line.specs.Refused.{TellsNoRequest};
 
 use crate::building::command;
@@ -158,7 +158,7 @@ pub struct Request<'a> {
 /// `network` or `model` are misused.
 pub fn read_command<'a, S: AsStr>(alloc: Global, words: &'a [S]) -> Result<Job<'a>, NoRequest>
     ensures named { IfOk result (λ job. name_by (map S.text words.entry.now) ≡ Some (name_of job)) }
-    ensures given { IfOk result (λ job. IfSome (rows_by (map S.text words.entry.now)) (AreOf job)) }
+    ensures given { IfOk result (λ job. IfSome (rows_by (map S.text words.entry.now)) (AreOfJob job)) }
     ensures limits { IfOk result AreJobLimits }
     ensures refused { IfErr result (TellsNoRequest (name_by (map S.text words.entry.now))
         (rows_by (map S.text words.entry.now))) }
@@ -173,7 +173,7 @@ pub fn read_request<'a, S: AsStr>(alloc: Global, words: &'a [S]) -> Result<Reque
     ensures named { IfOk result
         (λ r. name_by (map S.text words.entry.now) ≡ Some (name_of r.job)) }
     ensures given { IfOk result
-        (λ r. IfSome (rows_by (map S.text words.entry.now)) (AreOf r.job)) }
+        (λ r. IfSome (rows_by (map S.text words.entry.now)) (AreOfJob r.job)) }
     ensures explain { IfOk result
         (λ r. IfSome (rows_by (map S.text words.entry.now)) (IsFlag (codes "explain") r.explain)) }
     ensures limits { IfOk result (λ r. AreJobLimits r.job) }
@@ -204,7 +204,7 @@ fn parsed<'a, S: AsStr>(alloc: Global, words: &'a [S]) -> Result<ArgMatches<'a>,
 fn request_of<'a>(matches: &ArgMatches<'a>) -> Option<Request<'a>>
     ensures named { IfSome result (λ r. subcommand_name_of matches.now ≡ Some (name_of r.job)) }
     ensures given { IfSome result
-        (λ r. IfSome (rows_in (subcommand_rows_of matches.now)) (AreOf r.job)) }
+        (λ r. IfSome (rows_in (subcommand_rows_of matches.now)) (AreOfJob r.job)) }
     ensures explain { IfSome result
         (λ r. IfSome (rows_in (subcommand_rows_of matches.now))
         (IsFlag (codes "explain") r.explain)) }

@@ -56,7 +56,7 @@ abbrev pub PrintsReplay : List (List ℕ) → List (List ℕ) → ℕ → Output
 PrintsReplay lines run depth = Does (IsReplayText lines run depth) (IsReplayFault lines run depth)
 
 -- a text is what is answered to these packets over this network; and whether nothing is wrong
-pub record IsSimulationText (A : Type 0) (network traffic : List (List ℕ)) (depth : ℕ)
+pub record IsPrintedSimulation (A : Type 0) (network traffic : List (List ℕ)) (depth : ℕ)
     (sound : Bool) (text : List ℕ) : Type 0 where
   pub answer : SimulationAnswer A
   pub answers : AnswersSimulationText network traffic depth (Ok answer)
@@ -74,4 +74,4 @@ IsSimulationFault A network traffic depth _ = ⊥
 abbrev pub PrintsSimulation : (A : Type 0) → List (List ℕ) → List (List ℕ) → ℕ → Output → Output
     → Result Bool ProgramFault → Type 0
 PrintsSimulation A network traffic depth =
-    Does (IsSimulationText A network traffic depth) (IsSimulationFault A network traffic depth)
+    Does (IsPrintedSimulation A network traffic depth) (IsSimulationFault A network traffic depth)

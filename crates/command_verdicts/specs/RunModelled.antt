@@ -3,9 +3,11 @@ use Rattle.std.specs.Prelude.{◌≡◌, ◌⊎◌, List, [], ℕ, Bool, true, R
 use Rattle.torus.specs.declared.fault.Fault.TheVariants as fault
 use Rattle.lexer.specs.declared.refusal.Refusal.{Refusal}
 use Rattle.script.specs.declared.fault.LineFault.{LineFault}
-use Rattle.script.specs.Machine.{MachineSpec, machine_of}
+use Rattle.script_lines.specs.Machine.{MachineSpec}
+use Rattle.script.specs.Machine.{machine_of}
 use Rattle.script.specs.Outcome.{fault_of_refusal}
-use Rattle.script.specs.Scripts.{ScriptsSpec, scripts_of}
+use Rattle.script_lines.specs.Lines.{ScriptsSpec}
+use Rattle.script.specs.Scripts.{scripts_of}
 use Rattle.report_check.specs.Good.{FirstBad}
 use Rattle.model_text.specs.declared.reason.LogReason.{LogReason}
 use Rattle.model_text.specs.Reasons.{log_fault_of}
@@ -36,7 +38,7 @@ unanswered (texts.OtherShape line) = Ok (OtherShape line)
 unanswered (texts.OtherOperation line p passed) = Ok (OtherOperation line p passed)
 
 -- the models give no answer, for a reason to which the command answers this
-pub record IsUnanswered (m : MachineSpec) (s : ScriptsSpec) (report : List ℕ) (modelled : Modelled)
+pub record IsUnansweredIssue (m : MachineSpec) (s : ScriptsSpec) (report : List ℕ) (modelled : Modelled)
     : Type 0 where
   pub why : NoTextsAnswer
   pub none : IsNoAnswerToReportOf m s report why
@@ -49,7 +51,7 @@ abbrev pub IsRunModelled : (A : Type 0) → MachineSpec → ScriptsSpec → List
 IsRunModelled A m s report order (Obeys obeys) text = (answer : Answer A)
     × IsAnswerToReportOf m s report (record { order = order; fences = true }) answer
     × (obeys ≡ answer.obeys) × (text ≡ answer.text.items)
-IsRunModelled A m s report order modelled text = IsUnanswered m s report modelled × (text ≡ [])
+IsRunModelled A m s report order modelled text = IsUnansweredIssue m s report modelled × (text ≡ [])
 
 -- a good report has entries and no order lines, and this is its last line; or its log is refused
 pub data RefusesRun (m : MachineSpec) (s : ScriptsSpec) (report : List ℕ) (found : LineFault)

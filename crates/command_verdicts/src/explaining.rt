@@ -6,7 +6,6 @@ use crate::explaining_table::{explain_no_order_of_table, explain_table};
 use crate::hints::{begins_anynet, begins_table};
 use crate::model::{Modelled, is_report};
 use adaptive_text::routing_sentence;
-use error_lines::{Kind, explain, explain_by, is_of_texts, named, told};
 use lexer::Refusal;
 use model_answer::LogSentence;
 use model_text::{LogReason, read_log};
@@ -14,7 +13,9 @@ use network_rounds::TrafficSentence;
 use network_run::{RunSentence, replay_text};
 use network_text::{NetworkSentence, network_answer, read_network};
 use network_traffic::read_packets;
-use program_fault::{Names, ProgramFault, Texts};
+use program_fault::{
+    Kind, Names, ProgramFault, Texts, explain, explain_by, is_of_texts, named, told,
+};
 use sentences::scripts_sentence;
 use trace_why::{no_order_sentence, trace_sentence};
 use value_answer::read_values;

@@ -1,7 +1,6 @@
 //! The lines on tables of operations.
 
-use error_lines::{explain_by, is_of_texts, named, told};
-use program_fault::ProgramFault;
+use program_fault::{ProgramFault, explain_by, is_of_texts, named, told};
 use std::alloc::Global;
 use trace_table::{TableTrace, read_table, table_sentence};
 use trace_why::{NoOrderSentence, no_order_sentence};

@@ -2,17 +2,19 @@
 use Rattle.std.proofs.Common.{◌≡◌, ℕ, List, Bool, Result, Ok, Err, refl, ap, subst, ◌∙◌}
 use Rattle.torus.specs.declared.step.Step.{Step}
 use Rattle.script.specs.declared.fault.LineFault.{LineFault}
-use Rattle.script.specs.Machine.{MachineSpec, machine_of}
-use Rattle.script.specs.Scripts.{ScriptsSpec, scripts_of}
+use Rattle.script_lines.specs.Machine.{MachineSpec}
+use Rattle.script.specs.Machine.{machine_of}
+use Rattle.script_lines.specs.Lines.{ScriptsSpec}
+use Rattle.script.specs.Scripts.{scripts_of}
 use Rattle.script.specs.Steps.{steps_of}
-use Rattle.order_abstract.specs.Load.{load_of}
-use Rattle.core_machine.specs.Machine.{Core, IsLawful, all_finished}
+use Rattle.one_order.specs.Load.{load_of}
+use Rattle.core_laws.specs.Machine.{Core, IsLawful, all_finished}
 use Rattle.report_lines.specs.Line.{text_of}
 use Rattle.machine_report.specs.Report.{machine_report}
 use Rattle.program_fault.specs.declared.fault.ProgramFault.{ProgramFault}
 use Rattle.program_fault.specs.declared.fault.ProgramFault.TheVariants as program
 use Rattle.program_fault.specs.Done.{Does, Output}
-use Rattle.commands.specs.Run.{Asked, HasRun, IsOfMachine, IsRunText, asked_of}
+use Rattle.commands.specs.Run.{Asked, HasRun, IsRunOfMachine, IsRunText, asked_of}
 
 -- all three are read
 pub all_read : (a b c : List (List ℕ)) (m : MachineSpec) (s : ScriptsSpec) (list : List Step) → machine_of a ≡ Ok m → scripts_of m b ≡ Ok s
@@ -21,7 +23,7 @@ pub all_read : (a b c : List (List ℕ)) (m : MachineSpec) (s : ScriptsSpec) (li
 all_read a b c m s list read scripts steps = rw (read, scripts, steps) refl
 
 -- the report of a machine that has made the steps is the report of the run
-pub run_printed : (asked : Result Asked LineFault) (c : Core) (finished : Bool) (text : List ℕ) → HasRun asked c → IsOfMachine c finished text
+pub run_printed : (asked : Result Asked LineFault) (c : Core) (finished : Bool) (text : List ℕ) → HasRun asked c → IsRunOfMachine c finished text
     → IsRunText asked finished text
 run_printed asked c finished text ran printed = record {
   run = ran.run;

@@ -2,11 +2,11 @@
 use Rattle.std.proofs.Common.{◌≡◌, ℕ, List, Bool, Result, Ok, refl}
 use Rattle.torus.specs.declared.step.Step.{Step}
 use Rattle.script.specs.declared.fault.LineFault.{LineFault}
-use Rattle.order_abstract.specs.Load.{Load}
-use Rattle.core_machine.specs.Machine.{Core, IsAfter, core_after_load}
+use Rattle.one_order.specs.Load.{Load}
+use Rattle.core_laws.specs.Machine.{Core, IsAfter, core_after_load}
 use Rattle.machine_core.specs.Loading.{HasLoaded}
-use Rattle.clocked_laws.specs.Fewest.{rounds_from}
-use Rattle.commands.specs.Run.{IsOfMachine}
+use Rattle.machine_core.specs.Fewest.{rounds_from}
+use Rattle.commands.specs.Run.{IsRunOfMachine}
 use Rattle.commands.specs.Rounds.{HasMadeRounds, IsRoundText, asked_rounds}
 use Rattle.commands.proofs.Asked.{run_printed}
 
@@ -14,7 +14,7 @@ use Rattle.commands.proofs.Asked.{run_printed}
 pub rounds_printed : (clocked : Bool) (asked : Result Load LineFault) (most : ℕ) (start c : Core) (finished : Bool) (text : List ℕ)
     (loaded : HasLoaded asked start) → HasMadeRounds clocked loaded.load most c
     → ((l : Load) (d : Core) (steps : List Step) → IsAfter l d steps → d ≡ core_after_load l steps)
-    → IsOfMachine c finished text → IsRoundText clocked asked most finished text
+    → IsRunOfMachine c finished text → IsRoundText clocked asked most finished text
 rounds_printed clocked asked most start c finished text loaded made named printed = record {
   load = loaded.load;
   read = loaded.read;

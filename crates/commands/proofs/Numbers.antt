@@ -7,7 +7,8 @@ use Rattle.std.proofs.KnownBytes.{Appends-trans}
 use Rattle.report_lines.specs.Taken.{AppendsFront, Rose}
 use Rattle.torus.specs.Shape.{Shape}
 use Rattle.channel_number.specs.Rising.{IsRising}
-use Rattle.script.specs.Machine.{MachineSpec, machine_of}
+use Rattle.script_lines.specs.Machine.{MachineSpec}
+use Rattle.script.specs.Machine.{machine_of}
 use Rattle.channel_number.specs.Number.{IsNumbering}
 use Rattle.program_fault.specs.Done.{Output, Puts, TookAll}
 use Rattle.commands.specs.Done.{IsChannelsText}

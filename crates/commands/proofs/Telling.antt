@@ -2,10 +2,10 @@
 use Rattle.std.proofs.Common.{◌≡◌, ℕ, suc, ◌+◌, ◌-◌, ◌++◌, List, [], ◌∷◌, Bool, Result, Ok, Err, refl, sym, ap, subst, arith, inl, inr, append_assoc, append-nil}
 use Rattle.torus.specs.declared.step.Step.{Step}
 use Rattle.script.specs.declared.fault.LineFault.{LineFault}
-use Rattle.order_abstract.specs.Load.{Load}
-use Rattle.core_progress.specs.Moves.{most_moves, moves_made}
-use Rattle.core_machine.specs.Machine.{Core, IsAfter, core_after_load}
-use Rattle.clocked_laws.specs.Fewest.{rounds_from}
+use Rattle.one_order.specs.Load.{Load}
+use Rattle.core_laws.specs.ProgressMoves.{most_moves, moves_made}
+use Rattle.core_laws.specs.Machine.{Core, IsAfter, core_after_load}
+use Rattle.machine_core.specs.Fewest.{rounds_from}
 use Rattle.machine_core.specs.Loading.{HasLoaded}
 use Rattle.program_fault.specs.declared.fault.ProgramFault.{ProgramFault}
 use Rattle.program_fault.specs.declared.fault.ProgramFault.TheVariants as program
@@ -13,7 +13,7 @@ use Rattle.program_fault.specs.Done.{Does, Output}
 use Rattle.program_fault.specs.Outcome.{IsReadFault}
 use Rattle.commands.specs.Run.{Asked, HasMoved, IsNoFault}
 use Rattle.commands.specs.Calls.{Call, Ended, Hears}
-use Rattle.commands.specs.Telling.{AreCallsOf, AreRoundsCalls, AreRunCalls, AreStepsCalls, HearsSome, Tells, TellsRounds, TellsSteps, answered_after, answered_by, round_calls}
+use Rattle.commands.specs.Telling.{AreCallsOfCommand, AreRoundsCalls, AreRunCalls, AreStepsCalls, HearsSome, TellsCommand, TellsRounds, TellsSteps, answered_after, answered_by, round_calls}
 
 -- no call
 pub hears_none : (h : List Call → Type 0) → Hears h h []
@@ -24,21 +24,21 @@ pub hears_then : (old mid new : List Call → Type 0) (first more : List Call) �
 hears_then old mid new first more a b = λ calls o. subst new (append_assoc calls first more) (b (calls ++ first) (a calls o))
 
 -- the calls behind one round more
-calls_more : (clocked : Bool) (l : Load) (k : ℕ) (c : Core) (calls : List Call) (wants : Bool) → AreCallsOf clocked l k calls
+calls_more : (clocked : Bool) (l : Load) (k : ℕ) (c : Core) (calls : List Call) (wants : Bool) → AreCallsOfCommand clocked l k calls
     → IsAfter l c (rounds_from clocked l (k + 1))
     → ((l : Load) (c : Core) (steps : List Step) → IsAfter l c steps → c ≡ core_after_load l steps)
-    → AreCallsOf clocked l (k + 1) (calls ++ round_calls (k + 1) (answered_by c) wants)
+    → AreCallsOfCommand clocked l (k + 1) (calls ++ round_calls (k + 1) (answered_by c) wants)
 calls_more clocked l k c calls wants each after named =
     let one : suc k ≡ k + 1 = omega arith in
     let count : answered_by c ≡ answered_after clocked l (k + 1) = ap answered_by (named l c (rounds_from clocked l (k + 1)) after) in
-    subst (λ (n : ℕ). AreCallsOf clocked l n (calls ++ round_calls (k + 1) (answered_by c) wants)) one
+    subst (λ (n : ℕ). AreCallsOfCommand clocked l n (calls ++ round_calls (k + 1) (answered_by c) wants)) one
     (calls, wants, each, ap (λ (n : ℕ). calls ++ round_calls (k + 1) n wants) count)
 
 -- what was heard behind the first rounds, and then behind one more
-pub round_heard : (clocked : Bool) (l : Load) (k : ℕ) (c : Core) (old mid new : List Call → Type 0) → HearsSome (AreCallsOf clocked l k) old mid
+pub round_heard : (clocked : Bool) (l : Load) (k : ℕ) (c : Core) (old mid new : List Call → Type 0) → HearsSome (AreCallsOfCommand clocked l k) old mid
     → IsAfter l c (rounds_from clocked l (k + 1))
     → ((l : Load) (c : Core) (steps : List Step) → IsAfter l c steps → c ≡ core_after_load l steps)
-    → ((wants : Bool) × Hears mid new (round_calls (k + 1) (answered_by c) wants)) → HearsSome (AreCallsOf clocked l (k + 1)) old new
+    → ((wants : Bool) × Hears mid new (round_calls (k + 1) (answered_by c) wants)) → HearsSome (AreCallsOfCommand clocked l (k + 1)) old new
 round_heard clocked l k c old mid new so_far after named more = (
   so_far.0 ++ round_calls (k + 1) (answered_by c) more.0,
   calls_more clocked l k c so_far.0 more.0 so_far.1 after named,
@@ -47,7 +47,7 @@ round_heard clocked l k c old mid new so_far after named more = (
 
 module _ (are : List Call → Type 0) (old new : List Call → Type 0) where
   told_all : HearsSome are old new → (gives : Bool → List ℕ → Type 0) (before behind : Output) (r : Result Bool ProgramFault)
-      → Does gives IsNoFault before behind r → Tells are old new r
+      → Does gives IsNoFault before behind r → TellsCommand are old new r
   told_all all gives before behind (Ok x) done = all
   told_all all gives before behind (Err program.Output) done = all
   told_all all gives before behind (Err (program.Fault which)) done = inl all
@@ -96,7 +96,7 @@ steps_told asked moves moved old new ended gives before behind r done =
 
 -- nothing, where there is no machine
 pub none_told : {A : Type 0} (asked : Result A LineFault) (are : List Call → Type 0) (h : List Call → Type 0) (e : ProgramFault) → IsReadFault asked e
-    → Tells are h h (Err e)
+    → TellsCommand are h h (Err e)
 none_told asked are h program.Output is = absurd is
 none_told asked are h (program.Fault which) is = inr (λ calls o. o)
 none_told asked are h (program.Line found) is = λ calls o. o

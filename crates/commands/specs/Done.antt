@@ -2,7 +2,8 @@
 use Rattle.std.specs.Prelude.{◌≡◌, ℕ, ◌≤◌, ◌<◌, List, Result, Ok, Err, ◌⊎◌, codes}
 use Rattle.torus.specs.Shape.{tiles_of}
 use Rattle.torus.specs.declared.shape.Class.{Class}
-use Rattle.script.specs.Machine.{MachineSpec, machine_of}
+use Rattle.script_lines.specs.Machine.{MachineSpec}
+use Rattle.script.specs.Machine.{machine_of}
 use Rattle.channel_number.specs.Number.{IsNumbering}
 use Rattle.report_check.specs.Good.{FirstBad, GoodReport}
 use Rattle.program_fault.specs.Done.{Output, Does}

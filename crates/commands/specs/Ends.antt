@@ -2,8 +2,8 @@
 -- format).
 use Rattle.std.specs.Prelude.{◌≡◌, ℕ, List, Bool, Result, Ok}
 use Rattle.script.specs.declared.fault.LineFault.{LineFault}
-use Rattle.order_abstract.specs.Load.{Load}
-use Rattle.core_machine.specs.Machine.{Core}
+use Rattle.one_order.specs.Load.{Load}
+use Rattle.core_laws.specs.Machine.{Core}
 use Rattle.report_lines.specs.Line.{text_of}
 use Rattle.machine_report.specs.Report.{machine_report}
 use Rattle.commands.specs.Rounds.{HasMadeRounds}

@@ -2,9 +2,9 @@
 -- format).
 use Rattle.std.specs.Prelude.{◌≡◌, ℕ, List, Bool, Result, Ok}
 use Rattle.script.specs.declared.fault.LineFault.{LineFault}
-use Rattle.order_abstract.specs.Load.{Load}
-use Rattle.core_machine.specs.Machine.{Core, IsAfter}
-use Rattle.clocked_laws.specs.Fewest.{AreFewestFrom, rounds_from}
+use Rattle.one_order.specs.Load.{Load}
+use Rattle.core_laws.specs.Machine.{Core, IsAfter}
+use Rattle.machine_core.specs.Fewest.{AreFewestFrom, rounds_from}
 use Rattle.program_fault.specs.declared.fault.ProgramFault.{ProgramFault}
 use Rattle.program_fault.specs.Done.{Does, Output}
 use Rattle.program_fault.specs.Outcome.{IsTextsFault}

@@ -2,12 +2,12 @@
 use Rattle.std.specs.Prelude.{◌≡◌, ℕ, List, Bool, Result, Ok, IsTrue, ◌↔◌, length}
 use Rattle.torus.specs.declared.step.Step.{Step}
 use Rattle.script.specs.declared.fault.LineFault.{LineFault}
-use Rattle.order_abstract.specs.Load.{Load}
+use Rattle.one_order.specs.Load.{Load}
 use Rattle.core_laws.specs.Core.{run_of}
-use Rattle.core_progress.specs.Moves.{moves_made}
-use Rattle.core_machine.specs.Machine.{Core, IsAfter, IsLawful, core_after_load, all_finished}
-use Rattle.order_abstract.specs.Scripts.{AreFinished}
-pub use Rattle.machine_core.specs.Run.{Asked, asked_of}
+use Rattle.core_laws.specs.ProgressMoves.{moves_made}
+use Rattle.core_laws.specs.Machine.{Core, IsAfter, IsLawful, core_after_load, all_finished}
+use Rattle.one_order.specs.AbstractScripts.{AreFinished}
+pub use Rattle.machine_core.specs.Run.{AskedRun, asked_of}
 use Rattle.report_lines.specs.Line.{text_of}
 use Rattle.report_check.specs.Good.{GoodReport}
 use Rattle.machine_report.specs.Report.{machine_report}
@@ -16,19 +16,19 @@ use Rattle.program_fault.specs.Done.{Does, Output}
 use Rattle.program_fault.specs.Outcome.{IsTextsFault}
 
 -- the machine after the steps
-abbrev pub core_of : Asked → Core
+abbrev pub core_of : AskedRun → Core
 core_of a = core_after_load a.load a.steps
 
 -- a machine has made the steps that were asked for, from the load: it is the one that they lead to
-pub record HasRun (asked : Result Asked LineFault) (c : Core) : Type 0 where
-  pub run : Asked
+pub record HasRun (asked : Result AskedRun LineFault) (c : Core) : Type 0 where
+  pub run : AskedRun
   pub read : asked ≡ Ok run
   pub after : IsAfter run.load c run.steps
   pub reached : c ≡ core_of run
 
 -- so many of the steps that were asked for move, one after the other from the load
-pub record HasMoved (asked : Result Asked LineFault) (moves : ℕ) : Type 0 where
-  pub run : Asked
+pub record HasMoved (asked : Result AskedRun LineFault) (moves : ℕ) : Type 0 where
+  pub run : AskedRun
   pub read : asked ≡ Ok run
   pub made : moves ≡ moves_made run.load run.steps
 
@@ -38,7 +38,7 @@ IsNoFault f = ⊥
 
 -- a text is the report of a machine's run, a good one, and the answer says whether every script is
 -- finished
-pub record IsOfMachine (c : Core) (finished : Bool) (text : List ℕ) : Type 0 where
+pub record IsRunOfMachine (c : Core) (finished : Bool) (text : List ℕ) : Type 0 where
   pub is : text ≡ text_of (machine_report c)
   pub good : GoodReport text
   pub value : finished ≡ all_finished c.state
@@ -49,9 +49,9 @@ pub record IsOfMachine (c : Core) (finished : Bool) (text : List ℕ) : Type 0 w
 -- which is that of the report's order lines (Herlihy and Wing, TOPLAS 12(3), 1990:
 -- linearizability), every processor has followed its script, and the answer says whether every
 -- script is finished.
-pub record IsRunText (asked : Result Asked LineFault) (finished : Bool) (text : List ℕ) : Type 0
+pub record IsRunText (asked : Result AskedRun LineFault) (finished : Bool) (text : List ℕ) : Type 0
   where
-    pub run : Asked
+    pub run : AskedRun
     pub read : asked ≡ Ok run
     pub is : text ≡ text_of (machine_report (core_of run))
     pub good : GoodReport text
@@ -61,5 +61,5 @@ pub record IsRunText (asked : Result Asked LineFault) (finished : Bool) (text : 
         ↔ AreFinished (run_of run.load run.steps) (length run.steps) run.load.scripts
 
 -- the report of the run was printed
-abbrev pub PrintsRun : Result Asked LineFault → Output → Output → Result Bool ProgramFault → Type 0
+abbrev pub PrintsRun : Result AskedRun LineFault → Output → Output → Result Bool ProgramFault → Type 0
 PrintsRun asked = Does (IsRunText asked) (IsTextsFault asked)

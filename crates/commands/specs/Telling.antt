@@ -4,14 +4,14 @@ use Rattle.std.specs.Prelude.{length}
 use Rattle.std.specs.Io.Iter.{u64_saturate}
 use Rattle.std.specs.List.{sum_by}
 use Rattle.script.specs.declared.fault.LineFault.{LineFault}
-use Rattle.order_abstract.specs.Load.{Load}
-use Rattle.core_progress.specs.Moves.{moves_made}
-use Rattle.core_machine.specs.Machine.{Core, shown}
+use Rattle.one_order.specs.Load.{Load}
+use Rattle.core_laws.specs.ProgressMoves.{moves_made}
+use Rattle.core_laws.specs.Machine.{Core, shown}
 use Rattle.program_fault.specs.declared.fault.ProgramFault.{ProgramFault}
 use Rattle.program_fault.specs.declared.fault.ProgramFault.TheVariants as program
 use Rattle.commands.specs.Calls.{Call, Wants, Made, Ended, Hears}
 use Rattle.commands.specs.Run.{Asked, HasMoved, core_of}
-use Rattle.clocked_laws.specs.Fewest.{AreFewestFrom, rounds_from}
+use Rattle.machine_core.specs.Fewest.{AreFewestFrom, rounds_from}
 use Rattle.commands.specs.Rounds.{asked_rounds}
 
 -- how many operations a machine has answered; at most u64::MAX
@@ -28,17 +28,17 @@ round_calls rounds answered false = Wants false ∷ []
 round_calls rounds answered true = Wants true ∷ Made rounds answered ∷ []
 
 -- these are the calls behind the first rounds, one round after the other
-abbrev pub AreCallsOf : Bool → Load → ℕ → List Call → Type 0
-AreCallsOf clocked l zero calls = calls ≡ []
-AreCallsOf clocked l (suc k) calls =
-    (before : List Call) × (wants : Bool) × AreCallsOf clocked l k before
+abbrev pub AreCallsOfCommand : Bool → Load → ℕ → List Call → Type 0
+AreCallsOfCommand clocked l zero calls = calls ≡ []
+AreCallsOfCommand clocked l (suc k) calls =
+    (before : List Call) × (wants : Bool) × AreCallsOfCommand clocked l k before
     × (calls ≡ before ++ round_calls (k + 1) (answered_after clocked l (k + 1)) wants)
 
 -- these are the calls behind the fewest rounds that finish every script, at most so many
 pub record AreRoundsCalls (clocked : Bool) (l : Load) (most : ℕ) (calls : List Call) : Type 0 where
   pub rounds : ℕ
   pub fewest : AreFewestFrom clocked l most rounds
-  pub each : AreCallsOf clocked l rounds calls
+  pub each : AreCallsOfCommand clocked l rounds calls
 
 -- these are all calls of the run in rounds of what was asked for: those behind its rounds, and the
 -- end, once, with the moves that all its rounds made
@@ -68,21 +68,21 @@ HearsNothing old new = (calls : List Call) → old calls → new calls
 
 -- a watcher gets all such calls, unless a text has a fault, or memory is wanting for the
 -- machine
-abbrev pub Tells : (List Call → Type 0) → (List Call → Type 0) → (List Call → Type 0)
+abbrev pub TellsCommand : (List Call → Type 0) → (List Call → Type 0) → (List Call → Type 0)
     → Result Bool ProgramFault → Type 0
-Tells are old new (Ok finished) = HearsSome are old new
-Tells are old new (Err program.Output) = HearsSome are old new
-Tells are old new (Err (program.Fault which)) = HearsSome are old new ⊎ HearsNothing old new
-Tells are old new (Err (program.Line found)) = HearsNothing old new
-Tells are old new (Err program.Tile) = ⊥
-Tells are old new (Err (program.Bad line)) = ⊥
+TellsCommand are old new (Ok finished) = HearsSome are old new
+TellsCommand are old new (Err program.Output) = HearsSome are old new
+TellsCommand are old new (Err (program.Fault which)) = HearsSome are old new ⊎ HearsNothing old new
+TellsCommand are old new (Err (program.Line found)) = HearsNothing old new
+TellsCommand are old new (Err program.Tile) = ⊥
+TellsCommand are old new (Err (program.Bad line)) = ⊥
 
 -- a watcher of a run in rounds is called at each round and at the end
 abbrev pub TellsRounds : Bool → Result Load LineFault → ℕ → (List Call → Type 0)
     → (List Call → Type 0) → Result Bool ProgramFault → Type 0
-TellsRounds clocked asked most = Tells (AreRunCalls clocked asked most)
+TellsRounds clocked asked most = TellsCommand (AreRunCalls clocked asked most)
 
 -- a watcher of a run of steps is called at its end
 abbrev pub TellsSteps : Result Asked LineFault → (List Call → Type 0) → (List Call → Type 0)
     → Result Bool ProgramFault → Type 0
-TellsSteps asked = Tells (AreStepsCalls asked)
+TellsSteps asked = TellsCommand (AreStepsCalls asked)

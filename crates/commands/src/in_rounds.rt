@@ -1,9 +1,9 @@
 ghost use Rattle.std.specs.Prelude.{◌≡◌, Bool, IfErr, IfOk, [], false};
 ghost use Rattle.std.specs.Str.Lines.{lines};
-ghost use Rattle.order_abstract.specs.Load.{Load};
-ghost use Rattle.core_machine.specs.Machine.{IsAfter, RunsOn};
+ghost use Rattle.one_order.specs.Load.{Load};
+ghost use Rattle.core_laws.specs.Machine.{IsAfter, RunsOn};
 ghost use Rattle.machine_core.specs.Loading.{HasLoaded, load_by};
-ghost use Rattle.clocked_laws.specs.Fewest.{round_behind};
+ghost use Rattle.machine_core.specs.Fewest.{round_behind};
 ghost use Rattle.program_fault.specs.Done.{Does, output};
 ghost use Rattle.program_fault.specs.Outcome.{IsReadFault, IsTextsFault};
 ghost use Rattle.commands.specs.Ends.{HasEndedRounds, ShowsReached};
@@ -14,7 +14,7 @@ ghost use Rattle.commands.specs.Telling.{AreRoundsCalls, HearsSome, TellsRounds,
 use crate::ProgramFault;
 use crate::ending::Ending;
 use crate::steps::{moves_since, print_run};
-use core_machine::laws::{
+use core_laws::machine_laws::{
     moves_are_counted, reached_machines_report_well, steps_decide_the_machine,
 };
 use machine_core::{Machine, load};

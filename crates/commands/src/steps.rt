@@ -3,13 +3,13 @@ ghost use Rattle.std.specs.Str.Lines.{lines};
 ghost use Rattle.program_fault.specs.Done.{Does, output};
 ghost use Rattle.program_fault.specs.Outcome.{IsReadFault, IsTextsFault};
 ghost use Rattle.commands.specs.Ends.{ShowsReached};
-ghost use Rattle.commands.specs.Run.{HasMoved, HasRun, IsOfMachine, IsNoFault, PrintsRun, asked_of};
+ghost use Rattle.commands.specs.Run.{HasMoved, HasRun, IsRunOfMachine, IsNoFault, PrintsRun, asked_of};
 ghost use Rattle.commands.specs.Telling.{TellsSteps};
 
 use crate::ProgramFault;
 use crate::ending::Ending;
 use crate::in_rounds::{Progress, Silent};
-use core_machine::laws::{moves_are_counted, steps_decide_the_machine};
+use core_laws::machine_laws::{moves_are_counted, steps_decide_the_machine};
 use machine_core::Machine;
 use machine_report::{of_run, write_report};
 use report_lines::Out;
@@ -114,7 +114,7 @@ pub(crate) fn print_run<A: Allocator + Copy, W: Out>(
     machine: &Machine<A>,
     out: &mut W,
 ) -> Result<bool, ProgramFault>
-    ensures { Does (IsOfMachine machine.now) IsNoFault
+    ensures { Does (IsRunOfMachine machine.now) IsNoFault
         (output (W.taken out.old) (W.failures out.old))
         (output (W.taken out.new) (W.failures out.new)) result }
 {

@@ -13,14 +13,14 @@ use Rattle.flit_buffer.specs.Surroundings.{Surroundings}
 use Rattle.channel_number.specs.Ports.{port_count}
 use Rattle.router.specs.Table.{RouterState, latch_of, wants_to_take, wants_to_put, router_wants, router_after}
 use Rattle.router.specs.Beginning.{router_wiring}
-use Rattle.script_follower.specs.ProcessorTable.{ProcessorState, processor_wants, processor_after}
+use Rattle.one_order.specs.ProcessorTable.{ProcessorState, processor_wants, processor_after}
 use Rattle.home_bank.specs.BankTable.{BankState, bank_wants, bank_after}
-use Rattle.tile_laws.specs.Wiring.{processor_wiring, bank_wiring}
-use Rattle.tile_laws.specs.declared.agent.Agent.{Agent}
-use Rattle.tile_laws.specs.declared.agent.Agent.TheVariants.{Processor, Router, Bank}
-use Rattle.tile_laws.specs.Tile.{Design, TileState, tile_step}
-use Rattle.tile_laws.specs.Agents.{agent_numbered, agent_kind, agent_tile}
-use Rattle.tile_laws.specs.Choices.{has_choice}
+use Rattle.tile.specs.Wiring.{processor_wiring, bank_wiring}
+use Rattle.tile.specs.declared.agent.Agent.{Agent}
+use Rattle.tile.specs.declared.agent.Agent.TheVariants.{Processor, Router, Bank}
+use Rattle.tile.specs.Tile.{Design, TileState, tile_step}
+use Rattle.tile.specs.Agents.{agent_numbered, agent_kind, agent_tile}
+use Rattle.tile.specs.Choices.{has_choice}
 use Rattle.core_laws.specs.Core.{State, step}
 use Rattle.core_laws.proofs.AgentSteps.{did, option_map_some}
 use Rattle.core_laws.proofs.RouterChoices.{if_true}

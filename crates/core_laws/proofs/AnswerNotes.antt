@@ -14,12 +14,12 @@ use Rattle.one_order.specs.Observed.{list_at}
 use Rattle.one_order.specs.Order.{LinearizationPoint}
 use Rattle.one_order.specs.Events.{push_at}
 use Rattle.one_order.proofs.Lists.{list_at_push_same, list_at_push_other}
-use Rattle.order_abstract.specs.Flight.{Takes, is_told_alike, told_place, IsFound}
-use Rattle.order_abstract.proofs.FirstPlaces.{first_removed}
+use Rattle.one_order.specs.Flight.{Takes, is_told_alike, told_place, IsFound}
+use Rattle.one_order.proofs.FirstPlaces.{first_removed}
 use Rattle.flit_buffer.specs.Surroundings.{ring}
 use Rattle.wormhole.specs.Net.{IsNet}
 use Rattle.channel_number.specs.Ports.{ejection_channel}
-use Rattle.tile_laws.specs.Tile.{Design}
+use Rattle.tile.specs.Tile.{Design}
 use Rattle.core_laws.specs.Core.{State}
 use Rattle.core_laws.proofs.Projection.{net_of}
 use Rattle.core_laws.proofs.TakesFound.{takes_found, taken_first}

@@ -11,7 +11,7 @@ use Rattle.torus.specs.declared.shape.Class.TheVariants.{Request, Reply}
 use Rattle.packet.specs.declared.kinds.Packet.TheVariants as packet
 use Rattle.packet.specs.declared.kinds.Response.{Response as Telling}
 use Rattle.packet.specs.declared.assembler.Offered.TheVariants.{Whole as Complete}
-use Rattle.script_follower.specs.Following.{is_finished}
+use Rattle.one_order.specs.Following.{is_finished}
 use Rattle.one_order.specs.Observed.{list_at}
 use Rattle.one_order.specs.Order.{LinearizationPoint}
 use Rattle.one_order.specs.Events.{points_of, push_at}
@@ -28,15 +28,15 @@ use Rattle.wormhole.specs.State.{NetLine as Lane, Note}
 use Rattle.wormhole.specs.Events.{accepted, after}
 use Rattle.wormhole.specs.Delivery.{whole, whole_of}
 use Rattle.wormhole.proofs.Changes.{update_same, update_other}
-use Rattle.script_follower.specs.ProcessorRecord.{ProcessorRecord, answered_by, answer_of}
-use Rattle.order_abstract.specs.Flight.{Flight, Takes, event, told_place, IsFound}
-use Rattle.order_abstract.proofs.Whole.{Whole, any_steps}
+use Rattle.one_order.specs.ProcessorRecord.{ProcessorRecord, answered_by, answer_of}
+use Rattle.one_order.specs.Flight.{Flight, Takes, event, told_place, IsFound}
+use Rattle.one_order.proofs.Whole.{Whole, any_steps}
 use Rattle.packet.specs.Flits.{offered}
 use Rattle.core_laws.specs.Heads.{carries_route}
 use Rattle.home_bank.specs.BankTable.{BankState}
 use Rattle.router.specs.Table.{RouterState, output_owned}
 use Rattle.channel_number.specs.Ports.{injection_channel, ejection_channel}
-use Rattle.tile_laws.specs.Tile.{Design, TileState}
+use Rattle.tile.specs.Tile.{Design, TileState}
 use Rattle.core_laws.specs.Core.{State}
 use Rattle.core_laws.proofs.Projection.{net_of, response_parcel}
 use Rattle.core_laws.proofs.ChannelFacts.{ejection_is, ejection_in, ejection_tile, is_tail_of}

@@ -3,15 +3,15 @@ use Rattle.std.proofs.Common.{◌≡◌, ℕ, ◌<◌, List, Some, sym, subst, s
 use Rattle.std.proofs.lemmas.Option.{slice_get_within, get_or_from_slice_get}
 use Rattle.torus.specs.Shape.{tiles_of}
 use Rattle.torus.specs.declared.step.Step.{Step}
-use Rattle.script.specs.Scripts.{script_of}
+use Rattle.script_lines.specs.Lines.{script_of}
 use Rattle.one_order.specs.Events.{order_after}
 use Rattle.channel_number.specs.Ports.{input_channel}
-use Rattle.tile_laws.specs.Tile.{Design, TileState}
+use Rattle.tile.specs.Tile.{Design, TileState}
 use Rattle.core_laws.specs.Core.{Load, State, design_of}
 use Rattle.core_laws.specs.Runs.{IsAcceptedLoad}
 use Rattle.core_laws.specs.Asks.{RouterAsks, ProcessorAsks, BankAsks}
 use Rattle.core_laws.specs.Noted.{noted}
-use Rattle.core_laws.proofs.Asking.{router_asks, processor_finds, bank_finds, waiting_here}
+use Rattle.core_laws.proofs.AskedWords.{router_asks, processor_finds, bank_finds, waiting_here}
 use Rattle.core_laws.proofs.HeadWords.{bank_head}
 use Rattle.core_laws.proofs.Rooms.{bank_room, issue_room}
 use Rattle.core_laws.proofs.SendFacts.{ready_parts}

@@ -20,15 +20,15 @@ use Rattle.flit_buffer.specs.declared.want.Want.{Want}
 use Rattle.flit_buffer.specs.declared.want.Want.TheVariants as want
 use Rattle.flit_buffer.specs.Surroundings.{Surroundings, ring, granted, surroundings_after}
 use Rattle.wormhole.specs.Net.{IsNet}
-use Rattle.order_abstract.specs.Flight.{Serves}
+use Rattle.one_order.specs.Flight.{Serves}
 use Rattle.packet.specs.Flits.{is_tail, offered}
 use Rattle.core_laws.specs.Heads.{carries_route}
 use Rattle.home_bank.specs.BankTable.{BankState, bank_wants, bank_after, is_nil, waiting_offered}
 use Rattle.channel_number.specs.Ports.{injection_channel, ejection_channel}
-use Rattle.tile_laws.specs.Wiring.{bank_wiring}
-use Rattle.tile_laws.specs.declared.agent.Agent.TheVariants.{Bank}
-use Rattle.tile_laws.specs.Tile.{Design, tile_step}
-use Rattle.tile_laws.specs.Agents.{agent_kind}
+use Rattle.tile.specs.Wiring.{bank_wiring}
+use Rattle.tile.specs.declared.agent.Agent.TheVariants.{Bank}
+use Rattle.tile.specs.Tile.{Design, tile_step}
+use Rattle.tile.specs.Agents.{agent_kind}
 use Rattle.core_laws.specs.Core.{State, next}
 use Rattle.core_laws.specs.Moves.{bank_move, tile_move, move_of}
 use Rattle.core_laws.proofs.Projection.{net_of, first_flit}

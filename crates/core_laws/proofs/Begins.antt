@@ -11,9 +11,9 @@ use Rattle.torus.specs.declared.step.OpId.{OpId}
 use Rattle.packet.specs.declared.kinds.Operation.{Operation}
 use Rattle.packet.specs.declared.kinds.Request.{Request as Asking}
 use Rattle.packet.specs.declared.kinds.Response.{Response as Telling}
-use Rattle.script.specs.declared.line.Line.{Line}
+use Rattle.script_lines.specs.declared.line.Line.{Line}
 use Rattle.home_bank.specs.declared.entry.Entry.{Entry}
-use Rattle.script_follower.specs.Following.{first_of, is_finished}
+use Rattle.one_order.specs.Following.{first_of, is_finished}
 use Rattle.one_order.specs.declared.answer.Answer.{Answer}
 use Rattle.one_order.specs.Observed.{Observed, list_at}
 use Rattle.one_order.specs.Events.{nothing_yet}
@@ -25,15 +25,15 @@ use Rattle.flit_buffer.specs.Surroundings.{ring, no_ring}
 use Rattle.wormhole.specs.Net.{Parcel}
 use Rattle.wormhole.specs.State.{empty, empty_line}
 use Rattle.wormhole.proofs.Reached.{words_empty, routes_empty}
-use Rattle.script_follower.specs.ProcessorRecord.{ProcessorRecord, no_processor}
-use Rattle.order_abstract.proofs.Whole.{Whole}
-use Rattle.order_abstract.proofs.Parts.{tags_of, same_shown}
-use Rattle.order_abstract.proofs.Counts.{home_total_none}
-use Rattle.order_abstract.proofs.Telling.{telling_none}
-use Rattle.order_abstract.proofs.Transport.{Holds, sound_none}
+use Rattle.one_order.specs.ProcessorRecord.{ProcessorRecord, no_processor}
+use Rattle.one_order.proofs.Whole.{Whole}
+use Rattle.one_order.proofs.Parts.{tags_of, same_shown}
+use Rattle.one_order.proofs.Counts.{home_total_none}
+use Rattle.one_order.proofs.Telling.{telling_none}
+use Rattle.one_order.proofs.Transport.{Holds, sound_none}
 use Rattle.channel_number.specs.Ports.{port_count, input_channel}
 use Rattle.router.specs.Table.{latch_of, output_owned}
-use Rattle.tile_laws.specs.Tile.{Design, TileState}
+use Rattle.tile.specs.Tile.{Design, TileState}
 use Rattle.core_laws.specs.Core.{Load, design_of, first_state, first_tile, show}
 use Rattle.core_laws.proofs.Projection.{net_of, request_parcel, response_parcel}
 use Rattle.core_laws.proofs.ResponseLists.{no_head}

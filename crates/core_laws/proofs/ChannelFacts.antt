@@ -14,9 +14,9 @@ use Rattle.channel_number.specs.Order.{channel_count, channels_at_tile, class_pl
 use Rattle.packet.specs.Flits.{is_tail}
 use Rattle.core_laws.specs.Heads.{carries_route}
 use Rattle.channel_number.specs.Ports.{injection_channel, ejection_channel, is_injection, is_ejection}
-use Rattle.tile_laws.specs.Tile.{Design}
+use Rattle.tile.specs.Tile.{Design}
 use Rattle.core_laws.proofs.Projection.{net_of}
-use Rattle.wormhole_torus.specs.TorusNet.{same_class as is_same_class, joins_in}
+use Rattle.core_laws.specs.TorusNet.{same_class as is_same_class, joins_in}
 use Rattle.channel_number.proofs.Decoding.{kind_by, class_by}
 
 injection_place : (n : ℕ) (class : Class) → (class_of_place n (8 * n + class_place class) ≡ class) × (kind_of_place n (8 * n + class_place class) ≡ Injection)

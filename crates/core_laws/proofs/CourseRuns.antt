@@ -2,15 +2,15 @@
 use Rattle.std.proofs.Common.{◌≡◌, ℕ, suc, List, [], ◌∷◌, map, length, IfSome, refl, ◌∙◌, ap, slice_get}
 use Rattle.torus.specs.Shape.{tiles_of, dims_of}
 use Rattle.torus.specs.declared.step.Step.{Step}
-use Rattle.script.specs.declared.line.Line.{Line}
+use Rattle.script_lines.specs.declared.line.Line.{Line}
 use Rattle.one_order.specs.Observed.{Observed}
 use Rattle.one_order.specs.Events.{order_after}
 use Rattle.wormhole.specs.Events.{CanHappen}
-use Rattle.script_follower.specs.ProcessorRecord.{ProcessorRecord}
-use Rattle.order_abstract.specs.Flight.{moved_by}
-use Rattle.script_follower.specs.ProcessorRecord.{first_record}
-use Rattle.order_abstract.specs.Courses.{IsCourse, first_flight}
-use Rattle.tile_laws.specs.Tile.{Design}
+use Rattle.one_order.specs.ProcessorRecord.{ProcessorRecord}
+use Rattle.one_order.specs.Flight.{moved_by}
+use Rattle.one_order.specs.ProcessorRecord.{first_record}
+use Rattle.one_order.specs.Courses.{IsCourse, first_flight}
+use Rattle.tile.specs.Tile.{Design}
 use Rattle.core_laws.specs.Core.{Load, State, design_of, first_tile, first_state}
 use Rattle.core_laws.specs.Runs.{IsAcceptedLoad}
 use Rattle.core_laws.specs.Network.{net_of}

@@ -9,8 +9,8 @@ use Rattle.one_order.specs.Consequences.{ServesInTurn, AnswersInTurn}
 use Rattle.one_order.proofs.IssueNumbers.{rows_of, one_order}
 use Rattle.one_order.proofs.InTurn.{serves_in_turn}
 use Rattle.one_order.proofs.AnswersInTurn.{answers_in_turn}
-use Rattle.order_abstract.specs.Scripts.{FollowScripts}
-use Rattle.tile_laws.specs.Tile.{Design}
+use Rattle.one_order.specs.AbstractScripts.{FollowScripts}
+use Rattle.tile.specs.Tile.{Design}
 use Rattle.core_laws.specs.Core.{Load, design_of, run_of}
 use Rattle.core_laws.specs.Delivery.{DeliversPackets}
 use Rattle.core_laws.specs.Noted.{noted}

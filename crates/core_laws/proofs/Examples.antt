@@ -8,14 +8,14 @@ use Rattle.packet.specs.Flit.{field}
 use Rattle.packet.specs.declared.kinds.Op.TheVariants as op
 use Rattle.packet.specs.declared.kinds.Operation.{Operation}
 use Rattle.packet.specs.declared.kinds.Reply.TheVariants.{Old, Ok as Stored}
-use Rattle.script.specs.declared.line.Line.TheVariants as line
-use Rattle.script.specs.declared.line.Line.{Line}
-use Rattle.script.specs.declared.line.Value.TheVariants.{Number}
-use Rattle.script_follower.specs.Following.{first_of, next_operation_of, after_issue, after_answer, is_finished}
+use Rattle.script_lines.specs.declared.line.Line.TheVariants as line
+use Rattle.script_lines.specs.declared.line.Line.{Line}
+use Rattle.script_lines.specs.declared.line.Value.TheVariants.{Number}
+use Rattle.one_order.specs.Following.{first_of, next_operation_of, after_issue, after_answer, is_finished}
 use Rattle.flit_buffer.specs.Surroundings.{ring}
 use Rattle.packet.specs.Flits.{offered, flits_of}
 use Rattle.wormhole.specs.Events.{ForwardHead, ForwardRest}
-use Rattle.order_abstract.specs.Flight.{Sends}
+use Rattle.one_order.specs.Flight.{Sends}
 use Rattle.core_laws.specs.Asks.{flit_found}
 use Rattle.core_laws.specs.Core.{Load, first_state, first_tile, after, show, round}
 use Rattle.core_laws.specs.Moves.{issue_of, processor_move}

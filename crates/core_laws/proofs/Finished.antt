@@ -3,9 +3,9 @@ use Rattle.std.proofs.Common.{◌≡◌, ℕ, zero, suc, ◌+◌, ◌==◌, Bool
 use Rattle.std.specs.Prelude.{◌&&◌}
 use Rattle.std.proofs.lemmas.Bool.{ne_eqb}
 use Rattle.packet.specs.declared.kinds.Reply.{Reply as Answering}
-use Rattle.script.specs.declared.line.Line.{Line}
-use Rattle.script_follower.specs.declared.spin.OpenSpin.{OpenSpin}
-use Rattle.script_follower.specs.Following.{Following, is_finished, is_empty, after_answer, last_answered, other_answered}
+use Rattle.script_lines.specs.declared.line.Line.{Line}
+use Rattle.one_order.specs.declared.spin.OpenSpin.{OpenSpin}
+use Rattle.one_order.specs.Following.{Following, is_finished, is_empty, after_answer, last_answered, other_answered}
 
 finished_parts : (spin : Option OpenSpin) (ahead : List Line) (issued waiting : ℕ) (last : Option Answering) (i : ℕ) (reply : Answering)
     → is_empty ahead && is_none spin && (waiting == 0) ≡ true

@@ -14,16 +14,16 @@ use Rattle.home_bank.specs.declared.entry.Entry.{Entry}
 use Rattle.home_bank.specs.ServiceList.{address_of, entry_of}
 use Rattle.one_order.specs.Events.{push_at}
 use Rattle.flit_buffer.specs.Surroundings.{Surroundings}
-use Rattle.script_follower.specs.ProcessorRecord.{ProcessorRecord, no_processor, issued_by, answered_by}
-use Rattle.order_abstract.specs.Flight as flight
-use Rattle.order_abstract.specs.Flight.{Flight, Move, Sends, Serves, Takes, moved, moved_by, processor_at}
-use Rattle.script_follower.specs.ProcessorTable.{ProcessorState, processor_wants, processor_after}
+use Rattle.one_order.specs.ProcessorRecord.{ProcessorRecord, no_processor, issued_by, answered_by}
+use Rattle.one_order.specs.Flight as flight
+use Rattle.one_order.specs.Flight.{Flight, Move, Sends, Serves, Takes, moved, moved_by, processor_at}
+use Rattle.one_order.specs.ProcessorTable.{ProcessorState, processor_wants, processor_after}
 use Rattle.home_bank.specs.BankTable.{BankState, bank_wants, bank_after}
-use Rattle.tile_laws.specs.Wiring.{processor_wiring, bank_wiring}
-use Rattle.tile_laws.specs.declared.agent.Agent.{Agent}
-use Rattle.tile_laws.specs.declared.agent.Agent.TheVariants.{Processor, Router, Bank}
-use Rattle.tile_laws.specs.Tile.{Design, TileState, tile_step}
-use Rattle.tile_laws.specs.Agents.{agent_kind, agent_tile}
+use Rattle.tile.specs.Wiring.{processor_wiring, bank_wiring}
+use Rattle.tile.specs.declared.agent.Agent.{Agent}
+use Rattle.tile.specs.declared.agent.Agent.TheVariants.{Processor, Router, Bank}
+use Rattle.tile.specs.Tile.{Design, TileState, tile_step}
+use Rattle.tile.specs.Agents.{agent_kind, agent_tile}
 use Rattle.core_laws.specs.Core.{State, next, or_same, records_of, show}
 use Rattle.core_laws.specs.Moves.{tile_move, move_of, processor_move, bank_move}
 use Rattle.core_laws.proofs.AgentSteps.{refused, option_map_none}

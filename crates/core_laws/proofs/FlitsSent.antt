@@ -19,9 +19,9 @@ use Rattle.channel_number.specs.Order.{channel_count, channels_at_tile, channel_
 use Rattle.one_order.specs.Observed.{list_at}
 use Rattle.one_order.specs.Order.{LinearizationPoint}
 use Rattle.channel_number.specs.Ports.{is_injection, is_ejection, injection_channel}
-use Rattle.wormhole_torus.specs.TorusNet.{same_class as is_same_class, joins_in}
+use Rattle.core_laws.specs.TorusNet.{same_class as is_same_class, joins_in}
 use Rattle.channel_number.proofs.Decoding.{kind_by}
-use Rattle.wormhole_torus.proofs.Numbers.{number_below}
+use Rattle.core_laws.proofs.Numbers.{number_below}
 use Rattle.wormhole.specs.Net.{Net, Parcel, IsParcel, IsOn, net_flits as flits_in, flits_of_all}
 use Rattle.wormhole.specs.State.{NetState, in_line}
 use Rattle.wormhole.specs.Words.{Words}
@@ -30,7 +30,7 @@ use Rattle.wormhole.proofs.FlitsHold.{HoldsOfNoted, line_holds}
 use Rattle.wormhole.proofs.Lists.{all_on, on_left}
 use Rattle.wormhole.proofs.Arrivals.{was_sent, begun_was_sent}
 use Rattle.packet.specs.Flits.{flits_of}
-use Rattle.tile_laws.specs.Tile.{Design}
+use Rattle.tile.specs.Tile.{Design}
 use Rattle.core_laws.specs.Core.{State}
 use Rattle.core_laws.proofs.Projection.{net_of, request_parcel, response_parcel, parcel_of}
 use Rattle.core_laws.proofs.Parcels.{parcel_flits}

@@ -3,16 +3,16 @@ use Rattle.std.proofs.Common.{◌≡◌, ℕ, ◌+◌, ◌-◌, ◌^◌, ◌<◌
 use Rattle.std.proofs.lemmas.Bool.{cond_both}
 use Rattle.packet.specs.declared.kinds.Reply.{Reply}
 use Rattle.packet.specs.declared.kinds.Operation.{Operation}
-use Rattle.script.specs.declared.line.Line.{Line}
-use Rattle.script.specs.declared.line.Line.TheVariants as line
-use Rattle.script.specs.Scripts.{IsAcceptedLine, IsAcceptedScript, operation_count}
-use Rattle.script_follower.specs.declared.spin.OpenSpin.{OpenSpin}
-use Rattle.script_follower.specs.Scripts.{reply_number}
-use Rattle.script_follower.specs.Following.{Following, first_of, next_operation_of, after_issue, after_answer, last_answered, other_answered, loads_left}
-use Rattle.script_follower.specs.Following.{spin_issued, spin_answered}
-use Rattle.script_follower.proofs.Residual.{BeginsWithLoads, WantsLoad}
-use Rattle.script_follower.proofs.Places.{Each, each_from, each_past_fences, each_issued, each_unfenced, count_past_fences, count_unfenced, left_issued}
-use Rattle.script_follower.proofs.Places.{left_answered, wants_left, wants_none, wants_answered, spin_answered_cases}
+use Rattle.script_lines.specs.declared.line.Line.{Line}
+use Rattle.script_lines.specs.declared.line.Line.TheVariants as line
+use Rattle.script_lines.specs.Lines.{IsAcceptedLine, IsAcceptedScript, operation_count}
+use Rattle.one_order.specs.declared.spin.OpenSpin.{OpenSpin}
+use Rattle.one_order.specs.Scripts.{reply_number}
+use Rattle.one_order.specs.Following.{Following, first_of, next_operation_of, after_issue, after_answer, last_answered, other_answered, loads_left}
+use Rattle.one_order.specs.Following.{spin_issued, spin_answered}
+use Rattle.one_order.proofs.Residual.{BeginsWithLoads, WantsLoad}
+use Rattle.one_order.proofs.Places.{Each, each_from, each_past_fences, each_issued, each_unfenced, count_past_fences, count_unfenced, left_issued}
+use Rattle.one_order.proofs.Places.{left_answered, wants_left, wants_none, wants_answered, spin_answered_cases}
 use Rattle.core_laws.proofs.ValueBounds.{Known, IsInside, IsSpinInside, ready_inside}
 
 -- the lines ahead and the spin are of words of the memory, the last reply is of 64 bits, and what is issued and what is left are at most `most` operations

@@ -8,8 +8,8 @@ use Rattle.packet.specs.declared.kinds.Request.{Request as Asking}
 use Rattle.packet.specs.Memory.{reply_to}
 use Rattle.home_bank.specs.ServiceList.{address_of, response_of}
 use Rattle.one_order.specs.Order.{LinearizationPoint}
-use Rattle.script_follower.specs.ProcessorRecord.{ready, request_of}
-use Rattle.tile_laws.specs.Tile.{Design}
+use Rattle.one_order.specs.ProcessorRecord.{ready, request_of}
+use Rattle.tile.specs.Tile.{Design}
 use Rattle.core_laws.specs.Core.{State, next}
 use Rattle.core_laws.specs.Moves.{move_of}
 use Rattle.core_laws.specs.Network.{network_event}

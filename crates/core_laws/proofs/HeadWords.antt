@@ -24,9 +24,9 @@ use Rattle.wormhole.specs.Net.{IsOn, Parcel, net_flits as flits_in}
 use Rattle.wormhole.proofs.FlitsHold.{HoldsOfNoted, line_holds, sent_holds}
 use Rattle.wormhole.proofs.Lists.{all_on, on_left, all_right}
 use Rattle.channel_number.specs.Ports.{injection_channel, ejection_channel}
-use Rattle.order_abstract.proofs.Parts.{issued_at}
-use Rattle.script_follower.specs.ProcessorRecord.{ProcessorRecord}
-use Rattle.tile_laws.specs.Tile.{Design}
+use Rattle.one_order.proofs.Parts.{issued_at}
+use Rattle.one_order.specs.ProcessorRecord.{ProcessorRecord}
+use Rattle.tile.specs.Tile.{Design}
 use Rattle.core_laws.specs.Core.{State}
 use Rattle.core_laws.specs.Delivery.{next_flit, asked_operation}
 use Rattle.core_laws.specs.Asks.{flit_found}

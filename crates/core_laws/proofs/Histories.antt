@@ -2,8 +2,8 @@
 use Rattle.std.proofs.Common.{◌≡◌, ℕ, zero, suc, List, [], ◌∷◌, length, take, Option, Some, None, refl, slice_get}
 use Rattle.torus.specs.declared.step.Step.{Step}
 use Rattle.one_order.specs.Events.{Event}
-use Rattle.order_abstract.specs.Flight.{Move, flight_event}
-use Rattle.tile_laws.specs.Tile.{Design}
+use Rattle.one_order.specs.Flight.{Move, flight_event}
+use Rattle.tile.specs.Tile.{Design}
 use Rattle.core_laws.specs.Core.{Load, State, design_of, next, after_from, after}
 use Rattle.core_laws.specs.Moves.{move_of}
 use Rattle.core_laws.proofs.FlightSteps.{flight_with}

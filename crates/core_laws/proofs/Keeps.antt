@@ -28,17 +28,17 @@ use Rattle.flit_buffer.specs.declared.want.Want.TheVariants as want
 use Rattle.flit_buffer.specs.Wants.{told_by}
 use Rattle.flit_buffer.specs.Surroundings.{Surroundings, ring, granted, surroundings_after}
 use Rattle.wormhole.specs.Net.{IsNet}
-use Rattle.script_follower.specs.ProcessorRecord.{ProcessorRecord, ready, request_of}
-use Rattle.order_abstract.specs.Flight.{Move, Sends, Serves, Takes, flight_event}
+use Rattle.one_order.specs.ProcessorRecord.{ProcessorRecord, ready, request_of}
+use Rattle.one_order.specs.Flight.{Move, Sends, Serves, Takes, flight_event}
 use Rattle.packet.specs.Flits.{offered, flits_of}
-use Rattle.script_follower.specs.ProcessorTable.{ProcessorState, processor_wants, processor_after, flits_due, record_sent, record_offered, issued_of}
+use Rattle.one_order.specs.ProcessorTable.{ProcessorState, processor_wants, processor_after, flits_due, record_sent, record_offered, issued_of}
 use Rattle.home_bank.specs.BankTable.{BankState, bank_wants, bank_after, served}
 use Rattle.channel_number.specs.Ports.{injection_channel, ejection_channel}
-use Rattle.tile_laws.specs.Wiring.{processor_wiring, bank_wiring}
-use Rattle.tile_laws.specs.declared.agent.Agent.{Agent}
-use Rattle.tile_laws.specs.declared.agent.Agent.TheVariants.{Processor, Router, Bank}
-use Rattle.tile_laws.specs.Tile.{Design, TileState, tile_step}
-use Rattle.tile_laws.specs.Agents.{agent_kind, agent_tile}
+use Rattle.tile.specs.Wiring.{processor_wiring, bank_wiring}
+use Rattle.tile.specs.declared.agent.Agent.{Agent}
+use Rattle.tile.specs.declared.agent.Agent.TheVariants.{Processor, Router, Bank}
+use Rattle.tile.specs.Tile.{Design, TileState, tile_step}
+use Rattle.tile.specs.Agents.{agent_kind, agent_tile}
 use Rattle.core_laws.specs.Heads.{carries_route}
 use Rattle.core_laws.specs.Core.{State, next, or_same}
 use Rattle.core_laws.specs.Moves.{learned_by, issue_of, processor_move, bank_move, tile_move, move_of}

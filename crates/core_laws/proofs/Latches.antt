@@ -14,7 +14,7 @@ use Rattle.wormhole.specs.Events.{Latch, CanLatch, taken}
 use Rattle.wormhole.proofs.Changes.{update_same, update_other}
 use Rattle.router.specs.Table.{RouterState, latch_of}
 use Rattle.channel_number.specs.Ports.{port_count, input_channel, output_channel}
-use Rattle.tile_laws.specs.Tile.{Design}
+use Rattle.tile.specs.Tile.{Design}
 use Rattle.core_laws.specs.Core.{State}
 use Rattle.core_laws.proofs.Projection.{net_of}
 use Rattle.core_laws.proofs.ChannelFacts.{channels_of}

@@ -1,8 +1,8 @@
 -- The machine's network is one.
 use Rattle.torus.specs.Shape.{IsAccepted}
 use Rattle.wormhole.specs.Net.{IsNet}
-use Rattle.wormhole_torus.proofs.Facts.{is_net}
-use Rattle.tile_laws.specs.Tile.{Design}
+use Rattle.core_laws.proofs.Facts.{is_net}
+use Rattle.tile.specs.Tile.{Design}
 use Rattle.core_laws.proofs.Projection.{net_of}
 
 pub network : (d : Design) → IsAccepted d.shape → IsNet (net_of d)

@@ -15,7 +15,7 @@ use Rattle.wormhole.proofs.Takes.{is_taken}
 use Rattle.packet.specs.Flits.{flits_of}
 use Rattle.core_laws.specs.Heads.{carries_route}
 use Rattle.channel_number.specs.Ports.{injection_channel, ejection_channel}
-use Rattle.tile_laws.specs.Tile.{Design}
+use Rattle.tile.specs.Tile.{Design}
 use Rattle.core_laws.specs.Core.{State}
 use Rattle.core_laws.proofs.Projection.{net_of, response_parcel}
 use Rattle.core_laws.proofs.Parcels.{parcel_flits}

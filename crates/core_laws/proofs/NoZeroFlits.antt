@@ -23,13 +23,13 @@ use Rattle.wormhole.specs.Net.{IsOn, Parcel, net_flits as flits_in}
 use Rattle.wormhole.proofs.FlitsHold.{HoldsOfNoted, latch_holds, sent_holds}
 use Rattle.wormhole.proofs.Lists.{all_on, on_left}
 use Rattle.channel_number.specs.Ports.{is_injection, is_ejection, port_count, injection_channel, input_channel}
-use Rattle.wormhole_torus.specs.TorusNet.{same_class, joins_in}
+use Rattle.core_laws.specs.TorusNet.{same_class, joins_in}
 use Rattle.channel_number.proofs.Decoding.{kind_by}
-use Rattle.wormhole_torus.proofs.Numbers.{number_below}
+use Rattle.core_laws.proofs.Numbers.{number_below}
 use Rattle.packet.specs.Flits.{flits_of}
 use Rattle.core_laws.specs.Heads.{carries_route}
 use Rattle.router.specs.Table.{latch_of}
-use Rattle.tile_laws.specs.Tile.{Design}
+use Rattle.tile.specs.Tile.{Design}
 use Rattle.core_laws.specs.Core.{State}
 use Rattle.core_laws.proofs.Projection.{net_of, request_parcel, response_parcel}
 use Rattle.core_laws.proofs.ChannelFacts.{injects_at, injection_from}

@@ -3,10 +3,10 @@ use Rattle.std.proofs.Common.{◌≡◌, ℕ, zero, suc, ◌<◌, arith, List, l
 use Rattle.std.proofs.lemmas.List.{length-map}
 use Rattle.torus.specs.Shape.{tiles_of}
 use Rattle.torus.specs.declared.step.Step.{Step}
-use Rattle.script.specs.declared.line.Line.{Line}
-use Rattle.script_follower.specs.ProcessorRecord.{no_processor}
+use Rattle.script_lines.specs.declared.line.Line.{Line}
+use Rattle.one_order.specs.ProcessorRecord.{no_processor}
 use Rattle.one_order.specs.Events.{order_after}
-use Rattle.tile_laws.specs.Tile.{TileState}
+use Rattle.tile.specs.Tile.{TileState}
 use Rattle.core_laws.specs.Core.{Load, run_of}
 use Rattle.core_laws.specs.Runs.{IsAcceptedLoad}
 use Rattle.core_laws.specs.Noted.{flight_after, move_after}

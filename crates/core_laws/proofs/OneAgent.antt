@@ -8,12 +8,12 @@ use Rattle.torus.specs.declared.step.Choice.{Choice}
 use Rattle.flit_buffer.specs.Surroundings.{Surroundings}
 use Rattle.router.specs.Table.{RouterState, router_wants, router_after}
 use Rattle.router.specs.Beginning.{router_wiring}
-use Rattle.script_follower.specs.ProcessorTable.{ProcessorState, processor_wants, processor_after}
+use Rattle.one_order.specs.ProcessorTable.{ProcessorState, processor_wants, processor_after}
 use Rattle.home_bank.specs.BankTable.{BankState, bank_wants, bank_after}
-use Rattle.tile_laws.specs.Wiring.{processor_wiring, bank_wiring}
-use Rattle.tile_laws.specs.declared.agent.Agent.TheVariants.{Processor, Router, Bank}
-use Rattle.tile_laws.specs.Tile.{Design, TileState, tile_step}
-use Rattle.tile_laws.specs.Agents.{agent_tile}
+use Rattle.tile.specs.Wiring.{processor_wiring, bank_wiring}
+use Rattle.tile.specs.declared.agent.Agent.TheVariants.{Processor, Router, Bank}
+use Rattle.tile.specs.Tile.{Design, TileState, tile_step}
+use Rattle.tile.specs.Agents.{agent_tile}
 use Rattle.core_laws.specs.Core.{State, step}
 use Rattle.core_laws.specs.Touches.{ProcessorAlone, RouterAlone, BankAlone}
 use Rattle.core_laws.proofs.AgentSteps.{did, option_map_some}

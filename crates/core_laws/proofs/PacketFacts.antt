@@ -10,7 +10,7 @@ use Rattle.packet.proofs.Shapes.{TellsPacket-spelled, tail_bit-head, IsTailShape
 use Rattle.wormhole.specs.Net.{Parcel, IsParcel, EndsWithTail, has_no_flit}
 use Rattle.packet.specs.Flits.{is_tail, flits_of}
 use Rattle.channel_number.specs.Ports.{injection_channel, ejection_channel}
-use Rattle.tile_laws.specs.Tile.{Design}
+use Rattle.tile.specs.Tile.{Design}
 use Rattle.core_laws.proofs.Projection.{net_of, parcel_of}
 use Rattle.core_laws.proofs.Parcels.{parcel_flits}
 use Rattle.core_laws.proofs.ChannelFacts.{joined}

@@ -14,22 +14,22 @@ use Rattle.packet.specs.declared.kinds.Operation.{Operation}
 use Rattle.packet.specs.declared.kinds.Packet.TheVariants as packet
 use Rattle.packet.specs.declared.assembler.Offered.{Offered}
 use Rattle.packet.specs.Answer.{flits_left}
-use Rattle.script_follower.specs.Following.{is_finished}
+use Rattle.one_order.specs.Following.{is_finished}
 use Rattle.one_order.specs.Order.{LinearizationPoint}
 use Rattle.flit_buffer.specs.Channel.{first_of, rest}
 use Rattle.flit_buffer.specs.declared.want.Want.{Want}
 use Rattle.flit_buffer.specs.declared.want.Want.TheVariants as want
 use Rattle.flit_buffer.specs.Surroundings.{Surroundings, ring, granted, surroundings_after}
 use Rattle.wormhole.specs.Net.{IsNet}
-use Rattle.script_follower.specs.ProcessorRecord.{ready}
-use Rattle.order_abstract.specs.Flight.{Move, Takes}
+use Rattle.one_order.specs.ProcessorRecord.{ready}
+use Rattle.one_order.specs.Flight.{Move, Takes}
 use Rattle.packet.specs.Flits.{is_tail, offered}
-use Rattle.script_follower.specs.ProcessorTable.{ProcessorState, processor_wants, processor_after, flits_due, record_sent, record_offered}
+use Rattle.one_order.specs.ProcessorTable.{ProcessorState, processor_wants, processor_after, flits_due, record_sent, record_offered}
 use Rattle.channel_number.specs.Ports.{injection_channel, ejection_channel}
-use Rattle.tile_laws.specs.Wiring.{processor_wiring}
-use Rattle.tile_laws.specs.declared.agent.Agent.TheVariants.{Processor}
-use Rattle.tile_laws.specs.Tile.{Design, tile_step}
-use Rattle.tile_laws.specs.Agents.{agent_kind}
+use Rattle.tile.specs.Wiring.{processor_wiring}
+use Rattle.tile.specs.declared.agent.Agent.TheVariants.{Processor}
+use Rattle.tile.specs.Tile.{Design, tile_step}
+use Rattle.tile.specs.Agents.{agent_kind}
 use Rattle.core_laws.specs.Core.{State, next}
 use Rattle.core_laws.specs.Moves.{processor_move, answer_by, issue_of, tile_move, move_of}
 use Rattle.core_laws.proofs.Projection.{net_of}

@@ -19,7 +19,7 @@ use Rattle.wormhole.proofs.Routers.{latched}
 use Rattle.packet.specs.Flits.{is_tail, head_of}
 use Rattle.router.specs.Table.{RouterState, latch_of, output_owned, is_owned, way_of}
 use Rattle.channel_number.specs.Ports.{port_count, ejection_channel, input_channel, output_channel}
-use Rattle.tile_laws.specs.Tile.{Design}
+use Rattle.tile.specs.Tile.{Design}
 use Rattle.core_laws.specs.Core.{State}
 use Rattle.core_laws.proofs.Projection.{net_of}
 use Rattle.core_laws.proofs.ChannelFacts.{channels_of, is_head_of}

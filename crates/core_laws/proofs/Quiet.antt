@@ -5,7 +5,7 @@ use Rattle.std.proofs.lemmas.Bool.{cases_eq}
 use Rattle.std.proofs.lemmas.Option.{slice_get-get_or}
 use Rattle.torus.specs.Shape.{tiles_of}
 use Rattle.torus.specs.declared.shape.Class.TheVariants.{Request, Reply}
-use Rattle.script_follower.specs.Following.{is_finished}
+use Rattle.one_order.specs.Following.{is_finished}
 use Rattle.one_order.specs.Order.{LinearizationPoint}
 use Rattle.channel_number.specs.Order.{channel_count}
 use Rattle.flit_buffer.specs.Places.{Ring, IsRing, credit_of_ring}
@@ -18,13 +18,13 @@ use Rattle.wormhole.specs.Events.{NetEvent, Return, CanHappen, after}
 use Rattle.wormhole.specs.Delivery.{whole}
 use Rattle.wormhole.proofs.Changes.{update_same, update_other}
 use Rattle.wormhole.proofs.Reached.{words_kept, routes_kept}
-use Rattle.script_follower.specs.ProcessorRecord.{ProcessorRecord, no_processor}
-use Rattle.order_abstract.specs.Flight.{Flight}
-use Rattle.order_abstract.proofs.Whole.{Whole}
+use Rattle.one_order.specs.ProcessorRecord.{ProcessorRecord, no_processor}
+use Rattle.one_order.specs.Flight.{Flight}
+use Rattle.one_order.proofs.Whole.{Whole}
 use Rattle.core_laws.specs.Heads.{carries_route}
 use Rattle.router.specs.Table.{RouterState, output_owned}
 use Rattle.channel_number.specs.Ports.{injection_channel, ejection_channel}
-use Rattle.tile_laws.specs.Tile.{Design, TileState}
+use Rattle.tile.specs.Tile.{Design, TileState}
 use Rattle.core_laws.specs.Core.{State}
 use Rattle.core_laws.proofs.Projection.{net_of, first_flit, response_parcel}
 use Rattle.core_laws.proofs.ChannelFacts.{channels_of, ejects_at}

@@ -4,10 +4,10 @@ use Rattle.torus.specs.Shape.{IsAccepted, tiles_of}
 use Rattle.torus.specs.declared.step.Choice.{Choice}
 use Rattle.torus.specs.declared.step.Step.{Step}
 use Rattle.one_order.specs.Order.{LinearizationPoint}
-use Rattle.tile_laws.specs.declared.agent.Agent.{Agent}
-use Rattle.tile_laws.specs.declared.agent.Agent.TheVariants.{Processor, Router, Bank}
-use Rattle.tile_laws.specs.Tile.{Design, tile_step}
-use Rattle.tile_laws.specs.Agents.{agent_kind}
+use Rattle.tile.specs.declared.agent.Agent.{Agent}
+use Rattle.tile.specs.declared.agent.Agent.TheVariants.{Processor, Router, Bank}
+use Rattle.tile.specs.Tile.{Design, tile_step}
+use Rattle.tile.specs.Agents.{agent_kind}
 use Rattle.core_laws.specs.Core.{State, next}
 use Rattle.core_laws.specs.Moves.{move_of}
 use Rattle.core_laws.specs.Network.{tile_event, network_event}

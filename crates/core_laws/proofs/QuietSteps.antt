@@ -9,10 +9,10 @@ use Rattle.torus.specs.declared.step.Step.{Step}
 use Rattle.one_order.specs.Order.{LinearizationPoint}
 use Rattle.flit_buffer.specs.declared.want.Want.{Want}
 use Rattle.flit_buffer.specs.Surroundings.{Surroundings, Wiring, granted, surroundings_after, agent_step, step_with}
-use Rattle.order_abstract.specs.Flight.{Move}
-use Rattle.tile_laws.specs.declared.agent.Agent.{Agent}
-use Rattle.tile_laws.specs.Tile.{Design, TileState, tile_step}
-use Rattle.tile_laws.specs.Agents.{agent_kind, agent_tile}
+use Rattle.one_order.specs.Flight.{Move}
+use Rattle.tile.specs.declared.agent.Agent.{Agent}
+use Rattle.tile.specs.Tile.{Design, TileState, tile_step}
+use Rattle.tile.specs.Agents.{agent_kind, agent_tile}
 use Rattle.core_laws.specs.Core.{State, next, or_same}
 use Rattle.core_laws.specs.Moves.{learned_by, tile_move, move_of}
 use Rattle.wormhole.specs.Events.{NetEvent, CanHappen, network_after}

@@ -4,12 +4,12 @@ use Rattle.std.specs.Prelude.{filter}
 use Rattle.std.proofs.lemmas.List.Sums.{count_by-le-length, length-filter}
 use Rattle.std.proofs.lemmas.Option.{same_Some, get_or_from_slice_get}
 use Rattle.torus.specs.declared.step.Step.{Step}
-use Rattle.script_follower.specs.Following.{is_finished}
+use Rattle.one_order.specs.Following.{is_finished}
 use Rattle.channel_number.specs.Order.{channel_count}
 use Rattle.flit_buffer.specs.Channel.{IsChannelState}
 use Rattle.flit_buffer.specs.Surroundings.{ring}
 use Rattle.one_order.specs.Events.{order_after}
-use Rattle.tile_laws.specs.Tile.{TileState}
+use Rattle.tile.specs.Tile.{TileState}
 use Rattle.core_laws.specs.Core.{Load, State, design_of}
 use Rattle.core_laws.specs.Runs.{IsAcceptedLoad}
 use Rattle.core_laws.specs.Reports.{CountsReports}

@@ -22,15 +22,15 @@ use Rattle.wormhole.specs.Delivery.{whole, whole_of}
 use Rattle.wormhole.proofs.Changes.{update_same, update_other}
 use Rattle.wormhole.proofs.Reached.{words_kept, routes_kept}
 use Rattle.wormhole.proofs.Lists.{all_on}
-use Rattle.script_follower.specs.ProcessorRecord.{no_processor}
-use Rattle.order_abstract.specs.Flight.{Flight}
-use Rattle.order_abstract.proofs.Whole.{Whole}
+use Rattle.one_order.specs.ProcessorRecord.{no_processor}
+use Rattle.one_order.specs.Flight.{Flight}
+use Rattle.one_order.proofs.Whole.{Whole}
 use Rattle.packet.specs.Flits.{flits_of}
 use Rattle.core_laws.specs.Heads.{carries_route}
-use Rattle.script_follower.specs.ProcessorTable.{ProcessorState}
+use Rattle.one_order.specs.ProcessorTable.{ProcessorState}
 use Rattle.router.specs.Table.{RouterState, output_owned}
 use Rattle.channel_number.specs.Ports.{injection_channel}
-use Rattle.tile_laws.specs.Tile.{Design, TileState}
+use Rattle.tile.specs.Tile.{Design, TileState}
 use Rattle.core_laws.specs.Core.{State}
 use Rattle.core_laws.proofs.Projection.{net_of, parcel_of, response_parcel, first_flit}
 use Rattle.core_laws.proofs.ChannelFacts.{channels_of, injects_at, injection_in}

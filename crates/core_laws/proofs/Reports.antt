@@ -10,16 +10,16 @@ use Rattle.std.proofs.Math.Nat.{mod-eq_of_lt}
 use Rattle.torus.specs.Shape.{IsAccepted, tiles_of}
 use Rattle.packet.specs.declared.kinds.Op.TheVariants as op
 use Rattle.packet.specs.Memory.{new_word}
-use Rattle.script_follower.specs.Following.{is_finished}
+use Rattle.one_order.specs.Following.{is_finished}
 use Rattle.one_order.specs.Order.{LinearizationPoint}
 use Rattle.one_order.proofs.Counting.{count_cons}
 use Rattle.wormhole.specs.Net.{IsNet}
-use Rattle.script_follower.specs.ProcessorRecord.{ProcessorRecord, no_processor}
-use Rattle.order_abstract.specs.Flight.{Flight}
-use Rattle.order_abstract.proofs.Whole.{Whole}
+use Rattle.one_order.specs.ProcessorRecord.{ProcessorRecord, no_processor}
+use Rattle.one_order.specs.Flight.{Flight}
+use Rattle.one_order.proofs.Whole.{Whole}
 use Rattle.home_bank.specs.BankTable.{BankState}
 use Rattle.router.specs.Table.{RouterState, output_owned}
-use Rattle.tile_laws.specs.Tile.{Design, TileState}
+use Rattle.tile.specs.Tile.{Design, TileState}
 use Rattle.core_laws.specs.Core.{State}
 use Rattle.core_laws.proofs.Projection.{net_of}
 use Rattle.core_laws.proofs.FlightSteps.{record_in, entries_in, same_flight, part_stays}

@@ -11,7 +11,7 @@ use Rattle.packet.proofs.Shapes.{TellsPacket-spelled, length-spelled}
 use Rattle.home_bank.specs.declared.entry.Entry.{Entry}
 use Rattle.packet.specs.Flits.{flits_of}
 use Rattle.wormhole.specs.Net.{IsOn, EndsWithTail}
-use Rattle.tile_laws.specs.Tile.{Design}
+use Rattle.tile.specs.Tile.{Design}
 use Rattle.core_laws.specs.Heads.{carries_route}
 use Rattle.core_laws.proofs.Projection.{net_of, first_flit}
 use Rattle.core_laws.proofs.ChannelFacts.{is_head_of}

@@ -6,24 +6,24 @@ use Rattle.torus.specs.Shape.{tiles_of}
 use Rattle.torus.specs.declared.step.Step.{Step}
 use Rattle.packet.specs.declared.kinds.Operation.{Operation}
 use Rattle.packet.specs.declared.kinds.Request.{Request as Asking}
-use Rattle.script.specs.declared.line.Line.{Line}
-use Rattle.script.specs.Scripts.{operation_count, script_of, IsAcceptedScript as IsReadScript}
-use Rattle.script_follower.specs.Scripts.{IsFollowable}
-use Rattle.script_follower.specs.Following.{next_operation_of}
-use Rattle.script_follower.specs.ProcessorRecord.{ProcessorRecord, ready}
-use Rattle.script_follower.proofs.Shown.{followed, left_after_issue, left_within}
-use Rattle.script_follower.proofs.Followable.{accepted_followable}
+use Rattle.script_lines.specs.declared.line.Line.{Line}
+use Rattle.script_lines.specs.Lines.{operation_count, script_of, IsAcceptedScript as IsReadScript}
+use Rattle.one_order.specs.Scripts.{IsFollowable}
+use Rattle.one_order.specs.Following.{next_operation_of}
+use Rattle.one_order.specs.ProcessorRecord.{ProcessorRecord, ready}
+use Rattle.one_order.proofs.Shown.{followed, left_after_issue, left_within}
+use Rattle.one_order.proofs.Followable.{accepted_followable}
 use Rattle.one_order.specs.Observed.{list_at}
 use Rattle.one_order.specs.Events.{order_after}
 use Rattle.one_order.proofs.Lists.{within_length}
-use Rattle.order_abstract.specs.Flight.{Flight, show, asked_place}
-use Rattle.order_abstract.proofs.Counts.{home_total, asked_remove}
-use Rattle.order_abstract.proofs.Parts.{issued_at, list_at_map}
-use Rattle.tile_laws.specs.Tile.{Design}
+use Rattle.one_order.specs.Flight.{Flight, show, asked_place}
+use Rattle.one_order.proofs.Counts.{home_total, asked_remove}
+use Rattle.one_order.proofs.Parts.{issued_at, list_at_map}
+use Rattle.tile.specs.Tile.{Design}
 use Rattle.core_laws.specs.Core.{Load, State, design_of}
 use Rattle.core_laws.specs.Runs.{IsAcceptedLoad}
-use Rattle.order_abstract.specs.Room.{home_room}
-use Rattle.order_abstract.proofs.BoundsScripts.{followed_home_within, home_total_within}
+use Rattle.one_order.specs.Room.{home_room}
+use Rattle.one_order.proofs.BoundsScripts.{followed_home_within, home_total_within}
 use Rattle.core_laws.specs.Noted.{noted}
 use Rattle.core_laws.proofs.Networks.{network}
 use Rattle.core_laws.proofs.SendFacts.{ready_parts}

@@ -11,7 +11,7 @@ use Rattle.wormhole.specs.State.{NetLine as Lane}
 use Rattle.wormhole.specs.Events.{NetEvent, after}
 use Rattle.router.specs.Table.{RouterState, latch_of, output_owned}
 use Rattle.channel_number.specs.Ports.{port_count, input_channel, output_channel}
-use Rattle.tile_laws.specs.Tile.{Design, TileState}
+use Rattle.tile.specs.Tile.{Design, TileState}
 use Rattle.core_laws.specs.Core.{State}
 use Rattle.core_laws.proofs.Projection.{net_of}
 use Rattle.core_laws.proofs.WiredUp.{IsWiredUp}

@@ -7,10 +7,10 @@ use Rattle.one_order.specs.Order.{LinearizationPoint}
 use Rattle.flit_buffer.specs.Surroundings.{Surroundings}
 use Rattle.router.specs.Table.{RouterState, router_wants, router_after}
 use Rattle.router.specs.Beginning.{router_wiring}
-use Rattle.order_abstract.specs.Flight.{Move}
+use Rattle.one_order.specs.Flight.{Move}
 use Rattle.wormhole.specs.Events.{NetEvent}
-use Rattle.tile_laws.specs.declared.agent.Agent.TheVariants.{Router}
-use Rattle.tile_laws.specs.Tile.{Design, tile_step}
+use Rattle.tile.specs.declared.agent.Agent.TheVariants.{Router}
+use Rattle.tile.specs.Tile.{Design, tile_step}
 use Rattle.core_laws.specs.Core.{State}
 use Rattle.core_laws.specs.Moves.{learned_by}
 use Rattle.core_laws.specs.Network.{router_event, tile_event}

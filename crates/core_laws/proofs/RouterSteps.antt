@@ -17,7 +17,7 @@ use Rattle.packet.specs.Flits.{head_of, is_tail}
 use Rattle.router.specs.Table.{RouterState, latch_of, output_for, way_of, is_owned, wants_to_put, router_wants, router_after}
 use Rattle.channel_number.specs.Ports.{port_count, input_channel, output_channel}
 use Rattle.router.specs.Beginning.{router_wiring}
-use Rattle.tile_laws.specs.Tile.{Design}
+use Rattle.tile.specs.Tile.{Design}
 use Rattle.core_laws.specs.Core.{State}
 use Rattle.core_laws.proofs.AgentSteps.{option_map_some}
 use Rattle.core_laws.proofs.ChannelFacts.{is_head_of}

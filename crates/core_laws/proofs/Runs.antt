@@ -8,21 +8,21 @@ use Rattle.std.proofs.lemmas.Option.{same_Some, get_or_from_slice_get}
 use Rattle.torus.specs.Shape.{tiles_of, dims_of}
 use Rattle.torus.specs.declared.step.Step.{Step}
 use Rattle.packet.specs.declared.kinds.Operation.{Operation}
-use Rattle.script.specs.declared.line.Line.{Line}
-use Rattle.script.specs.Scripts.{IsAcceptedScript as IsReadScript}
-use Rattle.script_follower.specs.Following.{Following, first_of, next_operation_of}
-use Rattle.script_follower.proofs.Shown.{followed}
+use Rattle.script_lines.specs.declared.line.Line.{Line}
+use Rattle.script_lines.specs.Lines.{IsAcceptedScript as IsReadScript}
+use Rattle.one_order.specs.Following.{Following, first_of, next_operation_of}
+use Rattle.one_order.proofs.Shown.{followed}
 use Rattle.one_order.specs.Observed.{Observed, list_at}
 use Rattle.one_order.proofs.Lists.{list_at_none, within_length}
 use Rattle.one_order.specs.Order.{LinearizationPoint}
 use Rattle.one_order.specs.Events.{Event, happens, points_of, order_after, MayHappen, IsHistory}
 use Rattle.wormhole.specs.Net.{IsNet}
-use Rattle.script_follower.specs.ProcessorRecord.{ProcessorRecord, no_processor}
-use Rattle.order_abstract.specs.Flight.{Flight, Move, Sends, Serves, Takes, moved_by, flight_event, IsFound}
-use Rattle.order_abstract.specs.Scripts.{HasFollowed, FollowScripts}
-use Rattle.order_abstract.proofs.Follows.{Follows, follows_first}
-use Rattle.order_abstract.proofs.FollowsMoves.{follows_any}
-use Rattle.tile_laws.specs.Tile.{Design}
+use Rattle.one_order.specs.ProcessorRecord.{ProcessorRecord, no_processor}
+use Rattle.one_order.specs.Flight.{Flight, Move, Sends, Serves, Takes, moved_by, flight_event, IsFound}
+use Rattle.one_order.specs.AbstractScripts.{HasFollowed, FollowScripts}
+use Rattle.one_order.proofs.Follows.{Follows, follows_first}
+use Rattle.one_order.proofs.FollowsMoves.{follows_any}
+use Rattle.tile.specs.Tile.{Design}
 use Rattle.core_laws.specs.Core.{Load, State, design_of, first_tile, first_state, next, records_of, show, run_of}
 use Rattle.core_laws.specs.Moves.{move_of}
 use Rattle.core_laws.proofs.Projection.{net_of}
@@ -33,7 +33,7 @@ use Rattle.core_laws.proofs.Begins.{begins, first_shown}
 use Rattle.core_laws.proofs.Histories.{move_at, next_at, state_at, event_at, after_more}
 use Rattle.core_laws.proofs.Keeps.{keeps_step}
 use Rattle.core_laws.proofs.Followed.{next_inside}
-use Rattle.script_follower.proofs.Followable.{accepted_followable}
+use Rattle.one_order.proofs.Followable.{accepted_followable}
 use Rattle.core_laws.specs.Runs.{IsAcceptedLoad}
 use Rattle.wormhole.specs.Events.{CanHappen}
 use Rattle.core_laws.specs.Network.{network_event}

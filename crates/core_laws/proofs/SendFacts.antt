@@ -12,12 +12,12 @@ use Rattle.packet.specs.declared.kinds.Packet.{Packet}
 use Rattle.packet.specs.Spelling.{Spells, values_of}
 use Rattle.packet.proofs.Shapes.{flits_above_zero, length-spelled}
 use Rattle.packet.specs.declared.kinds.Reply.{Reply as Reply'}
-use Rattle.script.specs.declared.line.Line.{Line}
-use Rattle.script_follower.specs.declared.spin.OpenSpin.{OpenSpin}
+use Rattle.script_lines.specs.declared.line.Line.{Line}
+use Rattle.one_order.specs.declared.spin.OpenSpin.{OpenSpin}
 use Rattle.tag_table.specs.Tags.{free_tag}
 use Rattle.dateline_route.specs.declared.channel.Channel.{Channel}
-use Rattle.script_follower.specs.Following.{Following, is_finished, next_operation_of, is_empty, ready_operation as next_of}
-use Rattle.script_follower.specs.ProcessorRecord.{ProcessorRecord, ready}
+use Rattle.one_order.specs.Following.{Following, is_finished, next_operation_of, is_empty, ready_operation as next_of}
+use Rattle.one_order.specs.ProcessorRecord.{ProcessorRecord, ready}
 use Rattle.packet.specs.Flits.{flits_of}
 use Rattle.channel_number.specs.Ports.{injection_channel}
 use Rattle.core_laws.proofs.Projection.{first_flit}

@@ -12,12 +12,12 @@ use Rattle.packet.specs.declared.kinds.Request.{Request as Asking}
 use Rattle.one_order.specs.Observed.{list_at}
 use Rattle.one_order.specs.Events.{push_at}
 use Rattle.one_order.proofs.Lists.{list_at_push_same, list_at_push_other}
-use Rattle.script_follower.specs.ProcessorRecord.{request_of}
-use Rattle.order_abstract.proofs.Whole.{address_is}
+use Rattle.one_order.specs.ProcessorRecord.{request_of}
+use Rattle.one_order.proofs.Whole.{address_is}
 use Rattle.wormhole.specs.Net.{Parcel}
 use Rattle.wormhole.specs.State.{Note}
 use Rattle.channel_number.specs.Ports.{injection_channel}
-use Rattle.tile_laws.specs.Tile.{Design}
+use Rattle.tile.specs.Tile.{Design}
 use Rattle.core_laws.specs.Core.{State}
 use Rattle.core_laws.specs.Delivery.{asked_operation}
 use Rattle.core_laws.proofs.Projection.{request_parcel}

@@ -11,7 +11,7 @@ use Rattle.packet.specs.declared.kinds.Operation.{Operation}
 use Rattle.packet.specs.declared.kinds.Packet.TheVariants as packet
 use Rattle.packet.specs.declared.kinds.Request.{Request as Asking}
 use Rattle.channel_number.specs.Order.{channel_count}
-use Rattle.script_follower.specs.Following.{next_operation_of}
+use Rattle.one_order.specs.Following.{next_operation_of}
 use Rattle.one_order.specs.Order.{LinearizationPoint}
 use Rattle.one_order.specs.Events.{push_at}
 use Rattle.flit_buffer.specs.Channel.{rest}
@@ -25,14 +25,14 @@ use Rattle.wormhole.specs.Events.{InjectHead, CanInjectHead, after, put}
 use Rattle.wormhole.specs.Delivery.{whole, whole_of}
 use Rattle.wormhole.proofs.Changes.{update_same, update_other}
 use Rattle.wormhole.proofs.Reached.{words_kept, routes_kept}
-use Rattle.script_follower.specs.ProcessorRecord.{ProcessorRecord, no_processor, ready, issued_by, request_of}
-use Rattle.order_abstract.specs.Flight.{Flight, Sends, moved, IsFound}
-use Rattle.order_abstract.proofs.Whole.{Whole, sends_steps}
+use Rattle.one_order.specs.ProcessorRecord.{ProcessorRecord, no_processor, ready, issued_by, request_of}
+use Rattle.one_order.specs.Flight.{Flight, Sends, moved, IsFound}
+use Rattle.one_order.proofs.Whole.{Whole, sends_steps}
 use Rattle.packet.specs.Flits.{flits_of}
 use Rattle.router.specs.Table.{RouterState, output_owned}
 use Rattle.home_bank.specs.BankTable.{BankState}
 use Rattle.channel_number.specs.Ports.{injection_channel}
-use Rattle.tile_laws.specs.Tile.{Design, TileState}
+use Rattle.tile.specs.Tile.{Design, TileState}
 use Rattle.core_laws.specs.Core.{State, records_of}
 use Rattle.core_laws.proofs.Projection.{net_of, parcel_of, request_parcel, first_flit}
 use Rattle.core_laws.proofs.Parcels.{request_ends}

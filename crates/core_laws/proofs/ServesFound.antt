@@ -15,11 +15,11 @@ use Rattle.wormhole.specs.Routes.{between}
 use Rattle.wormhole.specs.Delivery.{whole}
 use Rattle.wormhole.proofs.Lists.{all_on}
 use Rattle.wormhole.proofs.Arrivals.{delivered}
-use Rattle.order_abstract.specs.Flight.{Serves, is_asked_alike, asked_place, IsFound}
-use Rattle.order_abstract.proofs.FirstPlaces.{first_there}
-use Rattle.order_abstract.proofs.Whole.{address_is}
+use Rattle.one_order.specs.Flight.{Serves, is_asked_alike, asked_place, IsFound}
+use Rattle.one_order.proofs.FirstPlaces.{first_there}
+use Rattle.one_order.proofs.Whole.{address_is}
 use Rattle.channel_number.specs.Ports.{injection_channel, ejection_channel}
-use Rattle.tile_laws.specs.Tile.{Design}
+use Rattle.tile.specs.Tile.{Design}
 use Rattle.core_laws.specs.Core.{State}
 use Rattle.core_laws.proofs.Projection.{net_of, request_parcel}
 use Rattle.core_laws.proofs.Parcels.{between_requests, one_request}

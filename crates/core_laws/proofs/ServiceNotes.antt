@@ -15,10 +15,10 @@ use Rattle.home_bank.specs.ServiceList.{entry_of}
 use Rattle.home_bank.specs.BankTable.{BankState}
 use Rattle.one_order.specs.Observed.{list_at}
 use Rattle.one_order.specs.Order.{LinearizationPoint}
-use Rattle.order_abstract.specs.Flight.{Serves, is_asked_alike, asked_place, IsFound}
-use Rattle.order_abstract.proofs.FirstPlaces.{first_removed}
+use Rattle.one_order.specs.Flight.{Serves, is_asked_alike, asked_place, IsFound}
+use Rattle.one_order.proofs.FirstPlaces.{first_removed}
 use Rattle.wormhole.specs.Net.{IsNet}
-use Rattle.tile_laws.specs.Tile.{Design}
+use Rattle.tile.specs.Tile.{Design}
 use Rattle.core_laws.specs.Core.{State}
 use Rattle.core_laws.proofs.Projection.{net_of}
 use Rattle.core_laws.proofs.TileMoves.{IsHere}

@@ -22,15 +22,15 @@ use Rattle.one_order.specs.Order.{LinearizationPoint}
 use Rattle.one_order.specs.Events.{points_of}
 use Rattle.wormhole.specs.Net.{IsNet, Parcel}
 use Rattle.wormhole.specs.Delivery.{whole}
-use Rattle.order_abstract.specs.Flight.{Flight, Serves, moved, event, asked_place, reply_given, IsFound}
-use Rattle.order_abstract.proofs.Whole.{Whole, any_steps}
+use Rattle.one_order.specs.Flight.{Flight, Serves, moved, event, asked_place, reply_given, IsFound}
+use Rattle.one_order.proofs.Whole.{Whole, any_steps}
 use Rattle.packet.specs.Flits.{flits_of}
 use Rattle.core_laws.specs.Heads.{carries_route}
 use Rattle.home_bank.specs.BankTable.{BankState}
-use Rattle.script_follower.specs.ProcessorTable.{ProcessorState}
+use Rattle.one_order.specs.ProcessorTable.{ProcessorState}
 use Rattle.router.specs.Table.{RouterState, output_owned}
 use Rattle.channel_number.specs.Ports.{injection_channel, ejection_channel}
-use Rattle.tile_laws.specs.Tile.{Design, TileState}
+use Rattle.tile.specs.Tile.{Design, TileState}
 use Rattle.core_laws.specs.Core.{State, records_of, show}
 use Rattle.core_laws.proofs.Projection.{net_of, request_parcel, response_parcel, first_flit}
 use Rattle.core_laws.proofs.TileMoves.{IsHere, TileMoved}

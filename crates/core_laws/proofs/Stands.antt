@@ -9,19 +9,19 @@ use Rattle.packet.specs.declared.kinds.Response.{Response as Telling}
 use Rattle.packet.specs.Kinds.{code_of}
 use Rattle.packet.specs.Spelling.{Spells}
 use Rattle.home_bank.specs.declared.entry.Entry.{Entry}
-use Rattle.script_follower.specs.Following.{is_finished}
+use Rattle.one_order.specs.Following.{is_finished}
 use Rattle.one_order.specs.Observed.{list_at}
 use Rattle.one_order.specs.Order.{LinearizationPoint}
 use Rattle.flit_buffer.specs.Surroundings.{AreRings}
 use Rattle.wormhole.specs.Words.{Words}
 use Rattle.wormhole.specs.Routes.{Routes}
 use Rattle.wormhole.specs.Delivery.{whole}
-use Rattle.order_abstract.proofs.Whole.{Whole}
+use Rattle.one_order.proofs.Whole.{Whole}
 use Rattle.packet.specs.Flits.{flits_of}
 use Rattle.core_laws.specs.Heads.{carries_route}
 use Rattle.channel_number.specs.Ports.{injection_channel, ejection_channel}
 use Rattle.home_bank.specs.BankTable.{BankState}
-use Rattle.tile_laws.specs.Tile.{Design}
+use Rattle.tile.specs.Tile.{Design}
 use Rattle.core_laws.specs.Core.{State}
 use Rattle.core_laws.specs.Delivery.{asked_operation, notice_of, notice_by}
 use Rattle.core_laws.proofs.Projection.{net_of, request_parcel, response_parcel, first_flit}

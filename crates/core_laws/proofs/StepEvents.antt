@@ -13,24 +13,24 @@ use Rattle.packet.specs.declared.kinds.Request.{Request as Asking}
 use Rattle.packet.specs.declared.kinds.Response.{Response as Telling}
 use Rattle.packet.specs.declared.assembler.Offered.{Offered}
 use Rattle.packet.specs.declared.assembler.Offered.TheVariants.{More, Whole as Complete, Refused}
-use Rattle.script_follower.specs.Following.{next_operation_of}
+use Rattle.one_order.specs.Following.{next_operation_of}
 use Rattle.one_order.specs.Order.{LinearizationPoint}
 use Rattle.one_order.specs.Events.{Event, happens, points_of, MayHappen}
 use Rattle.flit_buffer.specs.Channel.{first_of, rest}
 use Rattle.flit_buffer.specs.Surroundings.{ring}
 use Rattle.wormhole.specs.Net.{IsNet}
-use Rattle.script_follower.specs.ProcessorRecord.{ProcessorRecord, no_processor, ready}
-use Rattle.order_abstract.specs.Flight as flight
-use Rattle.order_abstract.specs.Flight.{Flight, Move, Sends, Serves, Takes, moved_by, flight_event, IsFound}
-use Rattle.order_abstract.proofs.Whole.{Whole, any_steps}
+use Rattle.one_order.specs.ProcessorRecord.{ProcessorRecord, no_processor, ready}
+use Rattle.one_order.specs.Flight as flight
+use Rattle.one_order.specs.Flight.{Flight, Move, Sends, Serves, Takes, moved_by, flight_event, IsFound}
+use Rattle.one_order.proofs.Whole.{Whole, any_steps}
 use Rattle.packet.specs.Flits.{offered}
-use Rattle.script_follower.specs.ProcessorTable.{processor_wants}
+use Rattle.one_order.specs.ProcessorTable.{processor_wants}
 use Rattle.channel_number.specs.Ports.{ejection_channel}
-use Rattle.tile_laws.specs.Wiring.{processor_wiring}
-use Rattle.tile_laws.specs.declared.agent.Agent.{Agent}
-use Rattle.tile_laws.specs.declared.agent.Agent.TheVariants.{Processor, Router, Bank}
-use Rattle.tile_laws.specs.Tile.{Design, TileState}
-use Rattle.tile_laws.specs.Agents.{agent_kind, agent_tile}
+use Rattle.tile.specs.Wiring.{processor_wiring}
+use Rattle.tile.specs.declared.agent.Agent.{Agent}
+use Rattle.tile.specs.declared.agent.Agent.TheVariants.{Processor, Router, Bank}
+use Rattle.tile.specs.Tile.{Design, TileState}
+use Rattle.tile.specs.Agents.{agent_kind, agent_tile}
 use Rattle.core_laws.specs.Core.{State, next, show}
 use Rattle.core_laws.specs.Moves.{learned_by, issue_of, answer_by, processor_move, bank_move, tile_move, move_of}
 use Rattle.core_laws.proofs.AgentSteps.{option_map_some}

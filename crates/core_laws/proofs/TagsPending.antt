@@ -10,20 +10,20 @@ use Rattle.packet.specs.declared.kinds.Operation.{Operation}
 use Rattle.packet.specs.declared.kinds.Reply.{Reply}
 use Rattle.packet.specs.declared.kinds.Request.{Request}
 use Rattle.packet.specs.declared.kinds.Response.{Response}
-use Rattle.script.specs.declared.line.Line.{Line}
+use Rattle.script_lines.specs.declared.line.Line.{Line}
 use Rattle.tag_table.specs.Tags.{out_count}
 use Rattle.home_bank.specs.ServiceList.{response_of}
-use Rattle.script_follower.specs.Following.{Following, first_of, after_issue, after_answer, last_answered, other_answered}
-use Rattle.script_follower.specs.ProcessorRecord.{ProcessorRecord, no_processor, issued_by, answered_by, request_of, index_of}
+use Rattle.one_order.specs.Following.{Following, first_of, after_issue, after_answer, last_answered, other_answered}
+use Rattle.one_order.specs.ProcessorRecord.{ProcessorRecord, no_processor, issued_by, answered_by, request_of, index_of}
 use Rattle.one_order.specs.Observed.{list_at}
 use Rattle.one_order.specs.Order.{LinearizationPoint}
 use Rattle.one_order.proofs.Lists.{get_push, get_append_left, get_set_same, get_set_other}
-use Rattle.order_abstract.specs.Flight.{Flight, Move, Sends, Serves, Takes, processor_at, asked_place, told_place, reply_given, moved, moved_by, IsFound}
-use Rattle.script_follower.specs.ProcessorRecord.{first_record}
-use Rattle.order_abstract.specs.Courses.{first_flight}
-use Rattle.order_abstract.proofs.Places.{still_there}
-use Rattle.order_abstract.proofs.Parts.{tags_at, processor_set}
-use Rattle.order_abstract.proofs.Whole.{Whole}
+use Rattle.one_order.specs.Flight.{Flight, Move, Sends, Serves, Takes, processor_at, asked_place, told_place, reply_given, moved, moved_by, IsFound}
+use Rattle.one_order.specs.ProcessorRecord.{first_record}
+use Rattle.one_order.specs.Courses.{first_flight}
+use Rattle.one_order.proofs.AbstractPlaces.{still_there}
+use Rattle.one_order.proofs.Parts.{tags_at, processor_set}
+use Rattle.one_order.proofs.Whole.{Whole}
 use Rattle.core_laws.specs.Pending.{AwaitsRequest, AwaitsReply, HavePackets}
 
 -- a tag goes out, or comes back

@@ -25,12 +25,12 @@ use Rattle.wormhole.specs.Routes.{between}
 use Rattle.wormhole.specs.Delivery.{whole}
 use Rattle.wormhole.proofs.Lists.{all_on, on_left}
 use Rattle.wormhole.proofs.Arrivals.{delivered}
-use Rattle.order_abstract.specs.Flight.{Takes, is_told_alike, IsFound}
-use Rattle.order_abstract.proofs.FirstPlaces.{first_there}
+use Rattle.one_order.specs.Flight.{Takes, is_told_alike, IsFound}
+use Rattle.one_order.proofs.FirstPlaces.{first_there}
 use Rattle.packet.specs.Flits.{is_tail, offered, offered_by, flits_of}
 use Rattle.core_laws.specs.Heads.{carries_route}
 use Rattle.channel_number.specs.Ports.{injection_channel, ejection_channel}
-use Rattle.tile_laws.specs.Tile.{Design}
+use Rattle.tile.specs.Tile.{Design}
 use Rattle.core_laws.specs.Core.{State}
 use Rattle.core_laws.proofs.Projection.{net_of, response_parcel}
 use Rattle.core_laws.proofs.Parcels.{between_responses, one_response, parcel_flits, response_ends, same_response}

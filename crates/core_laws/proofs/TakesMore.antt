@@ -16,7 +16,7 @@ use Rattle.packet.specs.Flits.{is_tail}
 use Rattle.core_laws.specs.Heads.{carries_route}
 use Rattle.home_bank.specs.BankTable.{BankState}
 use Rattle.channel_number.specs.Ports.{ejection_channel}
-use Rattle.tile_laws.specs.Tile.{Design, TileState}
+use Rattle.tile.specs.Tile.{Design, TileState}
 use Rattle.core_laws.specs.Core.{State}
 use Rattle.core_laws.proofs.Projection.{net_of, first_flit}
 use Rattle.core_laws.proofs.ChannelFacts.{ejection_tile}

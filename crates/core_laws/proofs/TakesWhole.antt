@@ -22,15 +22,15 @@ use Rattle.wormhole.specs.Net.{IsNet, Parcel, IsOn, net_flits as flits_in}
 use Rattle.wormhole.specs.State.{NetLine as Lane, Note, NetState}
 use Rattle.wormhole.specs.Delivery.{whole, whole_of}
 use Rattle.wormhole.proofs.Lists.{all_on}
-use Rattle.script_follower.specs.ProcessorRecord.{no_processor}
-use Rattle.order_abstract.specs.Flight.{Flight}
-use Rattle.order_abstract.proofs.Whole.{Whole}
+use Rattle.one_order.specs.ProcessorRecord.{no_processor}
+use Rattle.one_order.specs.Flight.{Flight}
+use Rattle.one_order.proofs.Whole.{Whole}
 use Rattle.packet.specs.Flits.{is_tail, offered, flits_of}
 use Rattle.core_laws.specs.Heads.{carries_route}
-use Rattle.script_follower.specs.ProcessorTable.{ProcessorState}
+use Rattle.one_order.specs.ProcessorTable.{ProcessorState}
 use Rattle.router.specs.Table.{RouterState, output_owned}
 use Rattle.channel_number.specs.Ports.{injection_channel, ejection_channel}
-use Rattle.tile_laws.specs.Tile.{Design, TileState}
+use Rattle.tile.specs.Tile.{Design, TileState}
 use Rattle.core_laws.specs.Core.{State}
 use Rattle.core_laws.proofs.Projection.{net_of, request_parcel, first_flit}
 use Rattle.core_laws.proofs.Parcels.{parcel_flits, request_ends}

@@ -19,23 +19,23 @@ use Rattle.packet.specs.declared.assembler.Offered.TheVariants.{More, Whole, Ref
 use Rattle.packet.specs.Memory.{new_word, reply_to}
 use Rattle.home_bank.specs.declared.entry.Entry.{Entry}
 use Rattle.home_bank.specs.ServiceList.{address_of, entry_of}
-use Rattle.script_follower.specs.Following.{is_finished}
+use Rattle.one_order.specs.Following.{is_finished}
 use Rattle.flit_buffer.specs.Channel.{first_of}
 use Rattle.flit_buffer.specs.declared.want.Want.{Want}
 use Rattle.flit_buffer.specs.declared.want.Want.TheVariants as want
 use Rattle.flit_buffer.specs.Wants.{told_by}
 use Rattle.flit_buffer.specs.Surroundings.{Surroundings, Wiring, granted, surroundings_after}
-use Rattle.script_follower.specs.ProcessorRecord.{ProcessorRecord, ready, issued_by, answered_by}
-use Rattle.order_abstract.specs.Flight.{Move, Sends, Serves, Takes}
+use Rattle.one_order.specs.ProcessorRecord.{ProcessorRecord, ready, issued_by, answered_by}
+use Rattle.one_order.specs.Flight.{Move, Sends, Serves, Takes}
 use Rattle.packet.specs.Flits.{offered}
 use Rattle.router.specs.Table.{RouterState, router_wants, router_after}
-use Rattle.script_follower.specs.ProcessorTable.{ProcessorState, processor_wants, processor_after, flits_due, record_sent, record_offered, issued_of}
+use Rattle.one_order.specs.ProcessorTable.{ProcessorState, processor_wants, processor_after, flits_due, record_sent, record_offered, issued_of}
 use Rattle.home_bank.specs.BankTable.{BankState, bank_wants, bank_after, is_nil, served}
-use Rattle.tile_laws.specs.Wiring.{processor_wiring, bank_wiring}
+use Rattle.tile.specs.Wiring.{processor_wiring, bank_wiring}
 use Rattle.router.specs.Beginning.{router_wiring}
-use Rattle.tile_laws.specs.declared.agent.Agent.{Agent}
-use Rattle.tile_laws.specs.declared.agent.Agent.TheVariants.{Processor, Router, Bank}
-use Rattle.tile_laws.specs.Tile.{Design, TileState, tile_step}
+use Rattle.tile.specs.declared.agent.Agent.{Agent}
+use Rattle.tile.specs.declared.agent.Agent.TheVariants.{Processor, Router, Bank}
+use Rattle.tile.specs.Tile.{Design, TileState, tile_step}
 use Rattle.core_laws.specs.Moves.{issue_of, answer_by, processor_move, bank_move, tile_move}
 use Rattle.core_laws.proofs.AgentSteps.{Did, did, did_learn, option_map_some}
 use Rattle.core_laws.proofs.ChannelWants.{channel_words, router_of_channel}

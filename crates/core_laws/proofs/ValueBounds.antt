@@ -10,15 +10,15 @@ use Rattle.packet.specs.Kinds.{code_of, IsReplyOf}
 use Rattle.packet.specs.Memory.{reply_to}
 use Rattle.packet.specs.Spelling.{values_of_op}
 use Rattle.packet.proofs.Words.{Below, none_below, one_below}
-use Rattle.script.specs.declared.line.Line.{Line}
-use Rattle.script.specs.declared.line.Line.TheVariants as line
-use Rattle.script.specs.declared.line.Value.{Value}
-use Rattle.script.specs.declared.line.Value.TheVariants.{Number, Last}
-use Rattle.script.specs.Scripts.{IsWord, IsAcceptedLine}
-use Rattle.script_follower.specs.declared.spin.OpenSpin.{OpenSpin}
-use Rattle.script_follower.specs.Scripts.{reply_number}
-use Rattle.script_follower.specs.Following.{ready_operation, operation_asked, asked, operand_of}
-use Rattle.script_follower.proofs.Places.{Each}
+use Rattle.script_lines.specs.declared.line.Line.{Line}
+use Rattle.script_lines.specs.declared.line.Line.TheVariants as line
+use Rattle.script_lines.specs.declared.line.Value.{Value}
+use Rattle.script_lines.specs.declared.line.Value.TheVariants.{Number, Last}
+use Rattle.script_lines.specs.Lines.{IsWord, IsAcceptedLine}
+use Rattle.one_order.specs.declared.spin.OpenSpin.{OpenSpin}
+use Rattle.one_order.specs.Scripts.{reply_number}
+use Rattle.one_order.specs.Following.{ready_operation, operation_asked, asked, operand_of}
+use Rattle.one_order.proofs.Places.{Each}
 
 -- what an operation replies is a reply of its kind
 pub reply_fits : (op : Op) (w : ℕ) → IsReplyOf (code_of op) (reply_to op w)

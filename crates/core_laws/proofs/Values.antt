@@ -5,11 +5,11 @@ use Rattle.std.proofs.lemmas.Bool.{cases_lt}
 use Rattle.std.proofs.lemmas.List.{get_or-replicate, get_or_past, length-replicate}
 use Rattle.std.proofs.lemmas.List.Elements.{All-nil}
 use Rattle.torus.specs.Shape.{dims_of, IsAccepted as IsAcceptedShape}
-use Rattle.script.specs.declared.line.Line.{Line}
-use Rattle.script.specs.Scripts.{IsAcceptedScript, script_of}
+use Rattle.script_lines.specs.declared.line.Line.{Line}
+use Rattle.script_lines.specs.Lines.{IsAcceptedScript, script_of}
 use Rattle.channel_number.specs.Ports.{port_count}
 use Rattle.router.specs.Table.{latch_of}
-use Rattle.tile_laws.specs.Tile.{Design, TileState}
+use Rattle.tile.specs.Tile.{Design, TileState}
 use Rattle.core_laws.specs.Core.{Load, State, design_of, first_tile, first_state}
 use Rattle.core_laws.specs.Runs.{IsAcceptedLoad}
 use Rattle.core_laws.proofs.Followed.{IsFollowed, followed_first, followed_none}

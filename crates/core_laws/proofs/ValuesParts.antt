@@ -25,17 +25,17 @@ use Rattle.packet.specs.Refusal.{refusal}
 use Rattle.packet.specs.Spelling.{values_of_op}
 use Rattle.packet.proofs.Fields.{field_below}
 use Rattle.home_bank.specs.ServiceList.{address_of, response_of}
-use Rattle.script_follower.specs.Scripts.{reply_number}
-use Rattle.script_follower.specs.Following.{is_finished}
+use Rattle.one_order.specs.Scripts.{reply_number}
+use Rattle.one_order.specs.Following.{is_finished}
 use Rattle.flit_buffer.specs.Channel.{first_of, rest}
 use Rattle.flit_buffer.specs.declared.want.Want.{Want}
 use Rattle.flit_buffer.specs.declared.want.Want.TheVariants as want
 use Rattle.flit_buffer.specs.Surroundings.{Surroundings, Wiring, surroundings_after}
-use Rattle.script_follower.specs.ProcessorRecord.{ProcessorRecord, ready, request_of}
+use Rattle.one_order.specs.ProcessorRecord.{ProcessorRecord, ready, request_of}
 use Rattle.packet.specs.Flits.{is_tail, offered_by, offered, flits_of, head_of}
 use Rattle.router.specs.Table.{RouterState, latch_of, output_for, wants_to_take, wants_to_put, router_wants, router_after}
 use Rattle.channel_number.specs.Ports.{port_count}
-use Rattle.script_follower.specs.ProcessorTable.{ProcessorState, processor_wants, processor_after, flits_due, issued_of, record_sent, record_offered}
+use Rattle.one_order.specs.ProcessorTable.{ProcessorState, processor_wants, processor_after, flits_due, issued_of, record_sent, record_offered}
 use Rattle.home_bank.specs.BankTable.{BankState, is_nil, bank_wants, bank_after, served}
 use Rattle.core_laws.proofs.AgentSteps.{option_map_some}
 use Rattle.core_laws.proofs.SendFacts.{ready_parts}

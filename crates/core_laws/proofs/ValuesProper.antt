@@ -14,12 +14,12 @@ use Rattle.packet.proofs.Spelled.{IsSpellable-spelled, IsOfWords-spelled}
 use Rattle.home_bank.specs.ServiceList.{address_of, response_of}
 use Rattle.one_order.specs.Observed.{list_at, total}
 use Rattle.one_order.specs.Order.{LinearizationPoint}
-use Rattle.script_follower.specs.ProcessorRecord.{ProcessorRecord, no_processor, ready, request_of}
-use Rattle.order_abstract.specs.Flight.{Flight, show}
-use Rattle.order_abstract.proofs.Counts.{total_within}
-use Rattle.order_abstract.proofs.Parts.{list_at_map, issued_at, tags_at}
+use Rattle.one_order.specs.ProcessorRecord.{ProcessorRecord, no_processor, ready, request_of}
+use Rattle.one_order.specs.Flight.{Flight, show}
+use Rattle.one_order.proofs.Counts.{total_within}
+use Rattle.one_order.proofs.Parts.{list_at_map, issued_at, tags_at}
 use Rattle.packet.specs.Flits.{flits_of}
-use Rattle.tile_laws.specs.Tile.{Design, TileState}
+use Rattle.tile.specs.Tile.{Design, TileState}
 use Rattle.core_laws.specs.Core.{State}
 use Rattle.core_laws.proofs.FlightSteps.{record_in, entries_in}
 use Rattle.core_laws.proofs.Parcels.{spells}

@@ -11,9 +11,9 @@ use Rattle.wormhole.proofs.Arrivals.{is_routed}
 use Rattle.channel_number.proofs.Ports.{is_input, is_output, inputs_apart, outputs_apart}
 use Rattle.dateline_route.proofs.First.{chosen_inside}
 use Rattle.channel_number.proofs.Leading.{output_within}
-use Rattle.wormhole_torus.proofs.Heads.{chosen_is, head_tells}
+use Rattle.core_laws.proofs.Heads.{chosen_is, head_tells}
 use Rattle.channel_number.specs.Ports.{input_numbered}
-use Rattle.tile_laws.specs.Tile.{Design}
+use Rattle.tile.specs.Tile.{Design}
 use Rattle.core_laws.proofs.Projection.{net_of}
 use Rattle.channel_number.specs.Order.{channel_at}
 use Rattle.core_laws.proofs.WiredUp.{IsWiredUp, IsHeadOf}

@@ -12,7 +12,7 @@ use Rattle.packet.specs.Flits.{head_of}
 use Rattle.core_laws.specs.Heads.{carries_route}
 use Rattle.router.specs.Table.{RouterState, output_owned, is_owned, is_output, way_of}
 use Rattle.channel_number.specs.Ports.{port_count, ejection_channel, input_channel, output_channel}
-use Rattle.tile_laws.specs.Tile.{Design}
+use Rattle.tile.specs.Tile.{Design}
 use Rattle.core_laws.proofs.Projection.{net_of}
 
 -- What is needed of the wiring: the channels at the routers' ports are there, each at one input and one output, and a router's way is the network's choice.

@@ -13,18 +13,18 @@ use Rattle.packet.specs.declared.assembler.Offered.TheVariants.{Whole, Refused}
 use Rattle.packet.specs.Spelling.{Spells, IsSpellable}
 use Rattle.packet.specs.Flit.{field}
 use Rattle.packet.specs.Flits.{offered, flits_of, head_of}
-use Rattle.script.specs.declared.line.Line.{Line}
-use Rattle.script.specs.Scripts.{operation_count}
+use Rattle.script_lines.specs.declared.line.Line.{Line}
+use Rattle.script_lines.specs.Lines.{operation_count}
 use Rattle.flit_buffer.specs.declared.want.Want.TheVariants.{Take}
 use Rattle.flit_buffer.specs.Surroundings.{Surroundings, ring}
 use Rattle.channel_number.specs.Ports.{port_count, input_channel, ejection_channel}
 use Rattle.home_bank.specs.ServiceList.{address_of}
 use Rattle.home_bank.specs.BankTable.{BankState, bank_wants}
-use Rattle.script_follower.specs.ProcessorRecord.{ProcessorRecord, ready, request_of}
-use Rattle.script_follower.specs.ProcessorTable.{ProcessorState}
-use Rattle.order_abstract.specs.Room.{home_room}
+use Rattle.one_order.specs.ProcessorRecord.{ProcessorRecord, ready, request_of}
+use Rattle.one_order.specs.ProcessorTable.{ProcessorState}
+use Rattle.one_order.specs.Room.{home_room}
 use Rattle.router.specs.Table.{IsRoutable}
-use Rattle.tile_laws.specs.Tile.{Design}
+use Rattle.tile.specs.Tile.{Design}
 use Rattle.core_laws.specs.Delivery.{next_flit}
 
 -- the word that is found at the receiving end of channel x: its first flit, 0 where it has none

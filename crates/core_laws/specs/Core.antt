@@ -1,5 +1,5 @@
 -- The core: all tiles and what they share, its steps, runs and rounds.
-pub use Rattle.tile_laws.specs.Agents.{agent_numbered}
+pub use Rattle.tile.specs.Agents.{agent_numbered}
 use Rattle.std.specs.Prelude.{ℕ, false, List, [], ◌∷◌, ◌++◌, length, map, take}
 use Rattle.std.specs.Prelude.{replicate, Option, Some, None, option_map, option_and_then, slice_get, slice_set}
 use Rattle.std.specs.List.{flat_map, range_with_len}
@@ -7,18 +7,18 @@ use Rattle.torus.specs.Shape.{Shape, tiles_of, dims_of}
 use Rattle.torus.specs.declared.step.Step.{Step}
 use Rattle.torus.specs.declared.step.Choice.{Choice}
 use Rattle.torus.specs.Choices.{processor_choices, router_choices, bank_choices}
-use Rattle.script.specs.declared.line.Line.{Line}
+use Rattle.script_lines.specs.declared.line.Line.{Line}
 use Rattle.flit_buffer.specs.Places.{empty_ring}
 use Rattle.flit_buffer.specs.Surroundings.{Surroundings}
 use Rattle.channel_number.specs.Order.{channel_count}
-use Rattle.script_follower.specs.Following.{first_of}
+use Rattle.one_order.specs.Following.{first_of}
 use Rattle.one_order.specs.Observed.{Observed, Run}
-use Rattle.script_follower.specs.ProcessorRecord.{ProcessorRecord}
+use Rattle.one_order.specs.ProcessorRecord.{ProcessorRecord}
 use Rattle.channel_number.specs.Ports.{port_count}
-pub use Rattle.order_abstract.specs.Load.{Load}
-use Rattle.tile_laws.specs.declared.agent.Agent.TheVariants.{Processor, Router, Bank}
-use Rattle.tile_laws.specs.Tile.{Design, TileState, tile_step}
-use Rattle.tile_laws.specs.Agents.{agent_number, agent_kind, agent_tile}
+pub use Rattle.one_order.specs.Load.{Load}
+use Rattle.tile.specs.declared.agent.Agent.TheVariants.{Processor, Router, Bank}
+use Rattle.tile.specs.Tile.{Design, TileState, tile_step}
+use Rattle.tile.specs.Agents.{agent_number, agent_kind, agent_tile}
 
 -- the state of a machine: its tiles, and what they share, that is the channels, and the words of
 -- the memory with the done word behind them

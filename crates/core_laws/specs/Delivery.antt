@@ -14,7 +14,7 @@ use Rattle.one_order.specs.Observed.{list_at}
 use Rattle.wormhole.specs.Delivery.{IsPrefix, without_last}
 use Rattle.core_laws.specs.Heads.{carries_route}
 use Rattle.home_bank.specs.BankTable.{BankState}
-use Rattle.tile_laws.specs.Tile.{Design, TileState}
+use Rattle.tile.specs.Tile.{Design, TileState}
 use Rattle.core_laws.specs.Core.{State, show}
 
 -- the operation that a request asks for

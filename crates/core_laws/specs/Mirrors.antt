@@ -7,9 +7,9 @@ use Rattle.channel_number.specs.Ports.{port_count, injection_channel, ejection_c
 use Rattle.flit_buffer.specs.Channel as channel
 use Rattle.flit_buffer.specs.Surroundings.{ring}
 use Rattle.wormhole.specs.State.{NetLine as Lane}
-use Rattle.script_follower.specs.ProcessorRecord.{no_processor}
+use Rattle.one_order.specs.ProcessorRecord.{no_processor}
 use Rattle.router.specs.Table.{latch_of, output_owned}
-use Rattle.tile_laws.specs.Tile.{Design, TileState}
+use Rattle.tile.specs.Tile.{Design, TileState}
 use Rattle.core_laws.specs.Heads.{carries_route}
 use Rattle.core_laws.specs.Core.{State}
 use Rattle.core_laws.specs.Delivery.{next_flit}

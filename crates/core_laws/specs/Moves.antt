@@ -10,16 +10,16 @@ use Rattle.packet.specs.declared.assembler.Offered.{Offered}
 use Rattle.packet.specs.declared.assembler.Offered.TheVariants.{Whole}
 use Rattle.flit_buffer.specs.declared.want.Want.{Want}
 use Rattle.flit_buffer.specs.Surroundings.{Surroundings, Wiring, granted}
-use Rattle.script_follower.specs.ProcessorRecord.{ready}
-use Rattle.order_abstract.specs.Flight.{Move, Sends, Serves, Takes}
+use Rattle.one_order.specs.ProcessorRecord.{ready}
+use Rattle.one_order.specs.Flight.{Move, Sends, Serves, Takes}
 use Rattle.packet.specs.Flits.{offered}
-use Rattle.script_follower.specs.ProcessorTable.{ProcessorState, processor_wants}
+use Rattle.one_order.specs.ProcessorTable.{ProcessorState, processor_wants}
 use Rattle.home_bank.specs.BankTable.{BankState, bank_wants}
-use Rattle.tile_laws.specs.Wiring.{processor_wiring, bank_wiring}
-use Rattle.tile_laws.specs.declared.agent.Agent.{Agent}
-use Rattle.tile_laws.specs.declared.agent.Agent.TheVariants.{Processor, Router, Bank}
-use Rattle.tile_laws.specs.Tile.{Design, TileState}
-use Rattle.tile_laws.specs.Agents.{agent_kind, agent_tile}
+use Rattle.tile.specs.Wiring.{processor_wiring, bank_wiring}
+use Rattle.tile.specs.declared.agent.Agent.{Agent}
+use Rattle.tile.specs.declared.agent.Agent.TheVariants.{Processor, Router, Bank}
+use Rattle.tile.specs.Tile.{Design, TileState}
+use Rattle.tile.specs.Agents.{agent_kind, agent_tile}
 use Rattle.core_laws.specs.Core.{State}
 
 -- what an agent learns by a choice; None where it isn't enabled

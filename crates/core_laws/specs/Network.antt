@@ -19,17 +19,17 @@ use Rattle.channel_number.specs.Ports.{injection_channel, ejection_channel, inpu
 use Rattle.wormhole.specs.Net.{Net, Parcel}
 use Rattle.wormhole.specs.Events.{NetEvent, InjectHead, InjectRest, Latch, ForwardHead, ForwardRest, Return}
 use Rattle.wormhole.specs.Delivery.{accept}
-use Rattle.wormhole_torus.specs.TorusNet as wormhole_torus
+use Rattle.core_laws.specs.TorusNet as wormhole_torus
 use Rattle.router.specs.Table.{RouterState, router_wants, latch_of, output_for}
 use Rattle.router.specs.Beginning.{router_wiring}
-use Rattle.script_follower.specs.ProcessorRecord.{ready, request_of}
-use Rattle.script_follower.specs.ProcessorTable.{ProcessorState, processor_wants}
+use Rattle.one_order.specs.ProcessorRecord.{ready, request_of}
+use Rattle.one_order.specs.ProcessorTable.{ProcessorState, processor_wants}
 use Rattle.home_bank.specs.BankTable.{BankState, bank_wants}
-use Rattle.tile_laws.specs.Wiring.{processor_wiring, bank_wiring}
-use Rattle.tile_laws.specs.declared.agent.Agent.{Agent}
-use Rattle.tile_laws.specs.declared.agent.Agent.TheVariants.{Processor, Router, Bank}
-use Rattle.tile_laws.specs.Tile.{Design, TileState}
-use Rattle.tile_laws.specs.Agents.{agent_kind, agent_tile}
+use Rattle.tile.specs.Wiring.{processor_wiring, bank_wiring}
+use Rattle.tile.specs.declared.agent.Agent.{Agent}
+use Rattle.tile.specs.declared.agent.Agent.TheVariants.{Processor, Router, Bank}
+use Rattle.tile.specs.Tile.{Design, TileState}
+use Rattle.tile.specs.Agents.{agent_kind, agent_tile}
 use Rattle.core_laws.specs.Heads.{carries_route}
 use Rattle.core_laws.specs.Core.{State}
 use Rattle.core_laws.specs.Moves.{learned_by}

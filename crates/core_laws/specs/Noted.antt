@@ -5,11 +5,11 @@ use Rattle.torus.specs.declared.step.Step.{Step}
 use Rattle.packet.specs.declared.kinds.Request.{Request}
 use Rattle.packet.specs.declared.kinds.Response.{Response}
 use Rattle.one_order.specs.Events.{push_at}
-use Rattle.script_follower.specs.ProcessorRecord.{request_of}
-use Rattle.order_abstract.specs.Flight.{Flight, Move, Sends, Takes, moved_by}
+use Rattle.one_order.specs.ProcessorRecord.{request_of}
+use Rattle.one_order.specs.Flight.{Flight, Move, Sends, Takes, moved_by}
 use Rattle.wormhole.specs.State.{NetState, empty}
 use Rattle.wormhole.specs.Events.{NetEvent, network_after}
-use Rattle.tile_laws.specs.Tile.{Design}
+use Rattle.tile.specs.Tile.{Design}
 use Rattle.core_laws.specs.Core.{Load, State, design_of, records_of, show}
 use Rattle.core_laws.specs.Network.{net_of, network_event}
 use Rattle.core_laws.specs.Runs.{state_after, move_by}

@@ -3,13 +3,13 @@ use Rattle.std.specs.Prelude.{◌≡◌, ◌⊎◌, ℕ, List, Some, slice_get}
 use Rattle.torus.specs.declared.step.OpId.{OpId}
 use Rattle.packet.specs.declared.kinds.Request.{Request}
 use Rattle.packet.specs.declared.kinds.Response.{Response}
-use Rattle.script.specs.declared.line.Line.{Line}
+use Rattle.script_lines.specs.declared.line.Line.{Line}
 use Rattle.tag_table.specs.Tags.{out_count}
-use Rattle.script_follower.specs.Scripts.{Invocation}
-use Rattle.script_follower.specs.Following.{Following, ShowsPast}
+use Rattle.one_order.specs.Scripts.{Invocation}
+use Rattle.one_order.specs.Following.{Following, ShowsPast}
 use Rattle.one_order.specs.Observed.{Run}
-use Rattle.order_abstract.specs.Flight.{Flight, processor_at}
-use Rattle.order_abstract.specs.Scripts.{AreInvocationsOf}
+use Rattle.one_order.specs.Flight.{Flight, processor_at}
+use Rattle.one_order.specs.AbstractScripts.{AreInvocationsOf}
 
 -- a request of processor p under a tag is issued and not served
 abbrev pub AwaitsRequest : Flight → ℕ → ℕ → Type 0

@@ -1,7 +1,7 @@
 -- What the done word counts.
 use Rattle.std.specs.Prelude.{◌≡◌, ℕ, true, Some, slice_get, slice_index, count_by}
-use Rattle.script_follower.specs.Following.{is_finished}
-use Rattle.tile_laws.specs.Tile.{Design, TileState}
+use Rattle.one_order.specs.Following.{is_finished}
+use Rattle.tile.specs.Tile.{Design, TileState}
 use Rattle.core_laws.specs.Core.{State}
 
 -- the done word counts the processors that have reported; only processors whose script is finished

@@ -2,8 +2,8 @@
 use Rattle.std.specs.Prelude.{ℕ, List, [], length, take, Option, Some, None, slice_get}
 use Rattle.torus.specs.declared.step.Step.{Step}
 use Rattle.one_order.specs.Events.{Event}
-pub use Rattle.order_abstract.specs.Load.{IsAcceptedLoad}
-use Rattle.order_abstract.specs.Flight.{Flight, Move, flight_event}
+pub use Rattle.one_order.specs.Load.{IsAcceptedLoad}
+use Rattle.one_order.specs.Flight.{Flight, Move, flight_event}
 use Rattle.core_laws.specs.Core.{Load, State, design_of, after, records_of, show}
 use Rattle.core_laws.specs.Moves.{move_of}
 

@@ -6,10 +6,10 @@ use Rattle.flit_buffer.specs.declared.want.Want.{Want}
 use Rattle.flit_buffer.specs.Surroundings.{Surroundings, surroundings_after}
 use Rattle.router.specs.Table.{router_wants}
 use Rattle.router.specs.Beginning.{router_wiring}
-use Rattle.script_follower.specs.ProcessorTable.{processor_wants}
+use Rattle.one_order.specs.ProcessorTable.{processor_wants}
 use Rattle.home_bank.specs.BankTable.{bank_wants}
-use Rattle.tile_laws.specs.Wiring.{processor_wiring, bank_wiring}
-use Rattle.tile_laws.specs.Tile.{Design, TileState}
+use Rattle.tile.specs.Wiring.{processor_wiring, bank_wiring}
+use Rattle.tile.specs.Tile.{Design, TileState}
 
 -- from a tile and its surroundings to those after a choice
 module _ (d : Design) (t : ℕ) (tile : TileState) (around : Surroundings) (c : Choice)

@@ -4,9 +4,9 @@ use Rattle.std.proofs.Common.{refl, sym, ◌∙◌, ap, subst, arith, slice_get,
 use Rattle.std.proofs.lemmas.Bool.{cases_Bool, cases_eq, MatchBool-at_true, MatchBool-at_false}
 use Rattle.std.proofs.lemmas.Option.{same_Some, slice_get_within}
 use Rattle.packet.specs.declared.kinds.Reply.{Reply}
-use Rattle.script.specs.declared.line.Line.{Line}
-use Rattle.script.specs.declared.line.Line.TheVariants as line
-use Rattle.script_follower.specs.Scripts.{Invocation, Allows, Spins, IsAnsweredBefore, AreAnsweredBefore, reply_number}
+use Rattle.script_lines.specs.declared.line.Line.{Line}
+use Rattle.script_lines.specs.declared.line.Line.TheVariants as line
+use Rattle.one_order.specs.Scripts.{Invocation, Allows, Spins, IsAnsweredBefore, AreAnsweredBefore, reply_number}
 use Rattle.core_models.specs.Runs.{HasFencesBetween}
 use Rattle.core_models.proofs.Courses.{get_here, get_before}
 

@@ -5,10 +5,10 @@ use Rattle.std.specs.Prelude.{option_map}
 use Rattle.std.proofs.lemmas.Bool.{cases_Bool, cases_eq, cond-true, cond-false, MatchBool-at_true, MatchBool-at_false}
 use Rattle.std.proofs.lemmas.Option.{same_Some, slice_get_within}
 use Rattle.packet.specs.declared.kinds.Reply.{Reply}
-use Rattle.script.specs.declared.line.Line.{Line}
-use Rattle.script.specs.declared.line.Line.TheVariants as line
-use Rattle.script_follower.specs.Scripts.{Invocation, Allows, Spins, IsLastReply, IsAnsweredBefore, AreAnsweredBefore, reply_of, reply_number}
-use Rattle.script_follower.proofs.Residual.{allows_nothing}
+use Rattle.script_lines.specs.declared.line.Line.{Line}
+use Rattle.script_lines.specs.declared.line.Line.TheVariants as line
+use Rattle.one_order.specs.Scripts.{Invocation, Allows, Spins, IsLastReply, IsAnsweredBefore, AreAnsweredBefore, reply_of, reply_number}
+use Rattle.one_order.proofs.Residual.{allows_nothing}
 use Rattle.one_order.proofs.Lists.{get_push}
 use Rattle.core_models.specs.Programs.{ProgramStep, Made, Fenced, brings, one_step, spin_steps, steps_of_lines}
 use Rattle.core_models.proofs.Rising.{Each, Rising, Has, each_weaker}

@@ -7,14 +7,14 @@ use Rattle.std.proofs.lemmas.Option.{same_Some, slice_get_within}
 use Rattle.packet.specs.declared.kinds.Operation.{Operation}
 use Rattle.packet.specs.declared.kinds.Op.TheVariants as op
 use Rattle.packet.specs.declared.kinds.Reply.{Reply}
-use Rattle.script.specs.declared.line.Line.{Line}
+use Rattle.script_lines.specs.declared.line.Line.{Line}
 use Rattle.memory_models.specs.Trace.{is_load, is_write, uses_word}
-use Rattle.script_follower.specs.Scripts.{Invocation, IsAnsweredBefore}
+use Rattle.one_order.specs.Scripts.{Invocation, IsAnsweredBefore}
 use Rattle.one_order.specs.declared.ordered.Ordered.{Ordered}
 use Rattle.one_order.specs.Observed.{Run, list_at}
 use Rattle.one_order.specs.OneOrder.{HasOneOrder}
 use Rattle.one_order.proofs.Lists.{same_get}
-use Rattle.order_abstract.specs.Scripts.{FollowScripts}
+use Rattle.one_order.specs.AbstractScripts.{FollowScripts}
 use Rattle.core_models.specs.Programs.{Made, program_shown}
 use Rattle.core_models.specs.Accesses.{Access, opening_store, operation_of_row, row_named, access_of_step}
 use Rattle.core_models.specs.Traces.{access_at}

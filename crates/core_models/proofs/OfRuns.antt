@@ -13,7 +13,7 @@ use Rattle.one_order.specs.Observed.{list_at}
 use Rattle.one_order.proofs.Lists.{list_within}
 use Rattle.core_laws.specs.Core.{Load, run_of}
 use Rattle.core_laws.specs.Runs.{IsAcceptedLoad}
-use Rattle.core_machine.specs.Machine.{IsLawful}
+use Rattle.core_laws.specs.Machine.{IsLawful}
 use Rattle.core_models.specs.Accesses.{access_by, operation_of_row}
 use Rattle.core_models.specs.Traces.{access_at}
 use Rattle.core_models.specs.Values.{RepliesWordOf}

@@ -9,20 +9,20 @@ use Rattle.torus.specs.declared.step.Step.{Step}
 use Rattle.tag_table.specs.Tags.{out_count}
 use Rattle.packet.specs.declared.kinds.Operation.{Operation}
 use Rattle.packet.specs.declared.kinds.Reply.{Reply}
-use Rattle.script.specs.declared.line.Line.{Line}
-use Rattle.script.specs.Scripts.{IsAcceptedScript, script_of}
-use Rattle.script_follower.specs.Scripts.{Invocation, IsAnsweredBefore, unanswered, awaited}
-use Rattle.script_follower.specs.ProcessorRecord.{ProcessorRecord, no_processor, issued_by, answered_by}
-use Rattle.script_follower.proofs.Shown.{waiting_is}
-use Rattle.script_follower.proofs.Followable.{accepted_followable}
+use Rattle.script_lines.specs.declared.line.Line.{Line}
+use Rattle.script_lines.specs.Lines.{IsAcceptedScript, script_of}
+use Rattle.one_order.specs.Scripts.{Invocation, IsAnsweredBefore, unanswered, awaited}
+use Rattle.one_order.specs.ProcessorRecord.{ProcessorRecord, no_processor, issued_by, answered_by}
+use Rattle.one_order.proofs.Shown.{waiting_is}
+use Rattle.one_order.proofs.Followable.{accepted_followable}
 use Rattle.one_order.specs.declared.ordered.Ordered.{Ordered}
 use Rattle.one_order.specs.Observed.{Observed, list_at, HasIssued, HasAnswered}
 use Rattle.one_order.specs.OneOrder.{HasOneOrder}
 use Rattle.one_order.proofs.Lists.{within_length, list_at_none}
 use Rattle.one_order.proofs.Growth.{kept_along}
-use Rattle.order_abstract.specs.Flight.{Flight, Move, Sends, Serves, Takes, processor_at, moved, moved_by, show}
-use Rattle.order_abstract.specs.Scripts.{AreInvocationsOf}
-use Rattle.order_abstract.proofs.Parts.{map_same, issued_at, tags_at, processor_set}
+use Rattle.one_order.specs.Flight.{Flight, Move, Sends, Serves, Takes, processor_at, moved, moved_by, show}
+use Rattle.one_order.specs.AbstractScripts.{AreInvocationsOf}
+use Rattle.one_order.proofs.Parts.{map_same, issued_at, tags_at, processor_set}
 use Rattle.core_laws.specs.Core.{Load, run_of}
 use Rattle.core_laws.specs.Runs.{IsAcceptedLoad}
 use Rattle.core_laws.specs.Noted.{flight_after, move_after}

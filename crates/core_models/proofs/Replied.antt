@@ -10,11 +10,11 @@ use Rattle.packet.specs.declared.kinds.Operation.{Operation as Asked}
 use Rattle.packet.specs.declared.kinds.Reply.{Reply}
 use Rattle.packet.specs.declared.kinds.Reply.TheVariants.{Old}
 use Rattle.packet.specs.Memory.{new_word, reply_to, memory_after}
-use Rattle.script.specs.declared.line.Line.{Line}
+use Rattle.script_lines.specs.declared.line.Line.{Line}
 use Rattle.memory_models.specs.declared.kinds.Operation.{Operation}
 use Rattle.memory_models.specs.Trace.{is_load, is_write, operation_at, source_at}
 use Rattle.model_text.specs.Kinds.{kind_of_op}
-use Rattle.script_follower.specs.Scripts.{reply_number}
+use Rattle.one_order.specs.Scripts.{reply_number}
 use Rattle.home_bank.specs.declared.entry.Entry.{Entry}
 use Rattle.one_order.specs.declared.ordered.Ordered.{Ordered}
 use Rattle.one_order.specs.Observed.{Run, list_at}
@@ -22,7 +22,7 @@ use Rattle.one_order.specs.Order.{LinearizationPoint, operations_of}
 use Rattle.one_order.specs.OneOrder.{HasOneOrder}
 use Rattle.one_order.proofs.Lists.{within_length, list_within}
 use Rattle.one_order.proofs.EventNumbers.{numbers}
-use Rattle.order_abstract.specs.Scripts.{FollowScripts}
+use Rattle.one_order.specs.AbstractScripts.{FollowScripts}
 use Rattle.core_models.specs.Accesses.{Access, opening_store, operation_of_row}
 use Rattle.core_models.specs.Traces.{access_at, IsTraceOf}
 use Rattle.core_models.specs.Values.{reply_of_row, RepliesWordOf}

@@ -6,7 +6,7 @@ use Rattle.std.specs.List.{range_with_len}
 use Rattle.std.proofs.lemmas.Bool.{cases_lt, both_ways}
 use Rattle.std.proofs.lemmas.Option.{slice_get_within}
 use Rattle.packet.specs.declared.kinds.Reply.{Reply}
-use Rattle.script_follower.specs.Scripts.{Invocation, IsAnsweredBefore, reply_of}
+use Rattle.one_order.specs.Scripts.{Invocation, IsAnsweredBefore, reply_of}
 use Rattle.one_order.specs.declared.answer.Answer.{Answer}
 use Rattle.one_order.specs.declared.ordered.Ordered.{Ordered}
 use Rattle.one_order.specs.Observed.{Run, list_at, IsIssuedAt, event_count}
@@ -16,7 +16,7 @@ use Rattle.one_order.specs.OneOrder.{HasOneOrder}
 use Rattle.one_order.proofs.Lists.{within_length, same_get}
 use Rattle.one_order.proofs.Counting.{same_lists}
 use Rattle.one_order.proofs.EventNumbers.{PointOf, point_of, real_time, numbers}
-use Rattle.order_abstract.specs.Scripts.{AreInvocationsOf}
+use Rattle.one_order.specs.AbstractScripts.{AreInvocationsOf}
 use Rattle.core_models.specs.Programs.{replies_shown, reply_shown}
 use Rattle.core_models.proofs.Rising.{Found, found}
 use Rattle.core_models.proofs.Ranges.{get_map, get_range, length_map, length_range}

@@ -7,15 +7,15 @@ use Rattle.std.proofs.lemmas.Bool.{and_parts}
 use Rattle.std.proofs.lemmas.Option.{same_Some}
 use Rattle.packet.specs.declared.kinds.Op.{Op}
 use Rattle.packet.specs.declared.kinds.Op.TheVariants as op
-use Rattle.script.specs.declared.line.Line.{Line}
+use Rattle.script_lines.specs.declared.line.Line.{Line}
 use Rattle.memory_models.specs.declared.kinds.Kind.TheVariants.{Fence}
 use Rattle.memory_models.specs.Trace.{uses_word}
 use Rattle.model_text.specs.Kinds.{kind_of_op}
-use Rattle.script_follower.specs.Scripts.{Invocation}
+use Rattle.one_order.specs.Scripts.{Invocation}
 use Rattle.one_order.specs.declared.ordered.Ordered.{Ordered}
 use Rattle.one_order.specs.Observed.{Run, list_at}
 use Rattle.one_order.specs.OneOrder.{HasOneOrder}
-use Rattle.order_abstract.specs.Scripts.{HasFollowed, FollowScripts}
+use Rattle.one_order.specs.AbstractScripts.{HasFollowed, FollowScripts}
 use Rattle.core_models.specs.Programs.{ProgramStep, Made, Fenced, program_shown, steps_of_lines}
 use Rattle.core_models.specs.Accesses.{Access, opening_store, operation_of_row, fence_by, access_by, row_named, access_of_step, accesses_of, accesses_shown}
 use Rattle.core_models.specs.Traces.{access_at}

@@ -9,7 +9,7 @@ use Rattle.packet.specs.declared.kinds.Operation.{Operation}
 use Rattle.packet.specs.Memory.{new_word, reply_to, memory_after_one, reply_of_one, memory_after, replies}
 use Rattle.memory_models.specs.Trace.{is_write, is_load}
 use Rattle.model_text.specs.Kinds.{kind_of_op}
-use Rattle.script_follower.specs.Scripts.{reply_number}
+use Rattle.one_order.specs.Scripts.{reply_number}
 
 index_same : (m : List ℕ) (a v : ℕ) → a < length m → slice_index (slice_set m a v) a ≡ v
 index_same [] a v low = absurd (omega arith)

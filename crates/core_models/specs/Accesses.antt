@@ -5,7 +5,7 @@ use Rattle.std.specs.Prelude.{find, slice_index_or, filter_map, flat_map}
 use Rattle.std.specs.List.{range_with_len}
 use Rattle.packet.specs.declared.kinds.Op.TheVariants as op
 use Rattle.packet.specs.declared.kinds.Operation.{Operation}
-use Rattle.script.specs.declared.line.Line.{Line}
+use Rattle.script_lines.specs.declared.line.Line.{Line}
 use Rattle.memory_models.specs.declared.kinds.Kind.{Kind}
 use Rattle.memory_models.specs.declared.kinds.Kind.TheVariants.{Store, Fence}
 use Rattle.model_text.specs.Kinds.{kind_of_op}

@@ -4,9 +4,9 @@ use Rattle.std.specs.Prelude.{ℕ, zero, suc, ◌+◌, ◌==◌, Bool, false, if
 use Rattle.std.specs.Prelude.{Option, Some, None, option_map, find, map, length}
 use Rattle.std.specs.List.{range_with_len}
 use Rattle.packet.specs.declared.kinds.Reply.{Reply}
-use Rattle.script.specs.declared.line.Line.{Line}
-use Rattle.script.specs.declared.line.Line.TheVariants as line
-use Rattle.script_follower.specs.Scripts.{reply_number}
+use Rattle.script_lines.specs.declared.line.Line.{Line}
+use Rattle.script_lines.specs.declared.line.Line.TheVariants as line
+use Rattle.one_order.specs.Scripts.{reply_number}
 use Rattle.one_order.specs.Observed.{Observed, list_at}
 
 -- a step of a program: an operation, by its index; or a fence behind so many operations

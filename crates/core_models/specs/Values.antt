@@ -3,7 +3,7 @@ use Rattle.std.specs.Prelude.{◌≡◌, ◌⊎◌, ℕ, List, Option, Some, opt
 use Rattle.packet.specs.declared.kinds.Reply.{Reply}
 use Rattle.packet.specs.declared.kinds.Reply.TheVariants.{Old}
 use Rattle.packet.specs.Memory.{new_word}
-use Rattle.script_follower.specs.Scripts.{reply_number}
+use Rattle.one_order.specs.Scripts.{reply_number}
 use Rattle.one_order.specs.declared.ordered.Ordered.{Ordered}
 use Rattle.one_order.specs.Observed.{Observed, list_at}
 use Rattle.core_models.specs.Accesses.{Access, opening_store, operation_of_row, access_by}

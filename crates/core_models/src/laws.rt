@@ -11,7 +11,7 @@ ghost use Rattle.model_text.specs.Kinds.{kind_of_op};
 ghost use Rattle.one_order.specs.declared.ordered.Ordered.{Ordered};
 ghost use Rattle.core_laws.specs.Core.{Load, run_of};
 ghost use Rattle.core_laws.specs.Runs.{IsAcceptedLoad};
-ghost use Rattle.core_machine.specs.Machine.{IsLawful};
+ghost use Rattle.core_laws.specs.Machine.{IsLawful};
 ghost use Rattle.core_models.specs.Accesses.{access_by, operation_of_row};
 ghost use Rattle.core_models.specs.Traces.{access_at};
 ghost use Rattle.core_models.specs.Values.{RepliesWordOf};

@@ -4,8 +4,8 @@ use Rattle.torus.specs.Shape.{tiles_of}
 use Rattle.torus.specs.declared.step.Step.{Step}
 use Rattle.flit_buffer.specs.declared.word_op.WordOp.{WordOp}
 use Rattle.atomic_table.specs.declared.shared.Seat.{Seat}
-use Rattle.tile_laws.specs.Agents.{TilePlace, agent_kind, agent_tile}
-use Rattle.tile_laws.proofs.AgentNumbers.{number_low, number_of_agent}
+use Rattle.tile.specs.Agents.{TilePlace, agent_kind, agent_tile}
+use Rattle.tile.proofs.AgentNumbers.{number_low, number_of_agent}
 use Rattle.fabric_rule.specs.Core.{Load}
 use Rattle.fabric_rule.specs.Runs.{IsAcceptedLoad}
 use Rattle.fabric_rule.specs.Placed.{PlacedTile}
@@ -14,13 +14,13 @@ use Rattle.fabric_rule.specs.View.{View}
 use Rattle.fabric_rule.specs.Groups.{Owns, In, Others, GroupGoesOn, both, flat}
 use Rattle.fabric_rule.specs.Rule.{Learned}
 use Rattle.fabric_rule.proofs.Runs.{names_tile}
-use Rattle.seat_wake.specs.Counted.{Counted, AreRight}
-use Rattle.seat_wake.proofs.Counting.{others_right}
-use Rattle.seat_wake.proofs.Falling.{choice_idle, take_idle, put_idle, credit_idle}
-use Rattle.seat_wake.proofs.Flags.{unready}
+use Rattle.fabric_rule.specs.Counted.{Counted, AreRight}
+use Rattle.fabric_rule.proofs.Counting.{others_right}
+use Rattle.fabric_rule.proofs.Falling.{choice_idle, take_idle, put_idle, credit_idle}
+use Rattle.fabric_rule.proofs.Flags.{unready}
 use Rattle.machine_parts.specs.Awake.{is_choice_awake}
 use Rattle.machine_parts.specs.Ports.{flags_of}
-use Rattle.core_wake.specs.Routers.{of_router}
+use Rattle.core_laws.specs.Routers.{of_router}
 use Rattle.torus.specs.declared.step.Choice.TheVariants.{TakeFrom, Put, CreditOf}
 use Rattle.fabric.specs.Turns.{SeesIdle, StepMoves, Sees, has_choice}
 use Rattle.fabric.specs.Seats.{Knowing, StandsAt, seat_knows}

@@ -8,10 +8,10 @@ use Rattle.std.proofs.lemmas.Option.{same_Some, slice_get-map, slice_get_past, s
 use Rattle.atomic_table.specs.declared.shared.Seat.{Seat}
 use Rattle.torus.specs.Shape.{tiles_of}
 use Rattle.torus.specs.declared.step.Step.{Step}
-use Rattle.script_follower.specs.Following.{is_finished}
-use Rattle.script_follower.specs.ProcessorRecord.{ProcessorRecord}
-use Rattle.tile_laws.specs.Tile.{TileState}
-use Rattle.tile_laws.specs.Agents.{TilePlace, tile_placed}
+use Rattle.one_order.specs.Following.{is_finished}
+use Rattle.one_order.specs.ProcessorRecord.{ProcessorRecord}
+use Rattle.tile.specs.Tile.{TileState}
+use Rattle.tile.specs.Agents.{TilePlace, tile_placed}
 use Rattle.fabric_rule.specs.Placed.{PlacedTile}
 use Rattle.fabric_rule.specs.Core.{Load, design_of, after, records_of}
 use Rattle.fabric_rule.specs.Runs.{IsAcceptedLoad}

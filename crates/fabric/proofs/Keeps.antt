@@ -10,7 +10,7 @@ use Rattle.packet.specs.Memory.{new_word}
 use Rattle.flit_buffer.specs.Words.{word_of, effect_of}
 use Rattle.flit_buffer.specs.declared.word_op.WordOp.{WordOp}
 use Rattle.flit_buffer.specs.declared.word_op.WordOp.TheVariants.{Load as Read, Store, Swap, Cas, Add, And, Or, Xor, Max, Min}
-use Rattle.tile_laws.specs.Agents.{TilePlace}
+use Rattle.tile.specs.Agents.{TilePlace}
 use Rattle.fabric_rule.specs.Core.{Load}
 use Rattle.fabric_rule.specs.Runs.{IsAcceptedLoad}
 use Rattle.fabric_rule.specs.Known.{tile_of, known, ShowsBeginning, op_of, moves}

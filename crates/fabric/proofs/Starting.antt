@@ -5,8 +5,8 @@ use Rattle.atomic_table.specs.declared.shared.Seat.{Seat}
 use Rattle.torus.specs.declared.step.Step.{Step}
 use Rattle.fabric_rule.specs.View.{View}
 use Rattle.fabric_rule.specs.Groups.{In, first_group, first_half}
-use Rattle.seat_wake.specs.Border.{AreOf}
-use Rattle.seat_wake.specs.Counted.{Counted, AreRight}
+use Rattle.fabric_rule.specs.Border.{AreOf}
+use Rattle.fabric_rule.specs.Counted.{Counted, AreRight}
 use Rattle.fabric.specs.Key.{count_up}
 use Rattle.fabric.specs.Opening.{HasRest}
 use Rattle.fabric.proofs.Counting.{RightOf}

@@ -4,7 +4,7 @@ use Rattle.std.specs.Prelude.{slice_index}
 use Rattle.torus.specs.declared.step.Step.{Step}
 use Rattle.flit_buffer.specs.Words.{word_of}
 use Rattle.flit_buffer.specs.declared.word_op.WordOp.{WordOp}
-use Rattle.tile_laws.specs.Agents.{TilePlace}
+use Rattle.tile.specs.Agents.{TilePlace}
 use Rattle.fabric_rule.specs.Placed.{PlacedTile}
 use Rattle.fabric_rule.specs.Runs.{IsAcceptedLoad}
 use Rattle.fabric_rule.specs.Known.{tile_of, known, enabled, ShowsBeginning, op_of, moves}
@@ -13,8 +13,8 @@ use Rattle.fabric_rule.specs.Groups.{In, Others, knowing}
 use Rattle.fabric_rule.specs.Rule.{Looked}
 use Rattle.fabric_rule.proofs.Groups.{away, others_append}
 use Rattle.fabric_rule.proofs.Runs.{known_away, tells_later}
-use Rattle.seat_wake.specs.Counted.{Counted, IsInnerTake}
-use Rattle.seat_wake.proofs.Takes.{empty_place}
+use Rattle.fabric_rule.specs.Counted.{Counted, IsInnerTake}
+use Rattle.fabric_rule.proofs.Takes.{empty_place}
 use Rattle.fabric.specs.Turns.{SeesIdle, StepMoves, OnlyTile}
 use Rattle.fabric.specs.Seats.{StandsAt}
 use Rattle.fabric.proofs.Seating.{stands_still}

@@ -10,9 +10,9 @@ use Rattle.torus.specs.declared.step.Stepped.TheVariants.{Moved, Idle}
 use Rattle.fabric_rule.specs.Room.{home_room}
 use Rattle.flit_buffer.specs.declared.word_op.WordOp.{WordOp}
 use Rattle.flit_buffer.specs.Words.{word_of}
-use Rattle.tile_laws.specs.Agents.{TilePlace, tile_next_op, tile_absorbed, tile_placed, agent_kind}
+use Rattle.tile.specs.Agents.{TilePlace, tile_next_op, tile_absorbed, tile_placed, agent_kind}
 use Rattle.fabric_rule.specs.Placed.{PlacedTile, with_place, IsAcceptableTo, HasRoomForEntry}
-use Rattle.tile_laws.specs.Tile.{TileState}
+use Rattle.tile.specs.Tile.{TileState}
 use Rattle.fabric_rule.specs.Core.{Load, after, design_of}
 use Rattle.fabric_rule.specs.Runs.{IsAcceptedLoad}
 use Rattle.fabric_rule.specs.Known.{tile_of, known, op_of, moves, left_by, Suits, row_length}

@@ -1,6 +1,6 @@
 -- What a seat says of its tiles.
 use Rattle.std.specs.Prelude.{◌≡◌, ℕ, ◌<◌, ◌≤◌, List, Some, true}
-use Rattle.tile_laws.specs.Agents.{TilePlace}
+use Rattle.tile.specs.Agents.{TilePlace}
 use Rattle.fabric_rule.specs.Known.{known}
 use Rattle.fabric_rule.specs.Groups.{Owns}
 use Rattle.fabric.specs.Seats.{Knowing}

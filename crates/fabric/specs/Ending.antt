@@ -7,7 +7,7 @@ use Rattle.torus.specs.declared.step.Step.{Step}
 use Rattle.channel_number.specs.Order.{channel_count}
 use Rattle.one_order.specs.Observed.{Observed}
 use Rattle.fabric_rule.specs.Placed.{PlacedTile}
-use Rattle.script_follower.specs.Following.{is_finished}
+use Rattle.one_order.specs.Following.{is_finished}
 use Rattle.fabric_rule.specs.Core.{Load, after, show}
 use Rattle.fabric_rule.specs.Runs.{IsAcceptedLoad}
 use Rattle.fabric_rule.specs.Known.{ShowsBeginning}

@@ -3,8 +3,8 @@ use Rattle.std.specs.Prelude.{ℕ, zero, suc, ◌-◌, ◌<◌, List, [], ◌∷
 use Rattle.torus.specs.Shape.{tiles_of}
 use Rattle.torus.specs.declared.step.Step.{Step}
 use Rattle.torus.specs.declared.step.Choice.TheVariants.{Send}
-use Rattle.tile_laws.specs.Agents.{TilePlace}
-use Rattle.tile_laws.specs.Beginning.{new_tile}
+use Rattle.tile.specs.Agents.{TilePlace}
+use Rattle.tile.specs.Beginning.{new_tile}
 use Rattle.fabric_rule.specs.Core.{Load, design_of, first_tile}
 use Rattle.fabric_rule.specs.View.{View, no_load}
 

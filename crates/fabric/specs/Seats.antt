@@ -67,8 +67,8 @@ pub record Looking (s : Seat (Unit {0}) View) : Type 0 where
   pub none_owned : s.me.0.groups ≡ []
 
 -- after steps of others the step was made, enabled there
-abbrev pub Moves : Knowing → Step → Knowing → Type 0
-Moves v c w = (between : List Step) × Others (v.tiles ∷ []) between
+abbrev pub MovesSeats : Knowing → Step → Knowing → Type 0
+MovesSeats v c w = (between : List Step) × Others (v.tiles ∷ []) between
     × (enabled v.load (v.run ++ between) c ≡ true)
     × (w ≡ with_run v ((v.run ++ between) ++ c ∷ []))
 

@@ -2,7 +2,7 @@
 use Rattle.std.specs.Prelude.{◌≡◌, ℕ, List, [], ◌∷◌}
 use Rattle.atomic_table.specs.Table as table
 use Rattle.torus.specs.declared.step.Step.{Step}
-use Rattle.tile_laws.specs.Agents.{TilePlace}
+use Rattle.tile.specs.Agents.{TilePlace}
 use Rattle.fabric_rule.specs.Core.{Load}
 use Rattle.fabric_rule.specs.View.{View}
 use Rattle.fabric_rule.specs.Groups.{flat}

@@ -5,8 +5,8 @@ use Rattle.atomic_table.specs.declared.shared.Seat.{Seat}
 use Rattle.torus.specs.Shape.{Shape, dims_of}
 use Rattle.torus.specs.declared.step.Step.{Step}
 use Rattle.channel_number.specs.Ports.{port_count}
-use Rattle.tile_laws.specs.Choices.{has_choice as agent_has}
-use Rattle.tile_laws.specs.Agents.{agent_kind}
+use Rattle.tile.specs.Choices.{has_choice as agent_has}
+use Rattle.tile.specs.Agents.{agent_kind}
 use Rattle.fabric_rule.specs.Core.{Load}
 use Rattle.fabric_rule.specs.Known.{tile_of, known, enabled, op_of}
 use Rattle.fabric_rule.specs.View.{View}

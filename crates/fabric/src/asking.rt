@@ -3,7 +3,7 @@ ghost use Rattle.std.specs.Prelude.{◌≡◌, ◌≤◌, ◌<◌, ◌↔◌, �
 ghost use Rattle.torus.specs.Shape.{dims_of, tiles_of};
 ghost use Rattle.channel_number.specs.Ports.{port_count};
 ghost use Rattle.torus.specs.declared.step.Choice.TheVariants.{TakeFrom, Put, CreditOf};
-ghost use Rattle.core_wake.specs.Routers.{of_router};
+ghost use Rattle.core_laws.specs.Routers.{of_router};
 ghost use Rattle.fabric_rule.specs.Runs.{IsAcceptedLoad};
 ghost use Rattle.fabric_rule.specs.Known.{enabled};
 ghost use Rattle.fabric_rule.specs.Groups.{Owns};

@@ -2,7 +2,7 @@
 ghost use Rattle.std.specs.Prelude.{◌≡◌, ◌↔◌, ◌≤◌, true, IsNone, IsTrue, IfSome, Some, length, slice_get, is_some};
 ghost use Rattle.std.specs.Option.{option_copied};
 ghost use Rattle.torus.specs.Shape.{tiles_of};
-ghost use Rattle.fabric_rule.specs.Scripts.{AreFinished};
+ghost use Rattle.fabric_rule.specs.AbstractScripts.{AreFinished};
 ghost use Rattle.fabric_rule.specs.Core.{after, run_of};
 ghost use Rattle.fabric_rule.specs.Runs.{IsAcceptedLoad};
 ghost use Rattle.fabric_rule.specs.Machine.{all_finished};

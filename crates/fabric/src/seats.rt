@@ -3,7 +3,7 @@ ghost use Rattle.std.specs.Prelude.{◌≡◌, ◌≤◌, ◌↔◌, ◌⊎◌, 
 ghost use Rattle.fabric_rule.specs.Known.{word_after};
 ghost use Rattle.fabric_rule.specs.Groups.{Extends};
 ghost use Rattle.fabric.specs.Turns.{Sees};
-ghost use Rattle.fabric.specs.Seats.{Moves, Idles, Grows, IsNotMine, IsSeatOf, Learns, JoinsTo, Placed, mix_at};
+ghost use Rattle.fabric.specs.Seats.{MovesSeats, Idles, Grows, IsNotMine, IsSeatOf, Learns, JoinsTo, Placed, mix_at};
 ghost use Rattle.fabric.specs.Seats.{seat_knows, with_run};
 ghost use Rattle.fabric.specs.Lawful.{HasLawfulRun, KeepsBothFirst};
 ghost use Rattle.fabric.specs.declared.steps.Turned.TheVariants.{Moved, Idle, NotMine};
@@ -12,8 +12,8 @@ use crate::plays::{Both, Halves, Look, Merge, Note, take_in};
 use crate::steps::{OneRun, Turned, turn_tile};
 use crate::view::{Dealing, Knowledge};
 use atomic_table::{Seat, Table};
+use fabric_rule::SeatFlags;
 use machine_core::{TileAgents, agent_kind, agent_tile};
-use seat_wake::SeatFlags;
 use std::alloc::{Allocator, Global};
 use std::marker::Model;
 use torus::{Step, Torus};
@@ -67,7 +67,7 @@ pub struct TileSeat<A: Allocator = Global> {
 }
 
 impl<A: Allocator> Model for TileSeat<A> {
-    ghost use Rattle.seat_wake.specs.Counted.{AreRight};
+    ghost use Rattle.fabric_rule.specs.Counted.{AreRight};
     ghost use Rattle.fabric.specs.Seats.{Knowing, seat_knows, Seated};
 
     ghost Value = { Knowing };
@@ -100,7 +100,7 @@ impl<A: Allocator> Fabric<A> {
     #[inline(always)]
     pub fn turn(&self, seat: &mut TileSeat<A>, step: Step) -> Turned
         requires { IsSeatOf self.now seat.old }
-        ensures moved { result ≡ Moved → Moves seat.old step seat.new }
+        ensures moved { result ≡ Moved → MovesSeats seat.old step seat.new }
         ensures idle { result ≡ Idle → Idles seat.old step seat.new }
         ensures not_mine { (result ≡ NotMine) ↔ IsNotMine seat.old step }
         ensures unchanged { result ≡ NotMine → seat.new ≡ seat.old }

@@ -1,24 +1,24 @@
 //! The atomic operations on the row.
 ghost use Rattle.std.specs.Prelude.{◌≡◌, ◌≢◌, ◌<◌, IsTrue, true, false, Some, []};
-ghost use Rattle.tile_laws.specs.Agents.{tile_next_op};
+ghost use Rattle.tile.specs.Agents.{tile_next_op};
 ghost use Rattle.fabric_rule.specs.Runs.{IsAcceptedLoad};
 ghost use Rattle.fabric_rule.specs.Known.{tile_of, enabled, row_length};
 ghost use Rattle.fabric_rule.specs.Groups.{In};
 ghost use Rattle.fabric_rule.specs.Rule.{Attempted};
 ghost use Rattle.fabric.specs.Seats.{StandsAt};
-ghost use Rattle.seat_wake.specs.Counted.{AreRight, Falls};
+ghost use Rattle.fabric_rule.specs.Counted.{AreRight, Falls};
 ghost use Rattle.fabric.specs.Turns.{StepMoves, StepIdles, SeesIdle, Sees, OnlyTile, has_choice};
 ghost use Rattle.fabric.specs.declared.steps.Turned.TheVariants.{Moved, Idle, NotMine};
 
 use crate::plays::Look;
 use crate::view::{Dealing, Knowledge};
 use atomic_table::{Play, Seat, Shared, TableRule};
+use fabric_rule::SeatFlags;
 use flit_buffer::WordOp;
 use machine_core::{TileAgents, agent_kind};
-use seat_wake::SeatFlags;
 use std::alloc::Allocator;
 use std::marker::{Brand, PhantomData};
-use tile_laws::Agent;
+use tile::Agent;
 use torus::{Step, Stepped};
 
 /// The rule of the shared row.
@@ -41,7 +41,7 @@ pub type Row = Shared<(), Knowledge, Dealing, OneRun>;
 /// its run may have grown, so it has none for a second.
 pub trait Turning {
     ghost use Rattle.torus.specs.declared.step.Step.{Step};
-    ghost use Rattle.tile_laws.specs.Agents.{TilePlace};
+    ghost use Rattle.tile.specs.Agents.{TilePlace};
     ghost use Rattle.fabric_rule.specs.View.{View};
 
     ghost view: { View };

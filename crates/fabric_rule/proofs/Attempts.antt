@@ -8,7 +8,7 @@ use Rattle.torus.specs.Shape.{tiles_of}
 use Rattle.torus.specs.declared.step.Step.{Step}
 use Rattle.flit_buffer.specs.Words.{word_of, performed}
 use Rattle.flit_buffer.specs.declared.word_op.WordOp.{WordOp}
-use Rattle.tile_laws.specs.Agents.{TilePlace}
+use Rattle.tile.specs.Agents.{TilePlace}
 use Rattle.core_laws.specs.Core.{Load}
 use Rattle.core_laws.specs.Runs.{IsAcceptedLoad}
 use Rattle.fabric_rule.specs.Known.{tile_of, known, ShowsBeginning, op_of, moves}

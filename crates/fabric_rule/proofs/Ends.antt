@@ -5,15 +5,15 @@ use Rattle.std.specs.List.{list_all}
 use Rattle.std.proofs.lemmas.List.Folds.{list_all-map}
 use Rattle.std.proofs.lemmas.Option.{same_Some}
 use Rattle.torus.specs.declared.step.Step.{Step}
-use Rattle.script_follower.specs.Following.{is_finished}
-use Rattle.script_follower.specs.ProcessorRecord.{ProcessorRecord}
-use Rattle.tile_laws.specs.Tile.{TileState}
-use Rattle.tile_laws.specs.Agents.{TilePlace, tile_placed}
+use Rattle.one_order.specs.Following.{is_finished}
+use Rattle.one_order.specs.ProcessorRecord.{ProcessorRecord}
+use Rattle.tile.specs.Tile.{TileState}
+use Rattle.tile.specs.Agents.{TilePlace, tile_placed}
 use Rattle.core_laws.specs.Core.{Load, State, design_of, after}
 use Rattle.core_laws.specs.Runs.{IsAcceptedLoad}
 use Rattle.core_laws.specs.Reports.{CountsReports}
 use Rattle.core_laws.proofs.Reached.{reports_counted}
-use Rattle.core_row.proofs.RowOfRuns.{all_steps}
+use Rattle.core_laws.proofs.RowOfRuns.{all_steps}
 use Rattle.fabric_rule.specs.Known.{known}
 use Rattle.fabric_rule.specs.Ended.{AreAllFinished}
 

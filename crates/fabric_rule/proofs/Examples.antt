@@ -2,8 +2,8 @@
 use Rattle.std.proofs.Common.{◌≡◌, ℕ, true, false, List, [], ◌∷◌, refl, replicate}
 use Rattle.torus.specs.declared.step.Step.{Step}
 use Rattle.torus.specs.declared.step.Choice.TheVariants.{Done, TakeFrom}
-use Rattle.script_follower.specs.Following.{first_of, is_finished}
-use Rattle.tile_laws.specs.Agents.{TilePlace, tile_placed}
+use Rattle.one_order.specs.Following.{first_of, is_finished}
+use Rattle.tile.specs.Agents.{TilePlace, tile_placed}
 use Rattle.core_laws.specs.Core.{Load, design_of, first_state, first_tile}
 use Rattle.fabric_rule.specs.View.{View, blank}
 use Rattle.fabric_rule.specs.Known.{row_length, word_after, moves}

@@ -1,5 +1,5 @@
-pub use Rattle.core_machine.proofs.Lawful
-pub use Rattle.core_row.proofs.RowOfRuns
+pub use Rattle.core_laws.proofs.Lawful
+pub use Rattle.core_laws.proofs.RowOfRuns
 pub mod Runs
 pub mod Stores
 pub mod Groups
@@ -11,3 +11,14 @@ pub mod Ending
 pub mod Ends
 mod WrongOnes
 mod Examples
+pub mod Undisturbed
+pub mod OwnEnds
+pub mod Flags
+pub mod Ports
+pub mod Kept
+pub mod Falling
+mod Sides
+mod Bordering
+mod Filling
+pub mod Counting
+pub mod Takes

@@ -12,20 +12,20 @@ use Rattle.packet.specs.declared.kinds.Request.{Request}
 use Rattle.flit_buffer.specs.Words.{word_of, performed}
 use Rattle.flit_buffer.specs.declared.word_op.WordOp.{WordOp}
 use Rattle.channel_number.specs.Order.{channel_count}
-use Rattle.order_abstract.specs.Room.{home_room}
-use Rattle.tile_laws.specs.declared.agent.Agent.{Agent}
-use Rattle.tile_laws.specs.declared.agent.Agent.TheVariants.{Processor, Router, Bank}
-use Rattle.tile_laws.specs.Tile.{Design, TileState}
-use Rattle.tile_laws.specs.Agents.{TilePlace, tile_placed, agent_op, tile_next_op, tile_absorbed, agent_kind, agent_tile}
+use Rattle.one_order.specs.Room.{home_room}
+use Rattle.tile.specs.declared.agent.Agent.{Agent}
+use Rattle.tile.specs.declared.agent.Agent.TheVariants.{Processor, Router, Bank}
+use Rattle.tile.specs.Tile.{Design, TileState}
+use Rattle.tile.specs.Agents.{TilePlace, tile_placed, agent_op, tile_next_op, tile_absorbed, agent_kind, agent_tile}
 use Rattle.tile.specs.Placed.{IsAcceptableTo, HasRoomForEntry}
 use Rattle.core_laws.specs.Core.{Load, State, design_of, first_state, after, next, or_same, step}
 use Rattle.core_laws.specs.Runs.{IsAcceptedLoad, state_after}
 use Rattle.core_laws.proofs.AskedFor.{bank_asked}
-use Rattle.core_row.specs.Row.{row_of}
-use Rattle.core_row.specs.Attempts.{tile_in, LeavesRow, MovesRow, IsWordOperation}
-use Rattle.core_row.proofs.RowOfRuns.{is_operation, run_leaves, all_steps, run_append, size, tiles_there, surrounded}
-use Rattle.core_row.proofs.Rows.{row_word}
-use Rattle.core_row.proofs.Tries.{may_try}
+use Rattle.core_laws.specs.Row.{row_of}
+use Rattle.core_laws.specs.Attempts.{tile_in, LeavesRow, MovesRow, IsWordOperation}
+use Rattle.core_laws.proofs.RowOfRuns.{is_operation, run_leaves, all_steps, run_append, size, tiles_there, surrounded}
+use Rattle.core_laws.proofs.RowRows.{row_word}
+use Rattle.core_laws.proofs.Tries.{may_try}
 use Rattle.fabric_rule.specs.Known.{tile_of, known, enabled, ShowsBeginning, word_after, row_length, op_of, moves, left_by, Suits}
 use Rattle.fabric_rule.specs.Told.{Away, grown, Tells}
 

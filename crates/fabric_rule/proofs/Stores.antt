@@ -11,10 +11,10 @@ use Rattle.flit_buffer.specs.declared.word_op.WordOp.TheVariants.{Store}
 use Rattle.channel_number.specs.Ports.{port_count}
 use Rattle.home_bank.specs.BankTable.{is_nil}
 use Rattle.router.specs.Table.{latch_of, wants_to_take}
-use Rattle.tile_laws.specs.declared.agent.Agent.{Agent}
-use Rattle.tile_laws.specs.declared.agent.Agent.TheVariants.{Processor, Router, Bank}
-use Rattle.tile_laws.specs.Agents.{TilePlace, agent_op, agent_kind}
-use Rattle.tile_laws.proofs.OwnSteps.{blind}
+use Rattle.tile.specs.declared.agent.Agent.{Agent}
+use Rattle.tile.specs.declared.agent.Agent.TheVariants.{Processor, Router, Bank}
+use Rattle.tile.specs.Agents.{TilePlace, agent_op, agent_kind}
+use Rattle.tile.proofs.OwnSteps.{blind}
 use Rattle.tile.specs.Placed.{IsAcceptableTo}
 use Rattle.core_laws.specs.Core.{Load}
 use Rattle.fabric_rule.specs.Known.{op_of, moves, left_by, Suits}

@@ -5,7 +5,7 @@ use lib.ListN.{get_elem?}
 use Rattle.torus.specs.Shape.{tiles_of}
 use Rattle.torus.specs.declared.step.Step.{Step}
 use Rattle.torus.specs.declared.step.Choice.TheVariants.{Done}
-use Rattle.script_follower.specs.Following.{first_of, is_finished}
+use Rattle.one_order.specs.Following.{first_of, is_finished}
 use Rattle.core_laws.specs.Core.{Load}
 use Rattle.fabric_rule.specs.Known.{ShowsBeginning}
 use Rattle.fabric_rule.specs.View.{View}

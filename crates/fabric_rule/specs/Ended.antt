@@ -2,7 +2,7 @@
 use Rattle.std.specs.Prelude.{◌≡◌, true, List}
 use Rattle.torus.specs.declared.step.Step.{Step}
 use Rattle.core_laws.specs.Core.{Load, after}
-use Rattle.core_machine.specs.Machine.{all_finished}
+use Rattle.core_laws.specs.Machine.{all_finished}
 
 -- every processor's follower has come to the end of its script after a run (this project's own
 -- format)

@@ -4,13 +4,13 @@ use Rattle.std.specs.Prelude.{◌≡◌, ℕ, ◌+◌, ◌*◌, Bool, List, leng
 use Rattle.torus.specs.Shape.{tiles_of}
 use Rattle.torus.specs.declared.step.Step.{Step}
 use Rattle.channel_number.specs.Order.{channel_count}
-use Rattle.order_abstract.specs.Room.{home_room}
+use Rattle.one_order.specs.Room.{home_room}
 use Rattle.flit_buffer.specs.declared.word_op.WordOp.{WordOp}
-use Rattle.tile_laws.specs.Agents.{TilePlace, tile_next_op, tile_absorbed, agent_kind, agent_tile}
+use Rattle.tile.specs.Agents.{TilePlace, tile_next_op, tile_absorbed, agent_kind, agent_tile}
 use Rattle.tile.specs.Placed.{IsAcceptableTo, HasRoomForEntry}
 use Rattle.core_laws.specs.Core.{Load, design_of, after, step}
-use Rattle.core_row.specs.Row.{row_of}
-use Rattle.core_row.specs.Attempts.{tile_in}
+use Rattle.core_laws.specs.Row.{row_of}
+use Rattle.core_laws.specs.Attempts.{tile_in}
 
 -- the tile of an attempt
 abbrev pub tile_of : Step → ℕ

@@ -1,9 +1,9 @@
 pub use Rattle.core_laws.specs.Core
 pub use Rattle.core_laws.specs.Runs
-pub use Rattle.core_machine.specs.Machine
-pub use Rattle.core_row.specs.Seen
-pub use Rattle.order_abstract.specs.Room
-pub use Rattle.order_abstract.specs.Scripts
+pub use Rattle.core_laws.specs.Machine
+pub use Rattle.core_laws.specs.Seen
+pub use Rattle.one_order.specs.Room
+pub use Rattle.one_order.specs.AbstractScripts
 pub use Rattle.tile.specs.Placed
 pub mod Known
 pub mod Told
@@ -11,3 +11,7 @@ pub mod View
 pub mod Groups
 pub mod Rule
 pub mod Ended
+pub mod Inner
+pub mod Sleeping
+pub mod Border
+pub mod Counted

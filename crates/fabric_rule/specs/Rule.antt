@@ -4,7 +4,7 @@ use mathlib.Core.Option.{some}
 use lib.ListN.{get_elem?}
 use Rattle.torus.specs.Shape.{tiles_of}
 use Rattle.torus.specs.declared.step.Step.{Step}
-use Rattle.tile_laws.specs.Agents.{TilePlace}
+use Rattle.tile.specs.Agents.{TilePlace}
 use Rattle.core_laws.specs.Core.{Load}
 use Rattle.fabric_rule.specs.Known.{tile_of, known, enabled, ShowsBeginning, moves, left_by, Suits}
 use Rattle.fabric_rule.specs.Told.{grown}

@@ -2,8 +2,8 @@
 
 ghost use Rattle.std.specs.Prelude.{◌≡◌, ℕ, true, List, length, Some};
 ghost use Rattle.torus.specs.declared.step.Step.{Step};
-ghost use Rattle.order_abstract.specs.Scripts.{AreFinished};
-ghost use Rattle.tile_laws.specs.Agents.{TilePlace};
+ghost use Rattle.one_order.specs.AbstractScripts.{AreFinished};
+ghost use Rattle.tile.specs.Agents.{TilePlace};
 ghost use Rattle.core_laws.specs.Core.{Load, run_of};
 ghost use Rattle.core_laws.specs.Runs.{IsAcceptedLoad};
 ghost use Rattle.fabric_rule.specs.Known.{known};

@@ -9,7 +9,7 @@ ghost use Rattle.torus.specs.declared.step.Step.{Step};
 ghost use Rattle.flit_buffer.specs.Words.{word_of, performed};
 ghost use Rattle.flit_buffer.specs.declared.word_op.WordOp.{WordOp};
 ghost use Rattle.flit_buffer.specs.declared.word_op.WordOp.TheVariants.{Store};
-ghost use Rattle.tile_laws.specs.Agents.{TilePlace};
+ghost use Rattle.tile.specs.Agents.{TilePlace};
 ghost use Rattle.core_laws.specs.Core.{Load};
 ghost use Rattle.core_laws.specs.Runs.{IsAcceptedLoad};
 ghost use Rattle.fabric_rule.specs.Known.{tile_of, known, ShowsBeginning, word_after, row_length, op_of, moves, left_by, Suits};

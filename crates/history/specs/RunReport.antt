@@ -5,7 +5,7 @@ use Rattle.report_lines.specs.declared.line.ReportLine.{ReportLine}
 use Rattle.machine_report.specs.Report.{report_of}
 use Rattle.core_laws.specs.Core.{Load, after}
 use Rattle.fabric.specs.Ending.{shown_after}
-use Rattle.core_machine.specs.Machine.{all_finished}
+use Rattle.core_laws.specs.Machine.{all_finished}
 
 -- the report of the run of a list of steps from a load: what it shows at its end, without order
 -- lines

@@ -1,8 +1,8 @@
 //! The end of a run of threads, as what is reached.
 
-ghost use Rattle.core_machine.specs.Machine.{core_after_load};
+ghost use Rattle.core_laws.specs.Machine.{core_after_load};
 
-use core_machine::laws::steps_lead_to_a_machine;
+use core_laws::machine_laws::steps_lead_to_a_machine;
 use machine_report::{Answer, Entry, Reached};
 use std::alloc::Allocator;
 use torus::Torus;

@@ -4,17 +4,17 @@ use Rattle.std.specs.Bool.{MatchBool}
 use Rattle.torus.specs.declared.fault.Fault.{Fault}
 use Rattle.torus.specs.declared.fault.Fault.TheVariants as fault
 use Rattle.torus.specs.declared.step.Step.{Step}
-use Rattle.script.specs.declared.line.Line.{Line}
+use Rattle.script_lines.specs.declared.line.Line.{Line}
 use Rattle.one_order.specs.declared.answer.Answer.{Answer}
 use Rattle.report_lines.specs.Line.{text_of}
 use Rattle.report_check.specs.Good.{GoodReport}
 use Rattle.machine_report.specs.Report.{machine_report}
 use Rattle.core_laws.specs.Core.{Load}
-use Rattle.core_growth.specs.Appended.{load_with}
-use Rattle.core_growth.specs.Handed.{handed, moves_kept, refused}
-use Rattle.core_machine.specs.Machine.{IsAfter, RunsOn, core_after}
+use Rattle.core_laws.specs.Appended.{load_with}
+use Rattle.core_laws.specs.Handed.{handed, moves_kept, refused}
+use Rattle.core_laws.specs.Machine.{IsAfter, RunsOn, core_after}
 use Rattle.machine_asked.specs.Rounds.{rounds_of, NeedsRounds}
-use Rattle.machine_asked.specs.Asked.{Asked, IsNumbered, NeedsToWait, answer_to, has_spin, index_asked, spins_with}
+use Rattle.machine_asked.specs.Asked.{Asked, IsNumberedLine, NeedsToWait, answer_to, has_spin, index_asked, spins_with}
 use Rattle.machine_record.specs.declared.action.Action.TheVariants as action
 use Rattle.machine_record.specs.Machine.{KeepsLine, KeepsRecord, Recorded}
 use Rattle.live_command.specs.Records.{LoadsRecord, SavesKept}
@@ -37,7 +37,7 @@ pub record TakesLine (p : ℕ) (line : Line) (old new : Asked) (told : ToldLine)
   pub answer : told ≡ reply.Asked p (index_asked old p line)
   pub numbered : (index : ℕ) → index_asked old p line ≡ Some index
       → (l : Load) (steps : List Step) → IsAfter l old.core steps
-      → old.spins ≡ map has_spin l.scripts → IsNumbered (load_with l p line) p line index
+      → old.spins ≡ map has_spin l.scripts → IsNumberedLine (load_with l p line) p line index
 
 -- it refuses the line for this reason, or there is no memory, and stays as it was
 pub record RefusesLine (p : ℕ) (line : Line) (old new : Recorded) (told : ToldLine) : Type 0 where
@@ -47,8 +47,8 @@ pub record RefusesLine (p : ℕ) (line : Line) (old new : Recorded) (told : Told
   pub same : new ≡ old
   pub answer : told ≡ reply.Refused reason
 
-abbrev pub Asks : ℕ → Line → Recorded → Recorded → ToldLine → Type 0
-Asks p line old new told =
+abbrev pub AsksMachine : ℕ → Line → Recorded → Recorded → ToldLine → Type 0
+AsksMachine p line old new told =
     (TakesLine p line old.asked new.asked told × KeepsLine p line old new)
     ⊎ RefusesLine p line old new told
 
@@ -65,7 +65,7 @@ MakesKeptRounds count old new told =
     MakesRounds count old.asked new.asked told × KeepsRecord (action.Rounds count) old new
 
 -- it makes the least number of rounds that finish every script, and keeps them
-pub record Finishes (old new : Recorded) (told : ToldLine) : Type 0 where
+pub record FinishesScripts (old new : Recorded) (told : ToldLine) : Type 0 where
   pub rounds : ℕ
   pub needed : NeedsRounds old.asked.core rounds
   pub made : MakesRounds rounds old.asked new.asked told
@@ -88,15 +88,15 @@ pub record Waits (p index : ℕ) (old new : Recorded) (told : ToldLine) : Type 0
   pub answer : told ≡ told_of_wait p index (answer_to new.asked.core p index)
 
 -- nothing changes, and the answer says so
-abbrev pub Tells : {T : Type 0} → T → Recorded → Recorded → T → Type 0
-Tells what old new told = (new ≡ old) × (told ≡ what)
+abbrev pub TellsDialogue : {T : Type 0} → T → Recorded → Recorded → T → Type 0
+TellsDialogue what old new told = (new ≡ old) × (told ≡ what)
 
 -- an operation is waited for that the script of its processor, which makes so many, can make
 abbrev pub WaitsWithin : ℕ → ℕ → Option ℕ → Recorded → Recorded → ToldLine → Type 0
-WaitsWithin p index None old new told = Tells (reply.Refused fault.Processor) old new told
+WaitsWithin p index None old new told = TellsDialogue (reply.Refused fault.Processor) old new told
 WaitsWithin p index (Some most) old new told =
     MatchBool (nat_lt index most) (Waits p index old new told)
-    (Tells (reply.Refused fault.Range) old new told)
+    (TellsDialogue (reply.Refused fault.Range) old new told)
 
 abbrev pub WaitsFor : ℕ → ℕ → Recorded → Recorded → ToldLine → Type 0
 WaitsFor p index old new told =
@@ -118,14 +118,14 @@ pub record IsLine {A : Type 0} (is : ToldLine → Type 0) (said : Said A) : Type
 
 -- what a machine does for what a line asks for, which may come with digits, and what is answered
 abbrev pub Obeys : {A : Type 0} → Command → List ℕ → Recorded → Recorded → Said A → Type 0
-Obeys command.Nothing digits old new said = Tells (Told reply.Nothing) old new said
-Obeys (command.Ask p line) digits old new said = IsLine (Asks p line old new) said
+Obeys command.Nothing digits old new said = TellsDialogue (Told reply.Nothing) old new said
+Obeys (command.Ask p line) digits old new said = IsLine (AsksMachine p line old new) said
 Obeys (command.Rounds count) digits old new said = IsLine (MakesKeptRounds count old new) said
 Obeys (command.Wait p index) digits old new said = IsLine (WaitsFor p index old new) said
-Obeys command.Finish digits old new said = IsLine (Finishes old new) said
+Obeys command.Finish digits old new said = IsLine (FinishesScripts old new) said
 Obeys command.Report digits old new said = (new ≡ old) × Reports old.asked said
 Obeys command.Save digits old new said = (new ≡ old) × SavesKept old said
 Obeys command.Load digits old new said = IsLine (LoadsRecord digits old new) said
-Obeys command.Quit digits old new said = Tells (Told reply.Nothing) old new said
-Obeys (command.Refused reason) digits old new said = Tells (Told (reply.Refused reason)) old new said
-Obeys command.Bad digits old new said = Tells (Told reply.BadLine) old new said
+Obeys command.Quit digits old new said = TellsDialogue (Told reply.Nothing) old new said
+Obeys (command.Refused reason) digits old new said = TellsDialogue (Told (reply.Refused reason)) old new said
+Obeys command.Bad digits old new said = TellsDialogue (Told reply.BadLine) old new said

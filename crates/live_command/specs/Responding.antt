@@ -24,7 +24,7 @@ goes_on c = true
 
 -- the machine does what a line asks for, and the text of what is answered, or a beginning of it, is
 -- taken
-pub record Does (A : Type 0) (takes : Output → Output → List ℕ → Type 0) (line : List ℕ)
+pub record DoesRequest (A : Type 0) (takes : Output → Output → List ℕ → Type 0) (line : List ℕ)
     (old new : Recorded) (before after : Output) : Type 0 where
   pub said : Said A
   pub obeys : Obeys (asked_by line old) (second_in (first_words line)) old new said
@@ -34,5 +34,5 @@ pub record Does (A : Type 0) (takes : Output → Output → List ℕ → Type 0)
 abbrev pub Responds : {E : Type 0} → (A : Type 0) → List ℕ → Recorded → Recorded → Output → Output
     → Result Bool E → Type 0
 Responds A line old new before after (Ok on) =
-    Does A TookAll line old new before after × (on ≡ goes_on (asked_by line old))
-Responds A line old new before after (Err e) = Does A TookFront line old new before after
+    DoesRequest A TookAll line old new before after × (on ≡ goes_on (asked_by line old))
+Responds A line old new before after (Err e) = DoesRequest A TookFront line old new before after

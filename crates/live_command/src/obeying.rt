@@ -3,10 +3,10 @@
 ghost use Rattle.std.specs.Prelude.{◌≡◌, ◌⊎◌, ◌∷◌, ◌++◌, [], IfOk, Ok, codes};
 ghost use Rattle.std.specs.String.{string_bytes};
 ghost use Rattle.hex.specs.Hex.{decode_of, encode_lower};
-ghost use Rattle.core_machine.specs.Machine.{RunsOn, core_after};
+ghost use Rattle.core_laws.specs.Machine.{RunsOn, core_after};
 ghost use Rattle.machine_asked.specs.Rounds.{rounds_of};
 ghost use Rattle.live_command.specs.Records.{IsTheLine, LoadsRecord, SavesKept, told_unrestored, told_unspelled};
-ghost use Rattle.live_command.specs.Obeying.{Asks, MakesKeptRounds, Obeys, Reports, WaitsFor};
+ghost use Rattle.live_command.specs.Obeying.{AsksMachine, MakesKeptRounds, Obeys, Reports, WaitsFor};
 
 use crate::said::Said;
 use crate::{Command, Told};
@@ -19,7 +19,7 @@ use torus::Fault;
 
 /// Hands a processor a line.
 fn asked<A: Allocator>(machine: &mut RecordedMachine<A>, processor: u32, line: Line) -> Told
-    ensures { Asks processor line machine.old machine.new result }
+    ensures { AsksMachine processor line machine.old machine.new result }
 {
     match machine.ask(processor, line) {
         Ok(index) => Told::Asked(processor, index),

@@ -4,14 +4,14 @@ use Rattle.std.proofs.Common.{append_assoc, slice_get, slice_set, slice_index, s
 use Rattle.std.proofs.lemmas.List.{append-nil}
 use Rattle.std.proofs.lemmas.List.Sums.{sum_by-cons}
 use Rattle.torus.specs.declared.step.Step.{Step}
-use Rattle.script.specs.declared.line.Line.{Line}
-use Rattle.script.specs.declared.line.Line.TheVariants as kind
-use Rattle.script.specs.Scripts.{operations_of, operation_count, script_of}
-use Rattle.script_follower.specs.Scripts.{Invocation, IsOf, Allows}
+use Rattle.script_lines.specs.declared.line.Line.{Line}
+use Rattle.script_lines.specs.declared.line.Line.TheVariants as kind
+use Rattle.script_lines.specs.Lines.{operations_of, operation_count, script_of}
+use Rattle.one_order.specs.Scripts.{Invocation, IsOf, Allows}
 use Rattle.machine_parts.specs.Appended.{load_with}
 use Rattle.machine_parts.specs.Machine.{Core, IsAfter}
 use Rattle.machine_parts.specs.Core.{Load, run_of}
-use Rattle.machine_asked.specs.Asked.{is_operation, has_spin, IsIssuedAs, IsNumbered}
+use Rattle.machine_asked.specs.Asked.{is_operation, has_spin, IsIssuedAs, IsNumberedLine}
 
 -- what a line allows first, where it is an operation
 record Begins (first : Line) (more : List Line) (past : List Invocation) (o : Invocation) (ops : List Invocation) : Type 0 where
@@ -113,7 +113,7 @@ grown_at (x ∷ lists) (suc p) lines low = grown_at lists p lines (omega (arith,
 
 -- so it is in whatever comes of the load
 pub asked_is_numbered : (l : Load) (p : ℕ) (line : Line) → p < length l.scripts → has_spin (script_of l.scripts p) ≡ false → is_operation line ≡ true
-    → IsNumbered (load_with l p line) p line (operation_count (script_of l.scripts p))
+    → IsNumberedLine (load_with l p line) p line (operation_count (script_of l.scripts p))
 asked_is_numbered l p line low plain operation grown more c steps there begins h =
     let followed = h.lawful.scripts.each p there in
     let lines : List Line = script_of l.scripts p in

@@ -4,7 +4,8 @@ use Rattle.std.proofs.lemmas.Option.{slice_get-get_or}
 use Rattle.std.proofs.lemmas.List.{take_all}
 use Rattle.torus.specs.Shape.{Shape, IsAccepted, dims_of, tiles_of}
 use Rattle.script.specs.declared.fault.LineFault.{LineFault}
-use Rattle.script.specs.Machine.{MachineSpec, machine_of}
+use Rattle.script_lines.specs.Machine.{MachineSpec}
+use Rattle.script.specs.Machine.{machine_of}
 use Rattle.script.specs.Scripts.{scripts_of}
 use Rattle.machine_parts.specs.Load.{Load, load_of}
 use Rattle.machine_core.specs.Loading.{◌then◌, load_by}

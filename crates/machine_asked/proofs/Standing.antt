@@ -8,15 +8,15 @@ use Rattle.std.proofs.lemmas.List.{length-map, get_or-map, map-set}
 use Rattle.std.proofs.lemmas.List.Folds.{list_any-append}
 use Rattle.std.proofs.lemmas.List.Sums.{sum_by_push}
 use Rattle.torus.specs.declared.step.Step.{Step}
-use Rattle.script.specs.declared.line.Line.{Line}
-use Rattle.script.specs.Scripts.{operations_of, operation_count, script_of}
+use Rattle.script_lines.specs.declared.line.Line.{Line}
+use Rattle.script_lines.specs.Lines.{operations_of, operation_count, script_of}
 use Rattle.machine_parts.specs.Core.{Load}
 use Rattle.machine_parts.specs.Appended.{load_with, MayFollow}
 use Rattle.machine_parts.specs.Handed.{BringsWords, refused, moves_kept, handed}
 use Rattle.machine_parts.proofs.Handed.{taken}
 use Rattle.machine_parts.specs.Machine.{Core, IsAfter, RunsOn}
 use Rattle.machine_asked.specs.declared.asked.AskedMachine.TheInside.{Inside}
-use Rattle.machine_asked.specs.Asked.{Asked, IsAsked, IsNumbered, has_spin, index_asked, is_operation, is_spin, spins_with}
+use Rattle.machine_asked.specs.Asked.{Asked, IsAsked, IsNumberedLine, has_spin, index_asked, is_operation, is_spin, spins_with}
 use Rattle.machine_asked.specs.Inside.{IsAskedMachine}
 use Rattle.machine_asked.proofs.Numbered.{asked_is_numbered}
 
@@ -119,12 +119,12 @@ known_by false behind count index e = absurd (cc)
 -- where the index is known, it is that of the line
 pub index_numbered : (v : Asked) (p : ℕ) (line : Line) (l : Load) (steps : List Step) → BringsWords line → refused v.core p line ≡ None
     → IsAfter l v.core steps → v.spins ≡ map has_spin l.scripts → (index : ℕ) → index_asked v p line ≡ Some index
-    → IsNumbered (load_with l p line) p line index
+    → IsNumberedLine (load_with l p line) p line index
 index_numbered v p line l steps brings none after spins index known =
     let h : IsAsked v = record { load = l; steps = steps; after = after; spins = spins } in
     let low = (may v p line h brings none).there in
     let told = known_by (is_operation line) (slice_index_or v.spins p false) (slice_get v.core.allowed p) index known in
-    subst (IsNumbered (load_with l p line) p line)
+    subst (IsNumberedLine (load_with l p line) p line)
     (sym (own v p line h low) ∙ get_or_from_slice_get v.core.allowed p index 0 told.there)
     (asked_is_numbered l p line low (sym (flag v p line h low) ∙ told.plain) told.operation)
 

@@ -5,13 +5,13 @@ use Rattle.std.specs.Prelude.{Option, Some, None, is_some, option_and_then, slic
 use Rattle.std.specs.Prelude.{if◌then◌else◌}
 use Rattle.std.specs.List.{find, list_any}
 use Rattle.torus.specs.declared.step.Step.{Step}
-use Rattle.script.specs.declared.line.Line.{Line}
-use Rattle.script.specs.declared.line.Line.TheVariants as line
-use Rattle.script.specs.Scripts.{script_of}
+use Rattle.script_lines.specs.declared.line.Line.{Line}
+use Rattle.script_lines.specs.declared.line.Line.TheVariants as line
+use Rattle.script_lines.specs.Lines.{script_of}
 use Rattle.one_order.specs.declared.answer.Answer.{Answer}
 use Rattle.one_order.specs.Observed.{Run}
-use Rattle.script_follower.specs.Scripts.{Invocation, IsOf}
-use Rattle.machine_parts.specs.Scripts.{AreInvocationsOf}
+use Rattle.one_order.specs.Scripts.{Invocation, IsOf}
+use Rattle.machine_parts.specs.AbstractScripts.{AreInvocationsOf}
 use Rattle.machine_parts.specs.Core.{Load, run_of}
 use Rattle.machine_parts.specs.Machine.{Core, IsAfter}
 use Rattle.machine_parts.specs.Machine.{all_finished, core_after}
@@ -72,8 +72,8 @@ pub record IsIssuedAs (run : Run) (n p : ℕ) (line : Line) (index : ℕ) : Type
 
 -- So it is in whatever a machine comes to: wherever steps lead from a load whose script of p begins
 -- with that of this load.
-abbrev pub IsNumbered : Load → ℕ → Line → ℕ → Type 0
-IsNumbered l p line index =
+abbrev pub IsNumberedLine : Load → ℕ → Line → ℕ → Type 0
+IsNumberedLine l p line index =
     (grown : Load) (more : List Line) (c : Core) (steps : List Step) → p < length grown.scripts
     → script_of grown.scripts p ≡ script_of l.scripts p ++ more → IsAfter grown c steps
     → IsIssuedAs (run_of grown steps) (length steps) p line index

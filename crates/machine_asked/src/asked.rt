@@ -6,18 +6,18 @@ ghost use Rattle.std.specs.Str.Lines.{lines};
 ghost use Rattle.torus.specs.declared.fault.Fault.{Fault};
 ghost use Rattle.torus.specs.declared.step.Step.{Step};
 ghost use Rattle.machine_parts.specs.Rounds.{moves_in};
-ghost use Rattle.machine_parts.specs.Scripts.{AreFinished};
+ghost use Rattle.machine_parts.specs.AbstractScripts.{AreFinished};
 ghost use Rattle.machine_parts.specs.Core.{Load, run_of, step, round};
 ghost use Rattle.machine_parts.specs.Appended.{load_with};
 ghost use Rattle.machine_parts.specs.Machine.{IsAfter, RunsOn};
 ghost use Rattle.machine_parts.specs.Machine.{MakesMove, Steps};
 ghost use Rattle.machine_parts.specs.Machine.{core_after};
 ghost use Rattle.machine_parts.specs.Machine.{built_to, all_finished};
-ghost use Rattle.machine_parts.specs.Moves.{moves_left};
+ghost use Rattle.machine_parts.specs.ProgressMoves.{moves_left};
 ghost use Rattle.machine_parts.specs.Handed.{handed, moves_kept, refused};
 ghost use Rattle.machine_core.specs.Rounds.{NeedsRounds, rounds_of};
 ghost use Rattle.machine_core.specs.Loading.{HasLoaded, IsLoadFault, load_by};
-ghost use Rattle.machine_asked.specs.Asked.{IsAsked, IsNumbered, NeedsToWait, answer_to, has_spin, index_asked};
+ghost use Rattle.machine_asked.specs.Asked.{IsAsked, IsNumberedLine, NeedsToWait, answer_to, has_spin, index_asked};
 ghost use Rattle.machine_asked.specs.Asked.{is_behind_spin, is_settled, spins_with};
 
 use crate::flags::{count_more, counts_of, is_operation, mark_spin, spins_of};
@@ -275,7 +275,7 @@ impl<A: Allocator> AskedMachine<A> {
         ensures numbered { IfOk result (λ index. IfSome index
             (λ i. (l : Load) (steps : List Step) → IsAfter l self.old.core steps
             → self.old.spins ≡ map has_spin l.scripts
-            → IsNumbered (load_with l processor line) processor line i)) }
+            → IsNumberedLine (load_with l processor line) processor line i)) }
         ensures fault { IfErr result
             (λ fault. (refused self.old.core processor line ≡ Some fault)
             ⊎ ((refused self.old.core processor line ≡ None) × (fault ≡ Fault.Memory))) }

@@ -4,9 +4,9 @@ ghost use Rattle.std.specs.Prelude.{◌≡◌, ◌+◌, ◌≤◌, ◌++◌, fal
 ghost use Rattle.torus.specs.declared.step.Step.{Step};
 ghost use Rattle.machine_parts.specs.Core.{Load, run_of, step};
 ghost use Rattle.machine_parts.specs.Machine.{IsAfter, MakesMove, RunsOn, all_finished, built_to, core_after};
-ghost use Rattle.machine_parts.specs.Moves.{moves_left};
+ghost use Rattle.machine_parts.specs.ProgressMoves.{moves_left};
 ghost use Rattle.machine_parts.specs.Rounds.{moves_in};
-ghost use Rattle.machine_parts.specs.Scripts.{AreFinished};
+ghost use Rattle.machine_parts.specs.AbstractScripts.{AreFinished};
 ghost use Rattle.machine_core.specs.Clocked.{NeedsClocked, clocked_round, clocked_rounds};
 
 use crate::asked::AskedMachine;

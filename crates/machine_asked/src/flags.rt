@@ -1,7 +1,7 @@
 //! What is kept of scripts: whether each has a spin, and how many operations it makes at most.
 
 ghost use Rattle.std.specs.Prelude.{◌≡◌, ◌+◌, ◌<◌, ◌≤◌, IfOk, map, length, slice_index, slice_set};
-ghost use Rattle.script.specs.Scripts.{operation_count, operations_of};
+ghost use Rattle.script_lines.specs.Lines.{operation_count, operations_of};
 ghost use Rattle.machine_asked.specs.Asked.{has_spin, is_operation, is_spin, spins_with};
 
 use order_book::operation_count;

@@ -2,12 +2,12 @@
 
 ghost use Rattle.std.specs.Prelude.{◌≡◌, ◌<◌, ℕ, List, false, true, length};
 ghost use Rattle.torus.specs.declared.step.Step.{Step};
-ghost use Rattle.script.specs.declared.line.Line.{Line};
-ghost use Rattle.script.specs.Scripts.{operation_count, script_of};
+ghost use Rattle.script_lines.specs.declared.line.Line.{Line};
+ghost use Rattle.script_lines.specs.Lines.{operation_count, script_of};
 ghost use Rattle.machine_parts.specs.Core.{Load};
 ghost use Rattle.machine_parts.specs.Appended.{load_with};
 ghost use Rattle.machine_parts.specs.Machine.{Core, IsAfter, shown};
-ghost use Rattle.machine_asked.specs.Asked.{IsNumbered, has_spin, is_operation};
+ghost use Rattle.machine_asked.specs.Asked.{IsNumberedLine, has_spin, is_operation};
 ghost use Rattle.machine_asked.specs.GoingOn.{GoesOnFrom};
 
 /// A line that is put behind a script without spins has the index of as many operations as the script
@@ -15,7 +15,7 @@ ghost use Rattle.machine_asked.specs.GoingOn.{GoesOnFrom};
 pub fn operations_are_numbered()
     ensures { (l : Load) (p : ℕ) (line : Line) → p < length l.scripts
         → has_spin (script_of l.scripts p) ≡ false → is_operation line ≡ true
-        → IsNumbered (load_with l p line) p line (operation_count (script_of l.scripts p)) }
+        → IsNumberedLine (load_with l p line) p line (operation_count (script_of l.scripts p)) }
 {}
 
 /// A machine whose opening words are the words of another goes on where that stands, as if it were one: there

@@ -17,15 +17,15 @@ use Rattle.flit_buffer.specs.Tries.{performed_by}
 use Rattle.flit_buffer.specs.Words.{word_of}
 use Rattle.flit_buffer.specs.declared.word_op.WordOp.{WordOp}
 use Rattle.machine_parts.specs.EventBook.{EventBook}
-use Rattle.script_follower.specs.ProcessorRecord.{ProcessorRecord}
-use Rattle.script_follower.specs.ProcessorTable.{ProcessorState}
+use Rattle.one_order.specs.ProcessorRecord.{ProcessorRecord}
+use Rattle.one_order.specs.ProcessorTable.{ProcessorState}
 use Rattle.home_bank.specs.BankTable.{BankState}
 use Rattle.router.specs.Table.{RouterState, router_wants, router_after}
 use Rattle.order_book.specs.RoomyBook.{RoomyBook, KeepsRoom}
-use Rattle.tile_laws.specs.declared.agent.Agent.{Agent}
-use Rattle.tile_laws.specs.declared.agent.Agent.TheVariants.{Router, Bank}
-use Rattle.tile_laws.specs.Tile.{Design, TileState}
-use Rattle.tile_laws.specs.Agents.{TilePlace, state_of, tile_placed, tile_next_op, agent_op, agent_absorbed, agent_kind, agent_tile}
+use Rattle.tile.specs.declared.agent.Agent.{Agent}
+use Rattle.tile.specs.declared.agent.Agent.TheVariants.{Router, Bank}
+use Rattle.tile.specs.Tile.{Design, TileState}
+use Rattle.tile.specs.Agents.{TilePlace, state_of, tile_placed, tile_next_op, agent_op, agent_absorbed, agent_kind, agent_tile}
 use Rattle.machine_parts.specs.Placed.{PlacedTile, IsAcceptableTo, with_place, agent_attempted, tile_attempted}
 use Rattle.machine_parts.proofs.OwnAttempts.{own_attempt}
 use Rattle.machine_parts.specs.Core.{design_of, after}

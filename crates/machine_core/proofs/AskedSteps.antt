@@ -5,13 +5,13 @@ use Rattle.std.specs.Prelude.{MatchOption, is_some}
 use Rattle.std.specs.Option.{IsSome}
 use Rattle.torus.specs.declared.step.Step.{Step}
 use Rattle.flit_buffer.specs.Tries.{performed_by}
-use Rattle.tile_laws.specs.Tile.{Design}
-use Rattle.tile_laws.specs.Agents.{TilePlace, tile_next_op, agent_tile}
+use Rattle.tile.specs.Tile.{Design}
+use Rattle.tile.specs.Agents.{TilePlace, tile_next_op, agent_tile}
 use Rattle.machine_parts.specs.Placed.{PlacedTile, tile_attempted}
 use Rattle.machine_parts.specs.Core.{Load, State, design_of, step, after}
 use Rattle.machine_parts.specs.Runs.{state_after}
 use Rattle.machine_parts.proofs.RowOfRuns.{all_steps}
-use Rattle.machine_parts.specs.Moves.{enabled_step, IsLive}
+use Rattle.machine_parts.specs.ProgressMoves.{enabled_step, IsLive}
 use Rattle.machine_parts.proofs.Live.{is_live}
 use Rattle.machine_parts.proofs.OfRound.{found_is, none_is}
 use Rattle.machine_parts.specs.Seen.{IsShown}

@@ -10,13 +10,13 @@ use Rattle.one_order.specs.Events.{Event}
 use Rattle.flit_buffer.specs.Tries.{performed_by}
 use Rattle.flit_buffer.specs.Words.{word_of}
 use Rattle.flit_buffer.specs.declared.word_op.WordOp.{WordOp}
-use Rattle.tile_laws.specs.declared.agent.Agent.TheVariants.{Bank}
-use Rattle.tile_laws.specs.Tile.{Design}
-use Rattle.tile_laws.specs.Agents.{TilePlace, tile_next_op, tile_absorbed, agent_kind, agent_tile}
+use Rattle.tile.specs.declared.agent.Agent.TheVariants.{Bank}
+use Rattle.tile.specs.Tile.{Design}
+use Rattle.tile.specs.Agents.{TilePlace, tile_next_op, tile_absorbed, agent_kind, agent_tile}
 use Rattle.machine_parts.specs.Placed.{PlacedTile, IsAcceptableTo, tile_attempted}
 use Rattle.machine_parts.specs.Core.{Load, State, design_of, step, after}
 use Rattle.machine_parts.specs.Seen.{IsShown, LeadsOn, state_seen}
-use Rattle.machine_parts.proofs.Attempts.{leads_on}
+use Rattle.machine_parts.proofs.RowAttempts.{leads_on}
 use Rattle.machine_parts.specs.Machine.{Core, IsAfter, Steps, built_to, event_in}
 use Rattle.machine_parts.proofs.Tries.{word_there, word_asked}
 use Rattle.machine_parts.proofs.Room.{full_shown}

@@ -7,22 +7,22 @@ use Rattle.std.proofs.lemmas.List.{length-take}
 use Rattle.order_book.proofs.Counts.{home_within}
 use Rattle.order_book.specs.RoomyBook.{RoomyBook}
 use Rattle.torus.specs.Shape.{Shape, tiles_of, dims_of}
-use Rattle.script.specs.Machine.{MachineSpec, IsAcceptedMachine}
-use Rattle.script.specs.Scripts.{ScriptsSpec, AreAcceptedScripts, Fit, operation_count, script_of, total_count}
-use Rattle.script.specs.declared.line.Line.{Line}
+use Rattle.script_lines.specs.Machine.{MachineSpec, IsAcceptedMachine}
+use Rattle.script_lines.specs.Lines.{ScriptsSpec, AreAcceptedScripts, Fit, operation_count, script_of, total_count}
+use Rattle.script_lines.specs.declared.line.Line.{Line}
 use Rattle.channel_number.specs.Order.{channel_count}
 use Rattle.machine_parts.specs.Load.{load_of}
 use Rattle.machine_parts.specs.Room.{home_room}
 use Rattle.machine_parts.specs.EventBook.{EventBook, first_book}
 use Rattle.machine_parts.proofs.LoadingAccepted.{accepted_load}
-use Rattle.tile_laws.specs.Tile.{TileState}
-use Rattle.tile_laws.specs.Agents.{tile_placed}
+use Rattle.tile.specs.Tile.{TileState}
+use Rattle.tile.specs.Agents.{tile_placed}
 use Rattle.machine_parts.specs.Placed.{PlacedTile, first_tile}
 use Rattle.machine_parts.specs.Core.{Load, design_of, first_state, first_tile as first_tile_state}
 use Rattle.machine_parts.specs.Runs.{IsAcceptedLoad}
 use Rattle.machine_parts.specs.Attempts.{tile_in}
 use Rattle.machine_parts.proofs.First.{first_row, first_tiles as first_places}
-use Rattle.machine_parts.specs.Moves.{most_moves}
+use Rattle.machine_parts.specs.ProgressMoves.{most_moves}
 use Rattle.machine_parts.specs.Machine.{IsAfter, IsLawful}
 use Rattle.machine_parts.proofs.Lawful.{lawful}
 use Rattle.machine_parts.specs.Seen.{IsShown}

@@ -3,10 +3,10 @@ use Rattle.std.proofs.Common.{◌≡◌, ℕ, zero, suc, ◌+◌, ◌<◌, List,
 use Rattle.std.specs.Prelude.{option_map}
 use Rattle.std.proofs.lemmas.List.{append-nil, map_push, length-map}
 use Rattle.std.proofs.lemmas.Option.{slice_get-map, slice_get_within}
-use Rattle.script.specs.declared.line.Line.{Line}
-use Rattle.script.specs.declared.lists.LineList.{LineList}
-use Rattle.script.specs.ScriptViews.{lists_of}
-use Rattle.tile_laws.specs.Tile.{Design}
+use Rattle.script_lines.specs.declared.line.Line.{Line}
+use Rattle.script_lines.specs.declared.lists.LineList.{LineList}
+use Rattle.script_lines.specs.Views.{lists_of}
+use Rattle.tile.specs.Tile.{Design}
 use Rattle.machine_parts.specs.Placed.{PlacedTile, first_tile}
 use Rattle.machine_core.specs.Loaded.{tiles_from, first_tiles}
 

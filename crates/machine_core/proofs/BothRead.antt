@@ -1,7 +1,9 @@
 -- Both texts are read.
 use Rattle.std.proofs.Common.{◌≡◌, ℕ, List, Ok, refl}
-use Rattle.script.specs.Machine.{MachineSpec, machine_of}
-use Rattle.script.specs.Scripts.{ScriptsSpec, scripts_of}
+use Rattle.script_lines.specs.Machine.{MachineSpec}
+use Rattle.script.specs.Machine.{machine_of}
+use Rattle.script_lines.specs.Lines.{ScriptsSpec}
+use Rattle.script.specs.Scripts.{scripts_of}
 use Rattle.machine_parts.specs.Load.{load_of}
 use Rattle.machine_core.specs.Loading.{load_by}
 

@@ -14,10 +14,10 @@ use Rattle.torus.specs.declared.step.Choice.{Choice}
 use Rattle.torus.specs.declared.step.Choice.TheVariants.{TakeFrom, Put, CreditOf}
 use Rattle.torus.specs.Choices.{processor_choices, bank_choices, takes_of_all, puts_of_all, credits_of_all, router_choices}
 use Rattle.channel_number.specs.Ports.{port_count}
-use Rattle.machine_parts.specs.Scripts.{AreFinished}
+use Rattle.machine_parts.specs.AbstractScripts.{AreFinished}
 use Rattle.machine_parts.specs.Rounds.{moves_in, one_if_moved}
 use Rattle.machine_parts.specs.Core.{Load, State, step, attempts_of, round_at, round, run_of}
-use Rattle.machine_parts.specs.Moves.{IsLive}
+use Rattle.machine_parts.specs.ProgressMoves.{IsLive}
 use Rattle.machine_parts.specs.Machine.{Core, IsAfter, MakesMove, built_to, core_after, all_finished}
 use Rattle.machine_parts.proofs.Machines.{after_steps, finished_of_machine}
 use Rattle.machine_parts.proofs.Moves.{lives}

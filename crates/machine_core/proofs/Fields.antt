@@ -7,13 +7,13 @@ use Rattle.std.proofs.lemmas.Option.{same_Some}
 use Rattle.torus.specs.declared.step.Step.{Step}
 use Rattle.torus.specs.declared.step.Stepped.{Stepped}
 use Rattle.torus.specs.declared.step.Stepped.TheVariants.{Idle}
-use Rattle.script_follower.specs.ProcessorRecord.{ProcessorRecord}
+use Rattle.one_order.specs.ProcessorRecord.{ProcessorRecord}
 use Rattle.machine_parts.specs.EventBook.{EventBook}
 use Rattle.flit_buffer.specs.Surroundings.{Surroundings}
 use Rattle.flit_buffer.specs.declared.word_op.WordOp.{WordOp}
 use Rattle.order_book.specs.RoomyBook.{RoomyBook}
-use Rattle.tile_laws.specs.Tile.{Design, TileState}
-use Rattle.tile_laws.specs.Agents.{TilePlace, state_of, tile_placed}
+use Rattle.tile.specs.Tile.{Design, TileState}
+use Rattle.tile.specs.Agents.{TilePlace, state_of, tile_placed}
 use Rattle.machine_parts.specs.Placed.{PlacedTile, with_place}
 use Rattle.machine_parts.specs.Core.{Load, State, step}
 use Rattle.machine_parts.specs.Seen.{IsShown}

@@ -6,13 +6,13 @@ use Rattle.std.proofs.lemmas.Bool.{cases_lt, false≢true}
 use Rattle.torus.specs.Shape.{Shape}
 use Rattle.torus.specs.declared.step.Step.{Step}
 use Rattle.one_order.specs.Events.{Event}
-use Rattle.machine_parts.specs.Scripts.{AreFinished}
+use Rattle.machine_parts.specs.AbstractScripts.{AreFinished}
 use Rattle.machine_parts.specs.Rounds.{or_same, after_attempts, after_rounds, Finishes}
-use Rattle.tile_laws.specs.Tile.{Design}
+use Rattle.tile.specs.Tile.{Design}
 use Rattle.machine_parts.specs.Core.{Load, State, design_of, step, round, run_of}
 use Rattle.machine_parts.specs.Runs.{state_after}
 use Rattle.machine_parts.proofs.RowOfRuns.{all_steps}
-use Rattle.machine_parts.specs.Moves.{tiles_finished, moves_left}
+use Rattle.machine_parts.specs.ProgressMoves.{tiles_finished, moves_left}
 use Rattle.machine_parts.proofs.Finish.{run_finishes}
 use Rattle.machine_parts.specs.Machine.{Core, IsAfter, built_to, event_in, core_with, core_next, core_after, all_finished}
 use Rattle.machine_parts.proofs.Machines.{after_steps, finished_of_machine}

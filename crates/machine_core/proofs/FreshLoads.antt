@@ -3,14 +3,14 @@ use Rattle.std.proofs.Common.{◌≡◌, ℕ, zero, suc, ◌<◌, List, [], ◌�
 use Rattle.std.proofs.lemmas.List.{length-map}
 use Rattle.std.proofs.lemmas.List.Sums.{sum_by-cons}
 use Rattle.torus.specs.Shape.{dims_of}
-use Rattle.script.specs.declared.line.Line.{Line}
-use Rattle.script.specs.declared.line.Line.TheVariants as line
-use Rattle.script.specs.Scripts.{operations_of, operation_count, script_of, total_count, IsAcceptedScript}
-use Rattle.script_follower.specs.Following.{past_fences, first_of}
-use Rattle.script_follower.specs.Homes.{line_home_count, script_home_count}
-use Rattle.script_follower.proofs.Places.{count_past_fences}
+use Rattle.script_lines.specs.declared.line.Line.{Line}
+use Rattle.script_lines.specs.declared.line.Line.TheVariants as line
+use Rattle.script_lines.specs.Lines.{operations_of, operation_count, script_of, total_count, IsAcceptedScript}
+use Rattle.one_order.specs.Following.{past_fences, first_of}
+use Rattle.one_order.specs.Homes.{line_home_count, script_home_count}
+use Rattle.one_order.proofs.Places.{count_past_fences}
 use Rattle.machine_parts.specs.Room.{home_room}
-use Rattle.tile_laws.specs.Tile.{TileState}
+use Rattle.tile.specs.Tile.{TileState}
 use Rattle.machine_parts.specs.Core.{Load, first_state, first_tile}
 use Rattle.machine_parts.specs.Runs.{IsAcceptedLoad}
 

@@ -5,14 +5,14 @@ use Rattle.std.proofs.lemmas.List.{length_push}
 use Rattle.std.proofs.lemmas.Option.{slice_get_within}
 use Rattle.torus.specs.Shape.{tiles_of, dims_of}
 use Rattle.torus.specs.declared.step.Step.{Step}
-use Rattle.script.specs.declared.line.Line.{Line}
-use Rattle.script_follower.specs.Scripts.{Invocation}
-use Rattle.script_follower.specs.Following.{Following, ShowsPast, starts, issues, answers, first_of, past_fences}
-use Rattle.script_follower.specs.ProcessorRecord.{ProcessorRecord, no_processor}
+use Rattle.script_lines.specs.declared.line.Line.{Line}
+use Rattle.one_order.specs.Scripts.{Invocation}
+use Rattle.one_order.specs.Following.{Following, ShowsPast, starts, issues, answers, first_of, past_fences}
+use Rattle.one_order.specs.ProcessorRecord.{ProcessorRecord, no_processor}
 use Rattle.one_order.specs.Observed.{list_at}
 use Rattle.machine_parts.specs.EventBook.{EventBook}
 use Rattle.machine_parts.specs.Room.{home_room}
-use Rattle.tile_laws.specs.Tile.{Design, TileState}
+use Rattle.tile.specs.Tile.{Design, TileState}
 use Rattle.machine_parts.specs.Core.{Load, State, design_of, first_state, first_tile, after, after_from, records_of}
 use Rattle.machine_parts.specs.Runs.{state_after}
 use Rattle.machine_parts.proofs.OnTheWay.{shows_operations}

@@ -2,12 +2,12 @@
 use Rattle.std.proofs.Common.{◌≡◌, ℕ, ◌*◌, Bool, true, false, List, sym, ◌∙◌, ap, if◌then◌else◌}
 use Rattle.std.specs.Prelude.{option_map}
 use Rattle.torus.specs.declared.step.Step.{Step}
-use Rattle.script.specs.declared.line.Line.{Line}
+use Rattle.script_lines.specs.declared.line.Line.{Line}
 use Rattle.machine_parts.specs.Placed.{PlacedTile}
 use Rattle.machine_parts.specs.Core.{State}
 use Rattle.machine_parts.specs.Machine.{Core, built_to}
 use Rattle.machine_parts.specs.Appended.{state_with, appended}
-use Rattle.machine_parts.proofs.Reports.{others_step}
+use Rattle.machine_parts.proofs.GrowthReports.{others_step}
 use Rattle.machine_parts.specs.Reopened.{reopened}
 use Rattle.machine_parts.specs.Handed.{handed, has_reported}
 use Rattle.machine_parts.specs.Choices.{OtherChoicesSleep}

@@ -8,13 +8,13 @@ use Rattle.std.proofs.lemmas.List.Sums.{sum_by_push}
 use Rattle.std.proofs.lemmas.Option.{same_Some}
 use Rattle.torus.specs.Shape.{tiles_of}
 use Rattle.torus.specs.declared.step.Step.{Step}
-use Rattle.script.specs.declared.line.Line.{Line}
-use Rattle.script.specs.Scripts.{operations_of, operation_count, total_count, script_of}
+use Rattle.script_lines.specs.declared.line.Line.{Line}
+use Rattle.script_lines.specs.Lines.{operations_of, operation_count, total_count, script_of}
 use Rattle.one_order.proofs.Lists.{get_set_same, get_set_other}
 use Rattle.order_book.specs.RoomyBook.{RoomyBook, KeepsRoom}
-use Rattle.script_follower.specs.Homes.{line_home_count}
+use Rattle.one_order.specs.Homes.{line_home_count}
 use Rattle.machine_parts.specs.Room.{home_room}
-use Rattle.tile_laws.specs.Tile.{Design}
+use Rattle.tile.specs.Tile.{Design}
 use Rattle.machine_parts.specs.Placed.{PlacedTile}
 use Rattle.machine_parts.specs.Core.{Load, State, design_of, after}
 use Rattle.machine_parts.proofs.EveryRun.{holds_in}

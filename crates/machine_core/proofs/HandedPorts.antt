@@ -1,8 +1,8 @@
 -- A machine that is handed a line has the channels and the routers that it had.
 use Rattle.std.proofs.Common.{◌≡◌, ℕ, zero, suc, Bool, true, false, List, [], ◌∷◌, map, refl, ◌∙◌, ap, if◌then◌else◌}
-use Rattle.script.specs.declared.line.Line.{Line}
+use Rattle.script_lines.specs.declared.line.Line.{Line}
 use Rattle.router.specs.Table.{RouterState}
-use Rattle.tile_laws.specs.Tile.{Design, TileState}
+use Rattle.tile.specs.Tile.{Design, TileState}
 use Rattle.machine_parts.specs.Machine.{Core}
 use Rattle.machine_parts.specs.Appended.{changed_at, tile_with, appended}
 use Rattle.machine_parts.specs.Reopened.{tile_open, reopened}

@@ -7,19 +7,19 @@ use Rattle.std.proofs.lemmas.List.Sums.{sum-map}
 use Rattle.std.proofs.lemmas.Option.{slice_get-map, get_or_from_slice_get}
 use Rattle.torus.specs.Shape.{tiles_of}
 use Rattle.torus.specs.declared.step.Step.{Step}
-use Rattle.script.specs.declared.line.Line.{Line}
-use Rattle.script.specs.declared.line.Line.TheVariants as line
-use Rattle.script.specs.Scripts.{operations_of, operation_count, total_count, script_of, IsAcceptedLine}
+use Rattle.script_lines.specs.declared.line.Line.{Line}
+use Rattle.script_lines.specs.declared.line.Line.TheVariants as line
+use Rattle.script_lines.specs.Lines.{operations_of, operation_count, total_count, script_of, IsAcceptedLine}
 use Rattle.one_order.proofs.Lists.{within_length}
 use Rattle.order_book.proofs.Counts.{home_within}
 use Rattle.order_book.specs.RoomyBook.{RoomyBook, KeepsRoom}
-use Rattle.script_follower.specs.ProcessorRecord.{ProcessorRecord, no_processor}
-use Rattle.script_follower.specs.Following.{left_of}
-use Rattle.script_follower.proofs.Shown.{left_within}
-use Rattle.script_follower.proofs.Grown.{some_of}
+use Rattle.one_order.specs.ProcessorRecord.{ProcessorRecord, no_processor}
+use Rattle.one_order.specs.Following.{left_of}
+use Rattle.one_order.proofs.Shown.{left_within}
+use Rattle.one_order.proofs.Grown.{some_of}
 use Rattle.machine_parts.proofs.LoadingAccepted.{followable}
-use Rattle.tile_laws.specs.Tile.{TileState}
-use Rattle.tile_laws.specs.Agents.{state_of}
+use Rattle.tile.specs.Tile.{TileState}
+use Rattle.tile.specs.Agents.{state_of}
 use Rattle.machine_parts.specs.Placed.{PlacedTile}
 use Rattle.machine_parts.specs.Core.{Load, design_of, after, records_of}
 use Rattle.machine_parts.specs.Runs.{state_after}

@@ -27,3 +27,4 @@ pub mod Marking
 pub mod MarkedSteps
 pub mod ClockedRounds
 pub mod BothRead
+pub mod LawsRounds

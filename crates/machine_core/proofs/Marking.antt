@@ -7,7 +7,7 @@ use Rattle.machine_parts.specs.Ports.{is_raised, raised}
 use Rattle.machine_parts.specs.Machine.{Core}
 use Rattle.machine_core.specs.declared.part.Part.{Part}
 use Rattle.machine_core.specs.declared.part.Marks.{Marks}
-use Rattle.machine_core.specs.Marked.{can_move, MarksPart, MarksTile, IsClear, KeepsOthers}
+use Rattle.machine_core.specs.Marked.{can_move, MarksPart, MarksTile, IsClear, KeepsOtherMarks}
 
 or_false : (a : Bool) → (a || false) ≡ a
 or_false true = refl
@@ -97,7 +97,7 @@ pub exactly : (c : Core) (part : Part) (t end : ℕ) (old new : List ℕ) → en
 exactly c part t end old new few clear is k low = is.marked k low ∙ ap (λ (b : Bool). b || can_move c part t k) (clear k (omega (arith, low, few)))
 
 -- tiles that aren't touched
-pub tile_kept : (c : Core) (ports t u : ℕ) (old new : Marks) → KeepsOthers t old new → (u ≡ t → ⊥) → MarksTile c ports u old → MarksTile c ports u new
+pub tile_kept : (c : Core) (ports t u : ℕ) (old new : Marks) → KeepsOtherMarks t old new → (u ≡ t → ⊥) → MarksTile c ports u old → MarksTile c ports u new
 tile_kept c ports t u old new kept other is = record {
   processors = λ k low. (kept u k other).0 ∙ is.processors k low;
   takes = λ k low. (kept u k other).1 ∙ is.takes k low;
@@ -106,7 +106,7 @@ tile_kept c ports t u old new kept other is = record {
   banks = λ k low. (kept u k other).4 ∙ is.banks k low;
 }
 
-pub clear_kept : (t u : ℕ) (old new : Marks) → KeepsOthers t old new → (u ≡ t → ⊥) → IsClear old u → IsClear new u
+pub clear_kept : (t u : ℕ) (old new : Marks) → KeepsOtherMarks t old new → (u ≡ t → ⊥) → IsClear old u → IsClear new u
 clear_kept t u old new kept other is = record {
   processors = λ k low. (kept u k other).0 ∙ is.processors k low;
   takes = λ k low. (kept u k other).1 ∙ is.takes k low;
@@ -120,7 +120,7 @@ pub record MarkedBelow (c : Core) (ports tile : ℕ) (m : Marks) : Type 0 where
   pub done : (t : ℕ) → t < tile → MarksTile c ports t m
   pub clear : (t : ℕ) → tile ≤ t → t < 64 → IsClear m t
 
-pub one_more : (c : Core) (ports tile : ℕ) (old new : Marks) → MarkedBelow c ports tile old → MarksTile c ports tile new → KeepsOthers tile old new
+pub one_more : (c : Core) (ports tile : ℕ) (old new : Marks) → MarkedBelow c ports tile old → MarksTile c ports tile new → KeepsOtherMarks tile old new
     → MarkedBelow c ports (tile + 1) new
 one_more c ports tile old new is here kept = record {
   done = λ t low. elim (cases_lt t tile) [

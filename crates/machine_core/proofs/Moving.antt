@@ -8,13 +8,13 @@ use Rattle.std.proofs.lemmas.Option.{slice_get_within, same_Some}
 use Rattle.torus.specs.Shape.{Shape, tiles_of}
 use Rattle.torus.specs.declared.step.Step.{Step}
 use Rattle.torus.specs.declared.step.Stepped.TheVariants.{Moved}
-use Rattle.script.specs.Scripts.{operation_count}
+use Rattle.script_lines.specs.Lines.{operation_count}
 use Rattle.home_bank.specs.declared.entry.Entry.{Entry}
 use Rattle.one_order.specs.declared.answer.Answer.{Answer}
 use Rattle.one_order.specs.Events.{Event}
 use Rattle.one_order.specs.Observed.{list_at}
 use Rattle.one_order.proofs.Lists.{get_set_same, get_set_other}
-use Rattle.script_follower.specs.ProcessorRecord.{ProcessorRecord}
+use Rattle.one_order.specs.ProcessorRecord.{ProcessorRecord}
 use Rattle.machine_parts.specs.EventBook.{EventBook, noted_event}
 use Rattle.machine_parts.specs.Room.{home_room}
 use Rattle.flit_buffer.specs.Tries.{performed_by}
@@ -22,8 +22,8 @@ use Rattle.flit_buffer.specs.declared.word_op.WordOp.{WordOp}
 use Rattle.machine_parts.specs.Attempts.{step_op}
 use Rattle.order_book.specs.RoomyBook.{RoomyBook, KeepsRoom}
 use Rattle.machine_parts.specs.Rounds.{moves_in, one_if_moved}
-use Rattle.tile_laws.specs.Tile.{Design}
-use Rattle.tile_laws.specs.Agents.{TilePlace, state_of, tile_next_op, agent_kind, agent_tile}
+use Rattle.tile.specs.Tile.{Design}
+use Rattle.tile.specs.Agents.{TilePlace, state_of, tile_next_op, agent_kind, agent_tile}
 use Rattle.machine_parts.specs.Placed.{PlacedTile, with_place, tile_attempted}
 use Rattle.machine_parts.specs.Core.{Load, State, design_of, step, or_same, first_state, after, records_of}
 use Rattle.machine_parts.specs.Seen.{IsShown, state_seen}

@@ -5,9 +5,9 @@ use Rattle.std.proofs.lemmas.Option.{slice_get-get_or, slice_get_past, slice_get
 use Rattle.std.specs.Option.{option_map}
 use Rattle.home_bank.specs.declared.entry.Entry.{Entry}
 use Rattle.one_order.specs.declared.answer.Answer.{Answer}
-use Rattle.script_follower.specs.ProcessorRecord.{ProcessorRecord, no_processor, index_of}
+use Rattle.one_order.specs.ProcessorRecord.{ProcessorRecord, no_processor, index_of}
 use Rattle.machine_parts.specs.EventBook.{EventBook, noted_issue, noted_service, noted_answer}
-use Rattle.tile_laws.specs.Tile.{TileState}
+use Rattle.tile.specs.Tile.{TileState}
 use Rattle.machine_parts.specs.Placed.{PlacedTile}
 use Rattle.machine_parts.specs.Notes.{book_noted, answer_noted, service_noted, index_served}
 use Rattle.machine_core.specs.declared.noting.Counts.{Counts}

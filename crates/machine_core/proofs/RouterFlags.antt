@@ -8,15 +8,15 @@ use Rattle.std.proofs.lemmas.Option.{slice_get-map}
 use Rattle.torus.specs.Shape.{dims_of}
 use Rattle.torus.specs.declared.step.Step.{Step}
 use Rattle.torus.specs.declared.step.Choice.{Choice}
-use Rattle.script.specs.declared.line.Line.{Line}
+use Rattle.script_lines.specs.declared.line.Line.{Line}
 use Rattle.channel_number.specs.Ports.{port_count}
 use Rattle.flit_buffer.specs.declared.word_op.WordOp.{WordOp}
-use Rattle.tile_laws.specs.declared.agent.Agent.{Agent}
-use Rattle.tile_laws.specs.declared.agent.Agent.TheVariants.{Processor, Router, Bank}
-use Rattle.tile_laws.specs.Tile.{Design, TileState}
+use Rattle.tile.specs.declared.agent.Agent.{Agent}
+use Rattle.tile.specs.declared.agent.Agent.TheVariants.{Processor, Router, Bank}
+use Rattle.tile.specs.Tile.{Design, TileState}
 use Rattle.router.specs.Table.{latch_of}
-use Rattle.tile_laws.specs.Agents.{agent_number, agent_kind, agent_tile}
-use Rattle.tile_laws.proofs.AgentNumbers.{kind_of_number, number_is}
+use Rattle.tile.specs.Agents.{agent_number, agent_kind, agent_tile}
+use Rattle.tile.proofs.AgentNumbers.{kind_of_number, number_is}
 use Rattle.machine_parts.specs.Core.{Load, State, design_of, step, after, first_state, first_tile}
 use Rattle.machine_parts.specs.Runs.{IsAcceptedLoad}
 use Rattle.machine_parts.specs.Attempts.{step_op}

@@ -9,7 +9,7 @@ use Rattle.torus.specs.declared.step.Choice.{Choice}
 use Rattle.torus.specs.declared.step.Choice.TheVariants.{TakeFrom, Put, CreditOf}
 use Rattle.torus.specs.declared.step.Stepped.{Stepped}
 use Rattle.torus.specs.declared.step.Stepped.TheVariants.{Idle}
-use Rattle.tile_laws.specs.Tile.{Design}
+use Rattle.tile.specs.Tile.{Design}
 use Rattle.machine_parts.specs.Core.{State, design_of, step, after, attempts_of}
 use Rattle.machine_parts.specs.Machine.{Core, Steps, built_to, machine_told, event_in, core_with, core_next, core_after}
 use Rattle.machine_parts.specs.Routers.{PortFlags, OtherPortsSleep, of_router}

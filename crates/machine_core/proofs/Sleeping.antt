@@ -7,12 +7,12 @@ use Rattle.torus.specs.declared.step.Step.{Step}
 use Rattle.torus.specs.declared.step.Choice.{Choice}
 use Rattle.channel_number.specs.Ports.{port_count}
 use Rattle.machine_parts.specs.Rounds.{one_if_moved, moves_in, or_same}
-use Rattle.tile_laws.specs.declared.agent.Agent.{Agent}
-use Rattle.tile_laws.specs.declared.agent.Agent.TheVariants.{Router}
-use Rattle.tile_laws.specs.Tile.{Design}
-use Rattle.tile_laws.specs.Agents.{agent_kind}
-use Rattle.tile_laws.specs.Choices.{has_choice}
-use Rattle.tile_laws.proofs.AgentNumbers.{kind_of_number}
+use Rattle.tile.specs.declared.agent.Agent.{Agent}
+use Rattle.tile.specs.declared.agent.Agent.TheVariants.{Router}
+use Rattle.tile.specs.Tile.{Design}
+use Rattle.tile.specs.Agents.{agent_kind}
+use Rattle.tile.specs.Choices.{has_choice}
+use Rattle.tile.proofs.AgentNumbers.{kind_of_number}
 use Rattle.machine_parts.specs.Core.{State, design_of, step, or_same as state_or, after, attempts_of}
 use Rattle.machine_parts.specs.Machine.{Core, IsAfter, built_to, event_in, core_with, core_next, core_after}
 use Rattle.machine_parts.proofs.Moves.{left_after}

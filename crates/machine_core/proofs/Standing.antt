@@ -6,7 +6,7 @@ use Rattle.std.proofs.lemmas.Option.{slice_get_past}
 use Rattle.torus.specs.Shape.{Shape, tiles_of, dims_of}
 use Rattle.torus.specs.declared.step.Step.{Step}
 use Rattle.channel_number.specs.Ports.{port_count}
-use Rattle.tile_laws.specs.Agents.{state_of, agent_tile}
+use Rattle.tile.specs.Agents.{state_of, agent_tile}
 use Rattle.machine_parts.specs.Placed.{PlacedTile}
 use Rattle.machine_parts.specs.Core.{Load, State, design_of, step, after}
 use Rattle.machine_parts.specs.Runs.{state_after}

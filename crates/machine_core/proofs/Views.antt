@@ -7,10 +7,10 @@ use Rattle.std.specs.List.{list_all}
 use Rattle.std.proofs.lemmas.List.Folds.{list_all-map}
 use Rattle.std.proofs.lemmas.Option.{slice_get-map, slice_get-get_or, slice_get_past}
 use Rattle.channel_number.specs.Order.{channel_count}
-use Rattle.script_follower.specs.Following.{is_finished}
-use Rattle.script_follower.specs.ProcessorRecord.{ProcessorRecord}
-use Rattle.tile_laws.specs.Tile.{TileState}
-use Rattle.tile_laws.specs.Agents.{TilePlace, state_of}
+use Rattle.one_order.specs.Following.{is_finished}
+use Rattle.one_order.specs.ProcessorRecord.{ProcessorRecord}
+use Rattle.tile.specs.Tile.{TileState}
+use Rattle.tile.specs.Agents.{TilePlace, state_of}
 use Rattle.machine_parts.specs.Placed.{PlacedTile}
 use Rattle.machine_parts.specs.Core.{Load, State, design_of, records_of}
 use Rattle.machine_parts.specs.Row.{row_of}

@@ -7,9 +7,9 @@ use Rattle.torus.specs.Choices.{processor_choices, bank_choices}
 use Rattle.torus.specs.declared.step.Step.{Step}
 use Rattle.torus.specs.declared.step.Choice.TheVariants.{TakeFrom, Put, CreditOf}
 use Rattle.channel_number.specs.Ports.{port_count}
-use Rattle.tile_laws.specs.Tile.{Design}
-use Rattle.tile_laws.specs.declared.agent.Agent.TheVariants.{Processor, Router, Bank}
-use Rattle.tile_laws.specs.Agents.{agent_number}
+use Rattle.tile.specs.Tile.{Design}
+use Rattle.tile.specs.declared.agent.Agent.TheVariants.{Processor, Router, Bank}
+use Rattle.tile.specs.Agents.{agent_number}
 use Rattle.machine_parts.specs.Core.{State, step, attempts_of}
 use Rattle.machine_parts.specs.Machine.{Core, built_to, core_after, all_finished}
 use Rattle.machine_core.specs.Rounds.{attempts_between}

@@ -2,12 +2,12 @@
 use Rattle.std.specs.Prelude.{◌≡◌, ℕ, ◌<◌, ◌≤◌, List, length, map, Some, slice_get, slice_index}
 use Rattle.torus.specs.Shape.{tiles_of}
 use Rattle.torus.specs.declared.step.Step.{Step}
-use Rattle.script.specs.declared.line.Line.{Line}
-use Rattle.script.specs.Scripts.{operation_count, total_count}
+use Rattle.script_lines.specs.declared.line.Line.{Line}
+use Rattle.script_lines.specs.Lines.{operation_count, total_count}
 use Rattle.machine_parts.specs.Room.{home_room}
 use Rattle.order_book.specs.RoomyBook.{RoomyBook}
-use Rattle.tile_laws.specs.Tile.{Design}
-use Rattle.tile_laws.specs.Agents.{TilePlace}
+use Rattle.tile.specs.Tile.{Design}
+use Rattle.tile.specs.Agents.{TilePlace}
 use Rattle.machine_parts.specs.Placed.{PlacedTile}
 use Rattle.machine_parts.specs.Core.{Load, design_of, after as state_after_steps}
 use Rattle.machine_parts.specs.Seen.{IsShown, state_seen}

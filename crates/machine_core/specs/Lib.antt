@@ -10,3 +10,4 @@ pub mod Growing
 pub mod Loading
 pub mod Run
 pub mod FewestRounds
+pub mod Fewest

@@ -1,7 +1,7 @@
 -- The tiles that a machine begins with.
 use Rattle.std.specs.Prelude.{ℕ, ◌+◌, List, [], ◌∷◌}
-use Rattle.script.specs.declared.line.Line.{Line}
-use Rattle.tile_laws.specs.Tile.{Design}
+use Rattle.script_lines.specs.declared.line.Line.{Line}
+use Rattle.tile.specs.Tile.{Design}
 use Rattle.machine_parts.specs.Placed.{PlacedTile, first_tile}
 
 -- the tiles from tile t on, before any step: one for each script, each bank with its room (this

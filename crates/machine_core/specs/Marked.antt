@@ -83,8 +83,8 @@ pub record MarksTile (c : Core) (ports t : ℕ) (m : Marks) : Type 0 where
   pub banks : (k : ℕ) → k < 4 → is_raised m.banks t k ≡ can_move c Bank t k
 
 -- the marks of other tiles are as they were
-abbrev pub KeepsOthers : ℕ → Marks → Marks → Type 0
-KeepsOthers t old new = (u k : ℕ) → (u ≡ t → ⊥)
+abbrev pub KeepsOtherMarks : ℕ → Marks → Marks → Type 0
+KeepsOtherMarks t old new = (u k : ℕ) → (u ≡ t → ⊥)
     → (is_raised new.processors u k ≡ is_raised old.processors u k)
     × (is_raised new.takes u k ≡ is_raised old.takes u k)
     × (is_raised new.puts u k ≡ is_raised old.puts u k)

@@ -6,7 +6,7 @@ use Rattle.torus.specs.declared.step.Choice.{Choice}
 use Rattle.home_bank.specs.declared.entry.Entry.{Entry}
 use Rattle.one_order.specs.declared.answer.Answer.{Answer}
 use Rattle.one_order.specs.Observed.{list_at}
-use Rattle.script_follower.specs.ProcessorRecord.{ProcessorRecord}
+use Rattle.one_order.specs.ProcessorRecord.{ProcessorRecord}
 use Rattle.order_book.specs.RoomyBook.{RoomyBook}
 use Rattle.machine_parts.specs.Placed.{PlacedTile}
 use Rattle.machine_parts.specs.Notes.{RoomToNoteAnswer, index_served}

@@ -9,12 +9,12 @@ use Rattle.machine_parts.specs.Load.{Load, load_of}
 use Rattle.machine_core.specs.Loading.{◌then◌}
 
 -- a machine with its scripts, and the steps that it is to make
-pub record Asked : Type 0 where
+pub record AskedRun : Type 0 where
   pub load : Load
   pub steps : List Step
 
 -- what three texts ask for, or the first fault; they are taken in this order
-abbrev pub asked_of : List (List ℕ) → List (List ℕ) → List (List ℕ) → Result Asked LineFault
+abbrev pub asked_of : List (List ℕ) → List (List ℕ) → List (List ℕ) → Result AskedRun LineFault
 asked_of machine scripts steps =
     machine_of machine then λ m. scripts_of m scripts then λ s. steps_of m steps then λ list.
     Ok (record { load = load_of m s; steps = list })

@@ -3,7 +3,7 @@
 ghost use Rattle.std.specs.Prelude.{◌≡◌, ◌+◌, ◌*◌, ◌<◌, ◌↔◌, IsSome, None, false, is_some};
 ghost use Rattle.torus.specs.declared.step.Step.{Step};
 ghost use Rattle.machine_parts.specs.Core.{step, attempts_of, round_at};
-ghost use Rattle.machine_parts.specs.Moves.{enabled_step};
+ghost use Rattle.machine_parts.specs.ProgressMoves.{enabled_step};
 ghost use Rattle.machine_parts.specs.Machine.{built_to, all_finished};
 ghost use Rattle.torus.specs.Choices.{takes_of_all, puts_of_all, credits_of_all};
 ghost use Rattle.machine_core.specs.Rounds.{first_in};

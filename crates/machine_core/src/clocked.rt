@@ -4,16 +4,16 @@
 ghost use Rattle.std.specs.Prelude.{◌≡◌, ◌+◌, ◌*◌, ◌%◌, ◌<◌, ◌≤◌, ◌++◌, ℕ, false, List, length, is_some};
 ghost use Rattle.torus.specs.Shape.{tiles_of};
 ghost use Rattle.torus.specs.declared.step.Step.{Step};
-ghost use Rattle.machine_parts.specs.Scripts.{AreFinished};
+ghost use Rattle.machine_parts.specs.AbstractScripts.{AreFinished};
 ghost use Rattle.machine_parts.specs.Rounds.{moves_in};
-ghost use Rattle.machine_parts.specs.Moves.{moves_left};
+ghost use Rattle.machine_parts.specs.ProgressMoves.{moves_left};
 ghost use Rattle.machine_parts.specs.Core.{Load, run_of, step};
 ghost use Rattle.machine_parts.specs.Machine.{IsAfter, RunsOn, MakesMove, Steps};
 ghost use Rattle.machine_parts.specs.Machine.{core_after, built_to, all_finished};
 ghost use Rattle.machine_parts.specs.Ports.{is_raised};
 ghost use Rattle.machine_core.specs.Clocked.{clocked_round, clocked_rounds, NeedsClocked};
 ghost use Rattle.machine_core.specs.Marked.{attempt_in, can_move, marked_between, marked_at};
-ghost use Rattle.machine_core.specs.Marked.{SkipsIdle, MarksPart, MarksTile, IsClear, KeepsOthers};
+ghost use Rattle.machine_core.specs.Marked.{SkipsIdle, MarksPart, MarksTile, IsClear, KeepsOtherMarks};
 
 use crate::machine::Machine;
 use crate::part::{Marks, Part, choice_in};
@@ -87,7 +87,7 @@ impl<A: Allocator> Machine<A> {
         requires clear { IsClear marks.old tile }
         ensures same { self.new ≡ self.old }
         ensures marked { MarksTile self.old ports tile marks.new }
-        ensures others { KeepsOthers tile marks.old marks.new }
+        ensures others { KeepsOtherMarks tile marks.old marks.new }
     {
         let tile = tile as usize;
         self.mark(Part::Processor, tile, 5, &mut marks.processors);

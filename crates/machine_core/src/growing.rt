@@ -3,7 +3,7 @@
 ghost use Rattle.std.specs.Prelude.{◌≡◌, ◌⊎◌, List, Some, None, map, IfErr, OnOk, OnErr};
 ghost use Rattle.torus.specs.declared.fault.Fault.{Fault};
 ghost use Rattle.torus.specs.declared.step.Step.{Step};
-ghost use Rattle.script.specs.Scripts.{operation_count};
+ghost use Rattle.script_lines.specs.Lines.{operation_count};
 ghost use Rattle.machine_parts.specs.Core.{Load};
 ghost use Rattle.machine_parts.specs.Machine.{IsAfter};
 ghost use Rattle.machine_parts.specs.Appended.{load_with};

@@ -5,6 +5,7 @@
 mod asking;
 mod attempts;
 mod clocked;
+pub mod fewest_laws;
 mod growing;
 pub mod laws;
 mod loading;

@@ -2,8 +2,8 @@ ghost use Rattle.std.specs.Prelude.{◌≡◌, ◌+◌, ◌<◌, ◌≤◌, ◌�
 ghost use Rattle.std.specs.Prelude.{slice_get};
 ghost use Rattle.std.specs.Option.{option_copied};
 ghost use Rattle.torus.specs.declared.step.Step.{Step};
-ghost use Rattle.script_follower.specs.Following.{is_finished};
-ghost use Rattle.machine_parts.specs.Scripts.{AreFinished};
+ghost use Rattle.one_order.specs.Following.{is_finished};
+ghost use Rattle.machine_parts.specs.AbstractScripts.{AreFinished};
 ghost use Rattle.machine_parts.specs.Rounds.{moves_in};
 ghost use Rattle.machine_parts.specs.Core.{Load, run_of, step};
 ghost use Rattle.machine_parts.specs.Row.{row_of};
@@ -11,7 +11,7 @@ ghost use Rattle.machine_parts.specs.Machine.{IsAfter, RunsOn};
 ghost use Rattle.machine_parts.specs.Machine.{HasOneOrderSoFar, Steps};
 ghost use Rattle.machine_parts.specs.Machine.{core_after, shown};
 ghost use Rattle.machine_parts.specs.Machine.{built_to, all_finished};
-ghost use Rattle.machine_parts.specs.Moves.{IsLive, moves_left};
+ghost use Rattle.machine_parts.specs.ProgressMoves.{IsLive, moves_left};
 ghost use Rattle.machine_core.specs.Rounds.{rounds_of, NeedsRounds};
 
 use home_bank::Entry;

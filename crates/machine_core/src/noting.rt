@@ -2,9 +2,9 @@
 //! entries its tile had before it.
 
 ghost use Rattle.std.specs.Prelude.{◌≡◌, ◌<◌, length, false, IsTrue, Some, slice_get};
-ghost use Rattle.script_follower.specs.ProcessorRecord.{index_of};
-ghost use Rattle.tile_laws.specs.declared.agent.Agent.TheVariants.{Bank};
-ghost use Rattle.tile_laws.specs.Agents.{state_of};
+ghost use Rattle.one_order.specs.ProcessorRecord.{index_of};
+ghost use Rattle.tile.specs.declared.agent.Agent.TheVariants.{Bank};
+ghost use Rattle.tile.specs.Agents.{state_of};
 ghost use Rattle.order_book.specs.RoomyBook.{KeepsRoom};
 ghost use Rattle.machine_parts.specs.Placed.{HasRoomForEntry, PlacedTile};
 ghost use Rattle.machine_parts.specs.Notes.{book_noted};

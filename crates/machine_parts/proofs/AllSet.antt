@@ -3,9 +3,9 @@ use Rattle.std.proofs.Common.{◌≡◌, ℕ, zero, suc, Bool, true, false, List
 use Rattle.std.specs.Prelude.{◌||◌, bit_or}
 use Rattle.flit_buffer.specs.declared.word_op.WordOp.{WordOp}
 use Rattle.flit_buffer.specs.declared.word_op.WordOp.TheVariants as op
-use Rattle.tile_laws.specs.Tile.{Design}
-use Rattle.core_wake.specs.Operations.{woken_by_operation}
-use Rattle.core_wake.specs.Routers.{PortFlags, brings_flit, returns_credit, ports_woken}
+use Rattle.tile.specs.Tile.{Design}
+use Rattle.core_laws.specs.Operations.{woken_by_operation}
+use Rattle.core_laws.specs.Routers.{PortFlags, brings_flit, returns_credit, ports_woken}
 use Rattle.machine_parts.specs.Awake.{Awake, bits_at, bits_by, with_bits, roused, awake_after}
 use Rattle.machine_parts.specs.Inside.{AreAll}
 use Rattle.machine_parts.specs.Ports.{is_raised, raised, joined, flags_of, ports_roused, AwakePorts}

@@ -9,26 +9,26 @@ use Rattle.std.proofs.lemmas.List.Sums.{sum-map}
 use Rattle.std.proofs.lemmas.Option.{slice_get-map}
 use Rattle.one_order.proofs.Lists.{within_length}
 use Rattle.torus.specs.declared.step.Step.{Step}
-use Rattle.script.specs.declared.line.Line.{Line}
-use Rattle.script.specs.Scripts.{operations_of}
-use Rattle.script_follower.specs.ProcessorTable.{processor_with, processor_open}
-use Rattle.tile_laws.specs.Tile.{Design, TileState}
-use Rattle.tile_laws.specs.Agents.{TilePlace, state_of, tile_placed}
+use Rattle.script_lines.specs.declared.line.Line.{Line}
+use Rattle.script_lines.specs.Lines.{operations_of}
+use Rattle.one_order.specs.ProcessorTable.{processor_with, processor_open}
+use Rattle.tile.specs.Tile.{Design, TileState}
+use Rattle.tile.specs.Agents.{TilePlace, state_of, tile_placed}
 use Rattle.tile.specs.Placed.{PlacedTile}
 use Rattle.core_laws.specs.Core.{State}
-use Rattle.core_row.specs.Row.{places_of}
-use Rattle.core_row.specs.Attempts.{tile_in}
-use Rattle.order_abstract.specs.EventBook.{EventBook}
-use Rattle.core_machine.specs.Machine.{Core, built_to}
-use Rattle.core_row.specs.Seen.{IsShown}
-use Rattle.core_wake.specs.Sleep.{OthersSleep}
+use Rattle.core_laws.specs.Row.{places_of}
+use Rattle.core_laws.specs.Attempts.{tile_in}
+use Rattle.one_order.specs.EventBook.{EventBook}
+use Rattle.core_laws.specs.Machine.{Core, built_to}
+use Rattle.core_laws.specs.Seen.{IsShown}
+use Rattle.core_laws.specs.Sleep.{OthersSleep}
 use Rattle.machine_parts.specs.Awake.{Awake, is_awake, roused}
 use Rattle.machine_parts.proofs.KeptSleepers.{one_roused, everyone}
-use Rattle.core_growth.specs.Appended.{changed_at, tile_with, state_with, appended}
-use Rattle.core_growth.proofs.Places.{get_map, get_other, map_changed}
-use Rattle.core_growth.proofs.Reports.{others_step}
-use Rattle.core_growth.specs.Reopened.{tile_open, around_open, state_open, marks, reports_in, reopened}
-use Rattle.core_growth.specs.Handed.{reported_in, has_reported, handed}
+use Rattle.core_laws.specs.Appended.{changed_at, tile_with, state_with, appended}
+use Rattle.core_laws.proofs.Places.{get_map, get_other, map_changed}
+use Rattle.core_laws.proofs.GrowthReports.{others_step}
+use Rattle.core_laws.specs.Reopened.{tile_open, around_open, state_open, marks, reports_in, reopened}
+use Rattle.core_laws.specs.Handed.{reported_in, has_reported, handed}
 use Rattle.machine_parts.specs.Grown.{tile_given, tile_wider, tile_reopened, tiles_given, marks_in, AreAsReported}
 use Rattle.machine_parts.proofs.Items.{kept, kept_at, changed_long}
 

@@ -2,8 +2,8 @@
 use Rattle.std.proofs.Common.{◌≡◌, ℕ, zero, suc, ◌+◌, ◌<◌, ◌≤◌, List, [], ◌∷◌, map, length, Some, refl, sym, ◌∙◌, ap, arith, slice_get, slice_set}
 use Rattle.std.proofs.Common.{slice_index_or, add-one}
 use Rattle.std.proofs.lemmas.Option.{same_Some, slice_get-get_or}
-use Rattle.core_growth.specs.Appended.{changed_at}
-use Rattle.core_growth.proofs.Places.{changed_is}
+use Rattle.core_laws.specs.Appended.{changed_at}
+use Rattle.core_laws.proofs.Places.{changed_is}
 
 -- an item of a list
 pub seen_at : {A : Type 0} (xs : List A) (k : ℕ) (x : A) → k < length xs → x ≡ slice_index_or xs k x → slice_get xs k ≡ Some x

@@ -12,20 +12,20 @@ use Rattle.torus.specs.declared.step.Choice.TheVariants as choice
 use Rattle.channel_number.specs.Ports.{port_count}
 use Rattle.flit_buffer.specs.declared.word_op.WordOp.{WordOp}
 use Rattle.flit_buffer.specs.declared.word_op.WordOp.TheVariants as word_op
-use Rattle.tile_laws.specs.declared.agent.Agent.{Agent}
-use Rattle.tile_laws.specs.declared.agent.Agent.TheVariants.{Processor, Router, Bank}
-use Rattle.tile_laws.specs.Tile.{Design}
-use Rattle.tile_laws.specs.Agents.{agent_kind}
-use Rattle.tile_laws.specs.Choices.{has_choice}
+use Rattle.tile.specs.declared.agent.Agent.{Agent}
+use Rattle.tile.specs.declared.agent.Agent.TheVariants.{Processor, Router, Bank}
+use Rattle.tile.specs.Tile.{Design}
+use Rattle.tile.specs.Agents.{agent_kind}
+use Rattle.tile.specs.Choices.{has_choice}
 use Rattle.core_laws.specs.Core.{Load, State, design_of, step, after}
 use Rattle.core_laws.specs.Runs.{IsAcceptedLoad}
 use Rattle.core_laws.proofs.AgentChoices.{other_choice}
-use Rattle.core_row.specs.Attempts.{step_op}
-use Rattle.core_wake.specs.Operations.{woken_by_operation}
-use Rattle.core_wake.specs.Sleep.{OthersSleep, attempts_at, has_moved}
-use Rattle.core_wake.specs.Choices.{can_enable, OtherChoicesSleep}
-use Rattle.core_wake.proofs.Choices.{kept}
-use Rattle.core_wake.proofs.Sleepers.{falls}
+use Rattle.core_laws.specs.Attempts.{step_op}
+use Rattle.core_laws.specs.Operations.{woken_by_operation}
+use Rattle.core_laws.specs.Sleep.{OthersSleep, attempts_at, has_moved}
+use Rattle.core_laws.specs.Choices.{can_enable, OtherChoicesSleep}
+use Rattle.core_laws.proofs.Choices.{kept}
+use Rattle.core_laws.proofs.Sleepers.{falls}
 use Rattle.machine_parts.specs.Awake.{Awake, bit_of, bits_at, bits_by, is_awake, is_choice_awake, awake_after as after_move, rested, roused, all_roused}
 use Rattle.machine_parts.specs.Awake.{choice_rested}
 use Rattle.machine_parts.proofs.SetFlags.{clear_before, bits_other}

@@ -15,11 +15,11 @@ use Rattle.dateline_route.proofs.Neighbours.{hop_is}
 use Rattle.channel_number.specs.Order.{channel_at, channel_count}
 use Rattle.channel_number.specs.Ports.{is_injection, is_ejection, tile_after, input_port}
 use Rattle.channel_number.proofs.Decoding.{decoded}
-use Rattle.tile_laws.specs.declared.agent.Agent.TheVariants.{Router}
-use Rattle.tile_laws.specs.Agents.{agent_number}
-use Rattle.tile_laws.proofs.AgentNumbers.{number_low}
-use Rattle.core_wake.specs.Routers.{input_end}
-use Rattle.core_wake.specs.Waking.{taker, speaker, receiver_of, sender_of}
+use Rattle.tile.specs.declared.agent.Agent.TheVariants.{Router}
+use Rattle.tile.specs.Agents.{agent_number}
+use Rattle.tile.proofs.AgentNumbers.{number_low}
+use Rattle.core_laws.specs.Routers.{input_end}
+use Rattle.core_laws.specs.Waking.{taker, speaker, receiver_of, sender_of}
 use Rattle.machine_parts.specs.Ends.{all_ends, ends_of}
 use Rattle.machine_parts.specs.declared.ends.Ends.{Ends}
 

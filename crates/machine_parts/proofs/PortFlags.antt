@@ -13,10 +13,10 @@ use Rattle.channel_number.specs.Ports.{is_injection, is_ejection, input_router, 
 use Rattle.channel_number.proofs.Ports.{has_input, has_output}
 use Rattle.flit_buffer.specs.declared.word_op.WordOp.TheVariants.{Store, Swap}
 use Rattle.flit_buffer.proofs.PortLaws.{is_less}
-use Rattle.tile_laws.specs.Tile.{Design}
-use Rattle.core_wake.specs.Operations.{wake_places}
-use Rattle.core_wake.specs.Routers.{PortFlags, input_end, output_end, is_port, brings_flit, returns_credit, empties, fills, frees_put, ports_woken}
-use Rattle.core_wake.specs.Routers.{full_after, router_moved}
+use Rattle.tile.specs.Tile.{Design}
+use Rattle.core_laws.specs.Operations.{wake_places}
+use Rattle.core_laws.specs.Routers.{PortFlags, input_end, output_end, is_port, brings_flit, returns_credit, empties, fills, frees_put, ports_woken}
+use Rattle.core_laws.specs.Routers.{full_after, router_moved}
 use Rattle.machine_parts.specs.Ports.{is_raised, raised, lowered, joined, ports_at, flags_of}
 use Rattle.machine_parts.specs.InsidePorts.{awake_ports, TellPorts}
 use Rattle.machine_parts.specs.declared.port_ends.PortEnds.{PortEnds}

@@ -4,11 +4,11 @@ use Rattle.std.specs.Prelude.{nat_lt, slice_index, if◌then◌else◌}
 use Rattle.std.proofs.lemmas.Bool.{lt-ltb, le-ltb}
 use Rattle.torus.specs.declared.fault.Fault.{Fault}
 use Rattle.torus.specs.declared.fault.Fault.TheVariants as fault
-use Rattle.script.specs.declared.line.Line.{Line}
-use Rattle.script.specs.Scripts.{mentions_last}
-use Rattle.script_follower.specs.Scripts.{address_of}
-use Rattle.core_machine.specs.Machine.{Core}
-use Rattle.core_growth.specs.Handed.{is_word, has_loads, is_too_long, refused}
+use Rattle.script_lines.specs.declared.line.Line.{Line}
+use Rattle.script_lines.specs.Lines.{mentions_last}
+use Rattle.one_order.specs.Scripts.{address_of}
+use Rattle.core_laws.specs.Machine.{Core}
+use Rattle.core_laws.specs.Handed.{is_word, has_loads, is_too_long, refused}
 
 abbrev tests : Bool → Bool → Bool → Bool → Bool → Option Fault
 tests there named loads unled long =

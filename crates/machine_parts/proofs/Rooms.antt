@@ -5,16 +5,16 @@ use Rattle.std.specs.Prelude.{option_map, if◌then◌else◌}
 use Rattle.std.proofs.lemmas.Bool.{cases_eq, ne_eqb}
 use Rattle.std.proofs.lemmas.List.Sums.{sum_by-set, sum_by_push}
 use Rattle.std.proofs.lemmas.Option.{same_Some, slice_get-map}
-use Rattle.script.specs.declared.line.Line.{Line}
-use Rattle.script.specs.declared.line.Line.TheVariants as line
-use Rattle.script.specs.Scripts.{operations_of, script_of}
-use Rattle.script_follower.specs.Scripts.{address_of}
-use Rattle.script_follower.specs.Homes.{is_home, line_home_count, script_home_count}
-use Rattle.order_abstract.specs.Room.{home_room}
+use Rattle.script_lines.specs.declared.line.Line.{Line}
+use Rattle.script_lines.specs.declared.line.Line.TheVariants as line
+use Rattle.script_lines.specs.Lines.{operations_of, script_of}
+use Rattle.one_order.specs.Scripts.{address_of}
+use Rattle.one_order.specs.Homes.{is_home, line_home_count, script_home_count}
+use Rattle.one_order.specs.Room.{home_room}
 use Rattle.tile.specs.Placed.{PlacedTile}
 use Rattle.machine_parts.specs.Awake.{Awake}
-use Rattle.core_growth.specs.Appended.{changed_at}
-use Rattle.core_growth.proofs.Places.{get_map, get_other}
+use Rattle.core_laws.specs.Appended.{changed_at}
+use Rattle.core_laws.proofs.Places.{get_map, get_other}
 use Rattle.machine_parts.specs.Grown.{tile_given, tile_wider, tile_reopened, tiles_given, AreAsReported}
 use Rattle.machine_parts.proofs.Items.{kept_at}
 

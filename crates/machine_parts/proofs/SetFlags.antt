@@ -15,9 +15,9 @@ use Rattle.flit_buffer.specs.declared.word_op.WordOp.{WordOp}
 use Rattle.flit_buffer.specs.declared.word_op.WordOp.TheVariants.{Add}
 use Rattle.channel_number.specs.Order.{channel_count}
 use Rattle.flit_buffer.proofs.PortLaws.{is_less, less}
-use Rattle.core_wake.specs.Waking.{receiver_of, sender_of, processors}
-use Rattle.core_wake.specs.Operations.{wake_places}
-use Rattle.tile_laws.specs.Tile.{Design}
+use Rattle.core_laws.specs.Waking.{receiver_of, sender_of, processors}
+use Rattle.core_laws.specs.Operations.{wake_places}
+use Rattle.tile.specs.Tile.{Design}
 use Rattle.machine_parts.specs.Awake.{Awake, bit_of, bits_at, with_bits, woken}
 use Rattle.machine_parts.specs.Ends.{all_ends, ends_of}
 use Rattle.machine_parts.specs.Inside.{awake_of, TellEnds}

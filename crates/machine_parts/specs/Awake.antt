@@ -6,8 +6,8 @@ use Rattle.torus.specs.declared.step.Choice.{Choice}
 use Rattle.torus.specs.declared.step.Choice.TheVariants.{Send, Take, Credit, Done, Look, Serve, TakeFrom, Put, CreditOf}
 use Rattle.flit_buffer.specs.declared.word_op.WordOp.{WordOp}
 use Rattle.flit_buffer.specs.declared.word_op.WordOp.TheVariants.{Store, Swap, Add}
-use Rattle.tile_laws.specs.Tile.{Design}
-use Rattle.core_wake.specs.Operations.{woken_by_operation}
+use Rattle.tile.specs.Tile.{Design}
+use Rattle.core_laws.specs.Operations.{woken_by_operation}
 
 -- what a machine is built to, and of each of its agents the bits of its choices that count as awake
 -- (this project's own format)

@@ -3,7 +3,7 @@ use Rattle.std.specs.Prelude.{ℕ, ◌*◌, ◌/◌, List, map}
 use Rattle.std.specs.List.{range_with_len}
 use Rattle.torus.specs.Shape.{Shape}
 use Rattle.channel_number.specs.Order.{channel_count}
-use Rattle.core_wake.specs.Waking.{receiver_of, sender_of}
+use Rattle.core_laws.specs.Waking.{receiver_of, sender_of}
 use Rattle.machine_parts.specs.declared.ends.Ends.{Ends}
 
 -- the agents at the ends of channel x (this project's own format)

@@ -1,15 +1,15 @@
 -- The parts of a machine that is handed a line: its tiles, its row, and who counts as awake.
 use Rattle.std.specs.Prelude.{◌≡◌, ℕ, ◌+◌, ◌-◌, ◌<◌, ◌≤◌, Bool, true, false, List, length, map, sum_by, slice_set}
-use Rattle.script.specs.declared.line.Line.{Line}
-use Rattle.script.specs.Scripts.{operations_of, mentions_last}
-use Rattle.script_follower.specs.Following.{left_of}
-use Rattle.script_follower.specs.ProcessorRecord.{ProcessorRecord}
-use Rattle.script_follower.specs.ProcessorTable.{processor_with, processor_open}
-use Rattle.tile_laws.specs.Agents.{state_of}
+use Rattle.script_lines.specs.declared.line.Line.{Line}
+use Rattle.script_lines.specs.Lines.{operations_of, mentions_last}
+use Rattle.one_order.specs.Following.{left_of}
+use Rattle.one_order.specs.ProcessorRecord.{ProcessorRecord}
+use Rattle.one_order.specs.ProcessorTable.{processor_with, processor_open}
+use Rattle.tile.specs.Agents.{state_of}
 use Rattle.tile.specs.Placed.{PlacedTile, with_room, with_processor}
 use Rattle.machine_parts.specs.Awake.{Awake, all_roused}
-use Rattle.core_growth.specs.Appended.{changed_at}
-use Rattle.core_growth.specs.Reopened.{marks}
+use Rattle.core_laws.specs.Appended.{changed_at}
+use Rattle.core_laws.specs.Reopened.{marks}
 
 -- a tile with the line at the end of its processor's script
 abbrev pub tile_given : Line → PlacedTile → PlacedTile

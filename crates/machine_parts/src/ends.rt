@@ -3,11 +3,11 @@
 ghost use Rattle.std.specs.Prelude.{◌≡◌, ◌*◌, ◌<◌, ◌≤◌, IfOk};
 ghost use Rattle.torus.specs.Shape.{tiles_of};
 ghost use Rattle.channel_number.specs.Order.{channel_count};
-ghost use Rattle.core_wake.specs.Waking.{taker, speaker, receiver_of, sender_of};
+ghost use Rattle.core_laws.specs.Waking.{taker, speaker, receiver_of, sender_of};
 ghost use Rattle.machine_parts.specs.Ends.{all_ends, ends_of};
 
 use channel_number::{channel_at, channel_count};
-use core_wake::{Agent, agent_number};
+use core_laws::{Agent, agent_number};
 use dateline_route::Kind;
 use std::alloc::{AllocError, Allocator};
 use torus::{Class, Torus};

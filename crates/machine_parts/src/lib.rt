@@ -13,7 +13,7 @@ mod refusing;
 mod reports;
 mod words;
 
-pub use core_wake::{Agent, TileAgents, agent_kind, agent_number, agent_tile};
+pub use core_laws::{Agent, TileAgents, agent_kind, agent_number, agent_tile};
 pub use ends::Ends;
 pub use flags::WakeFlags;
 pub use lines::{home_of, put_line};

@@ -2,7 +2,7 @@
 
 ghost use Rattle.std.specs.Prelude.{◌≡◌, ◌*◌, ◌<◌, ◌≤◌, IfOk};
 ghost use Rattle.channel_number.specs.Order.{channel_count};
-ghost use Rattle.core_wake.specs.Routers.{input_end, output_end};
+ghost use Rattle.core_laws.specs.Routers.{input_end, output_end};
 ghost use Rattle.machine_parts.specs.Ports.{all_ports, ports_at};
 
 use channel_number::{channel_at, channel_count};

@@ -3,7 +3,7 @@
 ghost use Rattle.std.specs.Prelude.{◌≡◌, ◌<◌, ◌≤◌, MatchOption, IfOk};
 ghost use Rattle.std.specs.Slice.Scan.{HoldsNowhere, IsFirstPlace};
 ghost use Rattle.flit_buffer.specs.declared.word_op.WordOp.TheVariants.{Store, Swap};
-ghost use Rattle.core_wake.specs.Routers.{ports_woken, router_moved};
+ghost use Rattle.core_laws.specs.Routers.{ports_woken, router_moved};
 ghost use Rattle.machine_parts.specs.Ports.{AwakePorts, flags_of, fresh_ports};
 ghost use Rattle.machine_parts.specs.Ports.{take_rested, put_rested, credit_rested, ports_roused};
 

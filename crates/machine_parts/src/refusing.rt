@@ -1,10 +1,10 @@
 //! Which lines a machine refuses.
 
 ghost use Rattle.std.specs.Prelude.{◌≡◌, ℕ, ◌<◌, ◌≤◌, ◌==◌, ◌&&◌, length, sum, slice_index};
-ghost use Rattle.script.specs.Scripts.{mentions_last};
-ghost use Rattle.script_follower.specs.Scripts.{address_of};
-ghost use Rattle.core_machine.specs.Machine.{Core};
-ghost use Rattle.core_growth.specs.Handed.{is_word, has_loads, is_too_long, refused};
+ghost use Rattle.script_lines.specs.Lines.{mentions_last};
+ghost use Rattle.one_order.specs.Scripts.{address_of};
+ghost use Rattle.core_laws.specs.Machine.{Core};
+ghost use Rattle.core_laws.specs.Handed.{is_word, has_loads, is_too_long, refused};
 
 use order_book::address;
 use script::Line;

@@ -1,9 +1,9 @@
 //! Reports that are taken back.
 
 ghost use Rattle.std.specs.Prelude.{◌≡◌, ◌<◌, ◌≤◌, ◌*◌, Some, length, map, slice_get};
-ghost use Rattle.tile_laws.specs.Agents.{state_of};
+ghost use Rattle.tile.specs.Agents.{state_of};
 ghost use Rattle.tile.specs.Placed.{PlacedTile};
-ghost use Rattle.core_growth.specs.Reopened.{mark, marks};
+ghost use Rattle.core_laws.specs.Reopened.{mark, marks};
 ghost use Rattle.machine_parts.specs.Grown.{tile_reopened, marks_in, AreAsReported};
 
 use crate::{TileAgents, WakeFlags};

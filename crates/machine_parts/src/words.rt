@@ -1,7 +1,7 @@
 //! The values of a line.
 
-ghost use Rattle.script.specs.Scripts.{IsWord};
-ghost use Rattle.core_growth.specs.Handed.{BringsWords};
+ghost use Rattle.script_lines.specs.Lines.{IsWord};
+ghost use Rattle.core_laws.specs.Handed.{BringsWords};
 
 use script::{Line, Value};
 

@@ -6,7 +6,7 @@ use Rattle.torus.specs.Shape.{dims_of}
 use Rattle.torus.specs.declared.step.Step.{Step}
 use Rattle.torus.specs.declared.step.Stepped.TheVariants.{Moved, Idle}
 use Rattle.channel_number.specs.Ports.{port_count}
-use Rattle.script.specs.declared.line.Line.{Line as ScriptLine}
+use Rattle.script_lines.specs.declared.line.Line.{Line as ScriptLine}
 use Rattle.machine_parts.specs.Core.{round}
 use Rattle.machine_parts.specs.Handed.{handed, refused}
 use Rattle.machine_parts.specs.Machine.{RunsOn, Steps, core_after}

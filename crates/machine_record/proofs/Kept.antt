@@ -1,6 +1,6 @@
 -- What is kept of what is done, and where a record ends.
 use Rattle.std.proofs.Common.{◌≡◌, ◌⊎◌, inl, inr, ◌≤◌, ◌<◌, ℕ, true, false, length, Option, Some, None, refl, ap, subst, vec_capacity, vec_len}
-use Rattle.script.specs.declared.line.Line.{Line as ScriptLine}
+use Rattle.script_lines.specs.declared.line.Line.{Line as ScriptLine}
 use Rattle.machine_record.specs.declared.action.Action.{Action}
 use Rattle.machine_record.specs.declared.record.Record.{Record}
 use Rattle.machine_record.specs.Action.{action_number, is_narrow}

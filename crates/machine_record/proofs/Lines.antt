@@ -4,10 +4,10 @@ use Rattle.std.specs.Prelude.{if◌then◌else◌, slice_index}
 use Rattle.std.proofs.lemmas.Bool.{lt-ltb}
 use Rattle.torus.specs.declared.fault.Fault.{Fault}
 use Rattle.torus.specs.declared.fault.Fault.TheVariants as fault
-use Rattle.script.specs.declared.line.Line.{Line}
-use Rattle.script.specs.declared.line.Line.TheVariants as line
-use Rattle.script.specs.declared.line.Value.{Value}
-use Rattle.script.specs.declared.line.Value.TheVariants.{Number, Last}
+use Rattle.script_lines.specs.declared.line.Line.{Line}
+use Rattle.script_lines.specs.declared.line.Line.TheVariants as line
+use Rattle.script_lines.specs.declared.line.Value.{Value}
+use Rattle.script_lines.specs.declared.line.Value.TheVariants.{Number, Last}
 use Rattle.machine_record.specs.Row.{first_is_last, second_is_last, last_bit, line_of_row, number_of_value, row_of_line, value_of_number}
 use Rattle.machine_record.specs.Widths.{HasFewLoads}
 

@@ -15,10 +15,10 @@ use Rattle.torus.specs.declared.step.Stepped.{Stepped}
 use Rattle.torus.specs.declared.step.Stepped.TheVariants.{Moved, Idle}
 use Rattle.channel_number.specs.Ports.{port_count}
 use Rattle.script.specs.declared.fault.LineFault.{LineFault}
-use Rattle.script.specs.declared.line.Line.{Line as ScriptLine}
-use Rattle.script.specs.declared.line.Line.TheVariants as line
+use Rattle.script_lines.specs.declared.line.Line.{Line as ScriptLine}
+use Rattle.script_lines.specs.declared.line.Line.TheVariants as line
 use Rattle.machine_parts.specs.Core.{Load, State, round, step}
-use Rattle.script_follower.specs.Scripts.{address_of}
+use Rattle.one_order.specs.Scripts.{address_of}
 use Rattle.machine_parts.specs.Handed.{has_loads, is_word, refused}
 use Rattle.machine_parts.specs.Machine.{Core, Steps, built_to, core_after, core_next, core_with, event_in, machine_told}
 use Rattle.machine_core.specs.Loading.{load_by}

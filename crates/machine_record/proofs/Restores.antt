@@ -9,8 +9,8 @@ use Rattle.machine_core.specs.Loading.{HasLoaded, IsLoadFault, load_by}
 use Rattle.machine_asked.specs.Asked.{Asked, has_spin}
 use Rattle.machine_record.specs.Reading.{record_in_bytes}
 use Rattle.machine_record.specs.Recording.{Recording, Room, fresh_record}
-use Rattle.machine_record.specs.Calls.{IsFresh, IsLoaded, IsMadeAgain, IsRestored, Stops}
-use Rattle.machine_record.specs.Machine.{AreAlike, Recorded}
+use Rattle.machine_record.specs.Calls.{IsFreshCall, IsLoaded, IsMadeAgain, IsRestored, Stops}
+use Rattle.machine_record.specs.Machine.{AreAlikeMachines, Recorded}
 use Rattle.machine_record.specs.MachineInside.{RecordMakes}
 use Rattle.machine_record.specs.Replay.{loaded, made_by, replayed, replayed_from}
 use Rattle.machine_record.specs.Replayed.{Replays, StopsAtAction}
@@ -35,7 +35,7 @@ fresh_makes machine scripts v h spins =
 -- a machine with such a record of a machine text alone
 pub fresh_is : (text : List ℕ) (v : Asked) (kept : Recording) (room : Room) → HasLoaded (load_by (lines text) []) v.core
     → ((l : Load) → load_by (lines text) [] ≡ Ok l → v.spins ≡ map has_spin l.scripts) → kept ≡ fresh_record text []
-    → IsFresh (record { asked = v; kept = Some kept; room = room })
+    → IsFreshCall (record { asked = v; kept = Some kept; room = room })
 fresh_is text v kept room h spins is = record {
   text = text;
   made = record { made = fresh_makes text [] v h spins; keeps = ap Some is };
@@ -55,12 +55,12 @@ pub stops_at : (r : Recording) (v : Asked) (at : ℕ) → IsLoaded r v → Stops
 stops_at r v at h stops = record { load = h.load; texts = h.texts; stops = subst (λ (x : Asked). StopsAtAction r.rows r.actions x at) h.is stops }
 
 -- two machines of one record are the same
-pub one_made : (r : Recording) (v w : Recorded) → IsMadeAgain r v → IsMadeAgain r w → AreAlike v w
+pub one_made : (r : Recording) (v w : Recorded) → IsMadeAgain r v → IsMadeAgain r w → AreAlikeMachines v w
 one_made r v w one other =
     let asked : v.asked ≡ w.asked = cc in
     record { asked = asked; kept = one.keeps ∙ sym other.keeps }
 
-pub one_restored : (bs : List ℕ) (v w : Recorded) → IsRestored bs v → IsRestored bs w → AreAlike v w
+pub one_restored : (bs : List ℕ) (v w : Recorded) → IsRestored bs v → IsRestored bs w → AreAlikeMachines v w
 one_restored bs v w one other =
     let same : one.kept ≡ other.kept = cc in
     one_made other.kept v w (subst (λ (r : Recording). IsMadeAgain r v) same one.made) other.made

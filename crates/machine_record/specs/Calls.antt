@@ -24,7 +24,7 @@ pub record IsMadeAgain (kept : Recording) (v : Recorded) : Type 0 where
   pub keeps : v.kept ≡ Some kept
 
 -- a machine with the record of a machine text, before anything is done; it has no scripts
-pub record IsFresh (v : Recorded) : Type 0 where
+pub record IsFreshCall (v : Recorded) : Type 0 where
   pub text : List ℕ
   pub made : IsMadeAgain (fresh_record text []) v
 

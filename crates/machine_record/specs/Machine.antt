@@ -4,7 +4,7 @@ use Rattle.std.specs.Prelude.{IfSome, option_map}
 use Rattle.torus.specs.declared.step.Step.{Step}
 use Rattle.torus.specs.declared.step.Stepped.{Stepped}
 use Rattle.torus.specs.declared.step.Stepped.TheVariants.{Moved, Idle}
-use Rattle.script.specs.declared.line.Line.{Line as ScriptLine}
+use Rattle.script_lines.specs.declared.line.Line.{Line as ScriptLine}
 use Rattle.machine_asked.specs.Asked.{Asked}
 use Rattle.machine_record.specs.declared.action.Action.{Action}
 use Rattle.machine_record.specs.declared.action.Action.TheVariants.{Move, Line}
@@ -19,7 +19,7 @@ pub record Recorded : Type 0 where
   pub room : Room
 
 -- the same machine with the same record; only the room may be another
-pub record AreAlike (v w : Recorded) : Type 0 where
+pub record AreAlikeMachines (v w : Recorded) : Type 0 where
   pub asked : v.asked ≡ w.asked
   pub kept : v.kept ≡ w.kept
 

@@ -1,6 +1,6 @@
 -- What a recorded machine's fields stand for, and what is true of them.
 use Rattle.std.specs.Prelude.{◌≡◌, ℕ, Option, Some, None, option_map}
-use Rattle.script.specs.declared.line.Line.{Line as ScriptLine}
+use Rattle.script_lines.specs.declared.line.Line.{Line as ScriptLine}
 use Rattle.machine_asked.specs.Asked.{Asked}
 use Rattle.machine_record.specs.declared.recorded.RecordedMachine.TheInside.{Inside}
 use Rattle.machine_record.specs.declared.action.Action.{Action}

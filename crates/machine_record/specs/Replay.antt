@@ -7,7 +7,7 @@ use Rattle.torus.specs.declared.step.Step.{Step}
 use Rattle.torus.specs.declared.step.Stepped.{Stepped}
 use Rattle.torus.specs.declared.step.Stepped.TheVariants.{Moved, Idle}
 use Rattle.script.specs.declared.fault.LineFault.{LineFault}
-use Rattle.script.specs.declared.line.Line.{Line as ScriptLine}
+use Rattle.script_lines.specs.declared.line.Line.{Line as ScriptLine}
 use Rattle.machine_parts.specs.Core.{Load, step}
 use Rattle.machine_parts.specs.Handed.{handed, refused}
 use Rattle.machine_parts.specs.Machine.{built_to, core_after, core_after_load, core_next, machine_told}

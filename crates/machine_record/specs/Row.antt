@@ -1,10 +1,10 @@
 -- A line that a processor is handed, as numbers (this project's own format).
 use Rattle.std.specs.Prelude.{ℕ, ◌+◌, ◌*◌, ◌==◌, ◌||◌, Bool, nat_lt, List, [], ◌∷◌, Option, Some, None}
 use Rattle.std.specs.Prelude.{if◌then◌else◌, slice_get}
-use Rattle.script.specs.declared.line.Line.{Line}
-use Rattle.script.specs.declared.line.Line.TheVariants as line
-use Rattle.script.specs.declared.line.Value.{Value}
-use Rattle.script.specs.declared.line.Value.TheVariants.{Number, Last}
+use Rattle.script_lines.specs.declared.line.Line.{Line}
+use Rattle.script_lines.specs.declared.line.Line.TheVariants as line
+use Rattle.script_lines.specs.declared.line.Value.{Value}
+use Rattle.script_lines.specs.declared.line.Value.TheVariants.{Number, Last}
 use Rattle.machine_record.specs.declared.row.LineRow.{LineRow}
 
 -- 1 where a value is `last`, else 0

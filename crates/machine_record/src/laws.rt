@@ -1,7 +1,7 @@
 //! Laws of records, each the contract of a function that does nothing.
 
 ghost use Rattle.std.specs.Prelude.{◌≡◌, ℕ, List, Ok, Some, true};
-ghost use Rattle.script.specs.declared.line.Line.{Line};
+ghost use Rattle.script_lines.specs.declared.line.Line.{Line};
 ghost use Rattle.machine_record.specs.declared.action.Action.{Action};
 ghost use Rattle.machine_record.specs.Action.{action_number, action_of, is_narrow};
 ghost use Rattle.machine_record.specs.Bytes.{record_bytes};
@@ -10,7 +10,7 @@ ghost use Rattle.machine_record.specs.Recording.{Recording};
 ghost use Rattle.machine_record.specs.Row.{line_of_row, row_of_line};
 ghost use Rattle.machine_record.specs.Widths.{HasFewLoads, HasWidths};
 ghost use Rattle.machine_record.specs.Calls.{IsRestored};
-ghost use Rattle.machine_record.specs.Machine.{AreAlike, Recorded};
+ghost use Rattle.machine_record.specs.Machine.{AreAlikeMachines, Recorded};
 
 /// The bytes of a record are read back as the record.
 pub fn bytes_are_read_back()
@@ -30,5 +30,5 @@ pub fn rows_are_read_back()
 
 /// The same bytes make one machine: in the same state, with the same record.
 pub fn bytes_make_one_machine()
-    ensures { (bs : List ℕ) (v w : Recorded) → IsRestored bs v → IsRestored bs w → AreAlike v w }
+    ensures { (bs : List ℕ) (v w : Recorded) → IsRestored bs v → IsRestored bs w → AreAlikeMachines v w }
 {}

@@ -10,16 +10,16 @@ ghost use Rattle.machine_parts.specs.Core.{Load, round, run_of, step};
 ghost use Rattle.machine_parts.specs.Handed.{handed, moves_kept, refused};
 ghost use Rattle.machine_parts.specs.Machine.{IsAfter, MakesMove, RunsOn, Steps, all_finished};
 ghost use Rattle.machine_parts.specs.Machine.{built_to, core_after};
-ghost use Rattle.machine_parts.specs.Moves.{moves_left};
+ghost use Rattle.machine_parts.specs.ProgressMoves.{moves_left};
 ghost use Rattle.machine_parts.specs.Rounds.{moves_in};
-ghost use Rattle.machine_parts.specs.Scripts.{AreFinished};
+ghost use Rattle.machine_parts.specs.AbstractScripts.{AreFinished};
 ghost use Rattle.machine_core.specs.Loading.{HasLoaded, IsLoadFault, load_by};
 ghost use Rattle.machine_core.specs.Rounds.{NeedsRounds, rounds_of};
-ghost use Rattle.machine_asked.specs.Asked.{IsAsked, IsNumbered, NeedsToWait, has_spin};
+ghost use Rattle.machine_asked.specs.Asked.{IsAsked, IsNumberedLine, NeedsToWait, has_spin};
 ghost use Rattle.machine_asked.specs.Asked.{index_asked, spins_with};
 ghost use Rattle.machine_asked.specs.Opened.{IsOpened};
 ghost use Rattle.machine_record.specs.Recording.{fresh_record, no_room};
-ghost use Rattle.machine_record.specs.Calls.{IsFresh};
+ghost use Rattle.machine_record.specs.Calls.{IsFreshCall};
 ghost use Rattle.machine_record.specs.Machine.{KeepsRecord, KeepsLine, KeepsStep};
 
 use crate::keeping::{keep, keep_line, keep_rounds};
@@ -93,7 +93,7 @@ impl<A: Allocator + Copy> RecordedMachine<A> {
         opening: &[u64],
     ) -> Result<RecordedMachine<A>, AllocError>
         ensures opened { IfOk result (λ m. IsOpened torus depth tags opening.now m.asked) }
-        ensures kept { IfOk result IsFresh }
+        ensures kept { IfOk result IsFreshCall }
     {
         let opened = AskedMachine::open_with_text(alloc, torus, depth, tags, opening)?;
         let OpenedMachine { machine, text } = opened;
@@ -261,7 +261,7 @@ impl<A: Allocator> RecordedMachine<A> {
         ensures numbered { IfOk result (λ index. IfSome index
             (λ i. (l : Load) (steps : List Step) → IsAfter l self.old.asked.core steps
             → self.old.asked.spins ≡ map has_spin l.scripts
-            → IsNumbered (load_with l processor line) processor line i)) }
+            → IsNumberedLine (load_with l processor line) processor line i)) }
         ensures kept { OnOk result (KeepsLine processor line self.old self.new) }
         ensures fault { IfErr result
             (λ fault. (refused self.old.asked.core processor line ≡ Some fault)

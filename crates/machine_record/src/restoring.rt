@@ -4,7 +4,7 @@ ghost use Rattle.std.specs.Prelude.{◌≡◌, IfErr, IfOk, IfSome, MatchOption,
 ghost use Rattle.machine_record.specs.Bytes.{record_bytes};
 ghost use Rattle.machine_record.specs.Reading.{record_in_bytes};
 ghost use Rattle.machine_record.specs.Recorded.{recording_of};
-ghost use Rattle.machine_record.specs.Machine.{AreAlike};
+ghost use Rattle.machine_record.specs.Machine.{AreAlikeMachines};
 ghost use Rattle.machine_record.specs.Calls.{IsLoaded, IsMadeAgain, IsRestored, IsUnmade, IsUnread, IsUnrestored};
 
 use crate::recorded::RecordedMachine;
@@ -103,7 +103,7 @@ impl<A: Allocator + Copy> RecordedMachine<A> {
     /// Errors: out of memory.
     pub fn cloned(&self, alloc: A) -> Result<Option<RecordedMachine<A>>, AllocError>
         ensures { IfOk result
-            (λ machine. MatchOption machine (self.now.kept ≡ None) (λ m. AreAlike m self.now)) }
+            (λ machine. MatchOption machine (self.now.kept ≡ None) (λ m. AreAlikeMachines m self.now)) }
     {
         match &self.kept {
             Some(kept) => match made(alloc, copied(alloc, kept)?) {

@@ -3,7 +3,7 @@ use Rattle.std.proofs.Common.{◌<◌, List, [], length, map, ap, arith, slice_i
 use Rattle.std.proofs.lemmas.List.{length-map, get_or-map}
 use Rattle.report_lines.specs.declared.line.OrderLine.{OrderLine}
 use Rattle.report_lines.specs.Parts.{FitReport}
-use Rattle.core_machine.specs.Machine.{Core, shown}
+use Rattle.core_laws.specs.Machine.{Core, shown}
 use Rattle.machine_report.specs.Report.{IsWithinLimits, answer_row, contents_with, entry_row}
 
 pub fit_report : (c : Core) (order : List OrderLine) → IsWithinLimits c → FitReport (contents_with c order)

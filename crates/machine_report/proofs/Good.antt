@@ -12,8 +12,8 @@ use Rattle.report_lines.specs.declared.parts.AnswerRow.{AnswerRow}
 use Rattle.report_lines.specs.Fits.{FitsLine}
 use Rattle.report_check.specs.Good.{AreGood, GoodReport}
 use Rattle.report_check.specs.Facts.{AnswersAreTold, AreContents, AreNumbered, AreOrdered}
-use Rattle.core_machine.specs.Machine.{Core, shown, all_finished}
-use Rattle.core_machine.specs.Reported.{ReportsWell}
+use Rattle.core_laws.specs.Machine.{Core, shown, all_finished}
+use Rattle.core_laws.specs.Reported.{ReportsWell}
 use Rattle.machine_report.specs.Report.{IsReportOf, answer_row, entry_row, order_line, report_with}
 use Rattle.machine_report.proofs.Contents.{answered, complete, entered, numbered, ordered, told}
 

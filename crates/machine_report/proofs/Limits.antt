@@ -1,8 +1,8 @@
 -- What a machine shows is within the limits of a report.
 use Rattle.std.proofs.Common.{ℕ, zero, suc, ◌<◌, ◌≤◌, List, [], ◌∷◌, length, arith, slice_index_or}
 use Rattle.one_order.specs.Observed.{total}
-use Rattle.core_machine.specs.Machine.{Core}
-use Rattle.core_machine.specs.Reported.{ReportsWell}
+use Rattle.core_laws.specs.Machine.{Core}
+use Rattle.core_laws.specs.Reported.{ReportsWell}
 use Rattle.machine_report.specs.Report.{IsWithinLimits}
 
 -- each list is at most as long as all together

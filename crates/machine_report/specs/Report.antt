@@ -11,7 +11,7 @@ use Rattle.report_lines.specs.declared.parts.AnswerRow.{AnswerRow}
 use Rattle.report_lines.specs.Contents.{report_lines_of}
 use Rattle.report_lines.specs.Parts.{Contents, lines_of_contents}
 use Rattle.one_order.specs.Observed.{Observed, event_count}
-use Rattle.core_machine.specs.Machine.{Core, shown, all_finished}
+use Rattle.core_laws.specs.Machine.{Core, shown, all_finished}
 
 -- what is reported of a service
 abbrev pub entry_row : Entry → EntryRow

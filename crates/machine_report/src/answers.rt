@@ -1,7 +1,7 @@
 //! The answers of all processors.
 
 ghost use Rattle.std.specs.Prelude.{◌≡◌, IfOk, map};
-ghost use Rattle.core_machine.specs.Machine.{shown};
+ghost use Rattle.core_laws.specs.Machine.{shown};
 
 use crate::reached::Reached;
 use machine_core::Answer;

@@ -2,10 +2,10 @@
 
 ghost use Rattle.std.specs.Prelude.{◌≡◌, length, slice_get};
 ghost use Rattle.std.specs.Option.{option_copied};
-ghost use Rattle.core_machine.specs.Machine.{Core, all_finished, shown};
-ghost use Rattle.core_machine.specs.Reported.{ReportsWell};
+ghost use Rattle.core_laws.specs.Machine.{Core, all_finished, shown};
+ghost use Rattle.core_laws.specs.Reported.{ReportsWell};
 
-use core_machine::laws::reached_machines_report_well;
+use core_laws::machine_laws::reached_machines_report_well;
 use machine_core::{Answer, Entry, Machine};
 use std::alloc::Allocator;
 use torus::Torus;

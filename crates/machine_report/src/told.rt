@@ -1,7 +1,7 @@
 //! What is reached, with rows of the one order, as the contents of a report.
 
 ghost use Rattle.std.specs.Prelude.{◌≡◌, [], map, option_map, slice_get, slice_index_or};
-ghost use Rattle.core_machine.specs.Machine.{shown};
+ghost use Rattle.core_laws.specs.Machine.{shown};
 ghost use Rattle.machine_report.specs.Report.{answer_row, contents_with, entry_row, order_line};
 
 use crate::reached::Reached;

@@ -1,6 +1,6 @@
+use one_order::Follower;
 use packet::{Op, Reply};
 use script::{Line, Value};
-use script_follower::Follower;
 use std::process::Abort;
 use std::test::Fail;
 
@@ -78,7 +78,7 @@ fn a_spin_ends_by_its_count(rt: HostRuntime) -> Result<(), Fail> {
 }
 
 #[test]
-#[tactic(auto, using(script_follower::proofs::Followable::followable_by))]
+#[tactic(auto, using(one_order::proofs::Followable::followable_by))]
 fn a_spin_ends_where_its_first_load_finds_the_number(rt: HostRuntime) -> Result<(), Fail> {
     let lines = vec![in rt.alloc(); Line::Spin(3, 5, 3), Line::Store(4, Value::Last)]?;
     let acts = [
@@ -113,7 +113,7 @@ fn a_spin_ends_where_a_middle_load_finds_the_number(rt: HostRuntime) -> Result<(
 }
 
 #[test]
-#[tactic(auto, using(script_follower::proofs::Followable::followable_by))]
+#[tactic(auto, using(one_order::proofs::Followable::followable_by))]
 fn last_after_a_spin_is_the_reply_of_its_last_load(rt: HostRuntime) -> Result<(), Fail> {
     for found in [5, 6] {
         let lines = vec![in rt.alloc(); Line::Spin(3, 5, 2), Line::Swap(4, Value::Last)]?;
@@ -152,7 +152,7 @@ fn a_spin_of_one_load(rt: HostRuntime) -> Result<(), Fail> {
 }
 
 #[test]
-#[tactic(auto, using(script_follower::proofs::Followable::followable_by))]
+#[tactic(auto, using(one_order::proofs::Followable::followable_by))]
 fn last_is_the_number_replied_just_before(rt: HostRuntime) -> Result<(), Fail> {
     let lines = vec![in rt.alloc(); Line::Load(4), Line::Store(5, Value::Last)]?;
     let acts = [
@@ -169,7 +169,7 @@ fn last_is_the_number_replied_just_before(rt: HostRuntime) -> Result<(), Fail> {
 }
 
 #[test]
-#[tactic(auto, using(script_follower::proofs::Followable::followable_by))]
+#[tactic(auto, using(one_order::proofs::Followable::followable_by))]
 fn ok_counts_as_0(rt: HostRuntime) -> Result<(), Fail> {
     let lines = vec![in rt.alloc();
         Line::Store(0, Value::Number(7)),
@@ -196,7 +196,7 @@ fn a_script_without_operations_is_finished(rt: HostRuntime) -> Result<(), Fail> 
 }
 
 #[test]
-#[tactic(auto, using(script_follower::proofs::Followable::followable_by))]
+#[tactic(auto, using(one_order::proofs::Followable::followable_by))]
 fn every_kind_of_line(rt: HostRuntime) -> Result<(), Fail> {
     let lines = vec![in rt.alloc();
         Line::Fence,

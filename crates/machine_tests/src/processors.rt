@@ -1,6 +1,6 @@
 ghost use Rattle.std.specs.Prelude.{◌<◌, ◌≤◌};
-ghost use Rattle.script.specs.Scripts.{operation_count};
-ghost use Rattle.script_follower.specs.Scripts.{IsFollowable};
+ghost use Rattle.script_lines.specs.Lines.{operation_count};
+ghost use Rattle.one_order.specs.Scripts.{IsFollowable};
 
 use crate::bench::{Agent, Bench, Event, IDLE, MOVED, ring_of, stepped};
 use flit_buffer::perform;
@@ -262,7 +262,7 @@ const FILLED_PLACES: &[Event] = &[
 ];
 
 #[test]
-#[tactic(auto, using(script_follower::proofs::Followable::followable_by))]
+#[tactic(auto, using(one_order::proofs::Followable::followable_by))]
 fn events_go_as_they_say(rt: HostRuntime) -> Result<(), Fail> {
     let alloc = rt.alloc();
     let choices = [Line::Load(5), Line::Store(5, Value::Number(17))];

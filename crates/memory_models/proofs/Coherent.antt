@@ -8,7 +8,7 @@ use Rattle.memory_models.specs.declared.kinds.Operation.{Operation}
 use Rattle.memory_models.specs.Trace.{has, is_load, is_write, uses_word, operation_at, source_at, writes_rule, IsOwn, AreOnOne, IsMemoryTrace}
 use Rattle.memory_models.specs.Order.{KeepsOrder, IsMemoryOrder}
 use Rattle.memory_models.specs.Models.{coherent, but_fences}
-use Rattle.memory_models.specs.WordOrders.{IsOn, IsSequentialOn}
+use Rattle.memory_models.specs.WordOrders.{IsOnWord, IsSequentialOn}
 use Rattle.memory_models.proofs.Orders.{load_uses}
 use Rattle.memory_models.proofs.Blocks.{block, same_rest}
 use Rattle.memory_models.proofs.Runs.{source_is, both_on}
@@ -59,7 +59,7 @@ coherent_is_sequential_on words ops writes turn t o word = record {
       ]);
 }
   where
-    program : (x y : ℕ) → IsOn ops word x → IsOn ops word y → IsOwn ops x y → turn x < turn y
+    program : (x y : ℕ) → IsOnWord ops word x → IsOnWord ops word y → IsOwn ops x y → turn x < turn y
     program x y on_x on_y own = o.program x y on_y.low (inl (
       0,
       omega arith,
@@ -115,11 +115,11 @@ sequential_on_is_coherent words ops writes turns t all = record {
     turn : ℕ → ℕ
     turn = merged words ops turns
 
-    on : (x : ℕ) → x < length ops → uses_word (operation_at ops x).kind ≡ true → IsOn ops (operation_at ops x).word x
+    on : (x : ℕ) → x < length ops → uses_word (operation_at ops x).kind ≡ true → IsOnWord ops (operation_at ops x).word x
     on x low uses = record { low = low; uses = uses; is = refl }
 
     other_on : (x y : ℕ) → y < length ops → uses_word (operation_at ops y).kind ≡ true → (operation_at ops x).word ≡ (operation_at ops y).word
-        → IsOn ops (operation_at ops x).word y
+        → IsOnWord ops (operation_at ops x).word y
     other_on x y low uses same = record { low = low; uses = uses; is = sym same }
 
     before : (x y : ℕ) → y < length ops → IsOwn ops x y → x < length ops
@@ -199,7 +199,7 @@ sequential_on_is_coherent words ops writes turns t all = record {
         let q = all (operation_at ops x).word in
         let on_x = on x low one.first in
         let on_w = other_on x w high one.second one.word in
-        let on_src : IsOn ops (operation_at ops x).word src = record { low = s.low; uses = (both_on ops src src s.write s.write refl).first; is = s.word } in
+        let on_src : IsOnWord ops (operation_at ops x).word src = record { low = s.low; uses = (both_on ops src src s.write s.write refl).first; is = s.word } in
         let up = q.word_order src w on_src on_w s.write write (omega (arith, place, less)) in
         let after : turns (operation_at ops x).word x < turns (operation_at ops x).word w =
         elim (cases_lt (turns (operation_at ops x).word w) (turns (operation_at ops x).word x)) [

@@ -113,15 +113,15 @@ IsCyclePart t v None part = part ≡ []
 IsCyclePart t v (Some model) part = IsCycleOf t model (verdict_by model v) part
 
 -- the part of an order: of a verdict that is one, the heading and the operations by their turns
-abbrev pub IsOrderOf : {A : Type 0} → LogTrace A → MemoryModel → Verdict A → List ℕ → Type 0
-IsOrderOf t model (Cycle first) part = part ≡ []
-IsOrderOf t model (Ordered turns) part =
+abbrev pub IsOrderOfLog : {A : Type 0} → LogTrace A → MemoryModel → Verdict A → List ℕ → Type 0
+IsOrderOfLog t model (Cycle first) part = part ≡ []
+IsOrderOfLog t model (Ordered turns) part =
     part ≡ order_heading model ++ turns_text t.openings t.steps.items turns.items
 
 -- nothing where no model is obeyed, and else the order of the strongest one that is
 abbrev pub IsOrderPart : {A : Type 0} → LogTrace A → Verdicts A → Option MemoryModel → List ℕ → Type 0
 IsOrderPart t v None part = part ≡ []
-IsOrderPart t v (Some model) part = IsOrderOf t model (verdict_by model v) part
+IsOrderPart t v (Some model) part = IsOrderOfLog t model (verdict_by model v) part
 
 -- nothing where no order is asked for
 abbrev pub IsAskedPart : {A : Type 0} → LogTrace A → Verdicts A → Bool → Bool → List ℕ → Type 0

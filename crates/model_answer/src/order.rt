@@ -1,7 +1,7 @@
 //! The order of the strongest model that a trace obeys.
 
 ghost use Rattle.std.specs.Prelude.{◌≡◌, ◌++◌, OnOk};
-ghost use Rattle.model_answer.specs.Answer.{AddsPart, IsOrderPart, IsOrderOf, strongest_obeyed, obeys_of};
+ghost use Rattle.model_answer.specs.Answer.{AddsPart, IsOrderPart, IsOrderOfLog, strongest_obeyed, obeys_of};
 ghost use Rattle.model_answer.specs.Answer.{order_heading};
 ghost use Rattle.model_answer.specs.Texts.{turn_line, turns_text};
 
@@ -96,7 +96,7 @@ fn put_verdict_of<A: Allocator + Copy>(
     verdict: &Verdict<A>,
 ) -> Result<(), AllocError>
     ensures { OnOk result (AddsPart text.old.items text.new.items
-        (IsOrderOf trace.now model verdict.now)) }
+        (IsOrderOfLog trace.now model verdict.now)) }
 {
     match verdict {
         Verdict::Cycle(_) => Ok(()),

@@ -17,7 +17,7 @@ use Rattle.memory_models.proofs.RunBy.{IsRunBy}
 use Rattle.memory_models.proofs.Runs.{both_on}
 use Rattle.model_text.specs.Kinds.{kind_of_op}
 use Rattle.model_text.specs.Made.{LogLines}
-use Rattle.model_text.specs.OneMemory.{AreRepliesInTurn, AreRepliesOfBuffers, IsToldAt, word_made}
+use Rattle.model_text.specs.OneMemory.{AreRepliesInTurn, AreRepliesOfBuffers, IsToldAtLine, word_made}
 use Rattle.model_text.specs.Traces.{AreOpened, kind_of_step, logged_at, numbers_of_log, opening_step, opening_operation, operation_of_log, operations_of_log, steps_of_log}
 use Rattle.model_text.specs.Values.{AreDueReplies, op_logged, op_of_step, word_met}
 use Rattle.model_text.proofs.Valued.{IsAt, opens, goes, at_place, two_parts, valued}
@@ -53,7 +53,7 @@ same_kind log x low = elim (at_place log x low) [
 
 replies : (log : LogLines) (words : ℕ) (writes : List ℕ) → IsMemoryTrace words (operations_of_log log) writes
     → AreOpened (length log.addresses) (operations_of_log log) writes → (x : ℕ) (reply : Reply) → x < length (operations_of_log log)
-    → IsToldAt (steps_of_log log) x reply → Replies log writes x
+    → IsToldAtLine (steps_of_log log) x reply → Replies log writes x
 replies log words writes t opened x reply low told =
     let kind : (operation_at (operations_of_log log) x).kind ≡ kind_of_op told.operation.op = same_kind log x low ∙ ap kind_of_step told.asked in
     elim (one_of told.operation.op) [
@@ -81,7 +81,7 @@ replies log words writes t opened x reply low told =
         ))
 
 due : (log : LogLines) (writes : List ℕ) → AreDueReplies (steps_of_log log) (operations_of_log log) writes → (x : ℕ) (reply : Reply)
-    → x < length (steps_of_log log) → IsToldAt (steps_of_log log) x reply
+    → x < length (steps_of_log log) → IsToldAtLine (steps_of_log log) x reply
     → reply ≡ reply_to (op_logged (steps_of_log log) x) (word_met (steps_of_log log) (operations_of_log log) writes x)
 due log writes all x reply low told = told.is ∙ all x told.told low told.replied
 
@@ -93,7 +93,7 @@ same_length log =
 -- the reply to what an operation finds in its turn
 reply_there : (log : LogLines) (words : ℕ) (writes : List ℕ) → IsMemoryTrace words (operations_of_log log) writes
     → AreOpened (length log.addresses) (operations_of_log log) writes → AreDueReplies (steps_of_log log) (operations_of_log log) writes
-    → (x : ℕ) (reply : Reply) (word : ℕ) → x < length (operations_of_log log) → IsToldAt (steps_of_log log) x reply
+    → (x : ℕ) (reply : Reply) (word : ℕ) → x < length (operations_of_log log) → IsToldAtLine (steps_of_log log) x reply
     → (FindsWrite (operations_of_log log) writes x → word ≡ word_met (steps_of_log log) (operations_of_log log) writes x)
     → reply ≡ reply_to (op_logged (steps_of_log log) x) word
 reply_there log words writes t opened all x reply word low told there =
@@ -146,7 +146,7 @@ of_buffers Keeps log words writes t opened all made left run order turns = recor
   where
     buffered : (x s v : ℕ) (reply : Reply) → x < length (operations_of_log log)
         → is_load (operation_at (operations_of_log log) x).kind ≡ true → IsBuffered (operations_of_log log) made left s x
-        → op_logged (steps_of_log log) s ≡ op.Store v → IsToldAt (steps_of_log log) x reply → reply ≡ Old v
+        → op_logged (steps_of_log log) s ≡ op.Store v → IsToldAtLine (steps_of_log log) x reply → reply ≡ Old v
     buffered x s v reply low load is store told =
         let kind : (operation_at (operations_of_log log) x).kind ≡ kind_of_op told.operation.op = same_kind log x low ∙ ap kind_of_step told.asked in
         let source : source_at (operations_of_log log) writes x ≡ s = run.forwarded x s low load is in

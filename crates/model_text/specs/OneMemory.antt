@@ -19,7 +19,7 @@ abbrev pub word_made : List Logged → ℕ → ℕ → ℕ
 word_made steps x w = new_word (op_logged steps x) w
 
 -- an operation of a log has a reply; a fence has none
-pub record IsToldAt (steps : List Logged) (x : ℕ) (reply : Reply) : Type 0 where
+pub record IsToldAtLine (steps : List Logged) (x : ℕ) (reply : Reply) : Type 0 where
   pub operation : Asked
   pub told : Told
   pub asked : (logged_at steps x).operation ≡ Some operation
@@ -36,7 +36,7 @@ pub record AreRepliesInTurn (steps : List Logged) (ops : List Operation) (order 
     Type 0
   where
     pub each : (opening : ℕ → ℕ) (k : ℕ) (reply : Reply) → k < length order
-        → IsToldAt steps (slice_index order k) reply
+        → IsToldAtLine steps (slice_index order k) reply
         → reply ≡ reply_in_turn steps ops opening order k
 
 -- each reply of a log is that of a machine with buffers of stores: of a load that finds its word in
@@ -48,9 +48,9 @@ pub record AreRepliesOfBuffers (steps : List Logged) (ops : List Operation) (mad
     pub turns : AreInTurns ops (effect_at ops made left) order
     pub buffered : (x s v : ℕ) (reply : Reply) → x < length ops
         → is_load (operation_at ops x).kind ≡ true → IsBuffered ops made left s x
-        → op_logged steps s ≡ Store v → IsToldAt steps x reply → reply ≡ Old v
+        → op_logged steps s ≡ Store v → IsToldAtLine steps x reply → reply ≡ Old v
     pub memory : (opening : ℕ → ℕ) (k : ℕ) (reply : Reply) → k < length order
         → ((s : ℕ) → is_load (operation_at ops (slice_index order k)).kind ≡ true
         → IsBuffered ops made left s (slice_index order k) → ⊥)
-        → IsToldAt steps (slice_index order k) reply
+        → IsToldAtLine steps (slice_index order k) reply
         → reply ≡ reply_in_turn steps ops opening order k

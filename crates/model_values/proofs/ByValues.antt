@@ -8,11 +8,11 @@ use Rattle.memory_models.specs.Trace.{is_load, is_write, uses_word, operation_at
 use Rattle.memory_models.proofs.Orders.{load_uses}
 use Rattle.model_values.specs.declared.valued.Valued.{Valued}
 use Rattle.model_values.specs.Unordered.{IsToldAt, IsPlacing}
-use Rattle.model_values.specs.Values.{FindsAt, IsKnownSource, IsValuedPlacing, IsReader, AreAlike, IsLeftBy}
+use Rattle.model_values.specs.Values.{FindsAt, IsKnownSource, IsValuedPlacing, IsReader, AreAlikeValues, IsLeftBy}
 use Rattle.model_values.proofs.Explained.{told_same}
 
 -- two writes that left the same in one word are one write
-one_write : (ops : List Operation) (left : List ℕ) → ((x y : ℕ) → AreAlike ops left x y → ⊥) → (a b : ℕ) → a < length ops → b < length ops
+one_write : (ops : List Operation) (left : List ℕ) → ((x y : ℕ) → AreAlikeValues ops left x y → ⊥) → (a b : ℕ) → a < length ops → b < length ops
     → is_write (operation_at ops a).kind ≡ true → is_write (operation_at ops b).kind ≡ true → (operation_at ops a).word ≡ (operation_at ops b).word
     → slice_index left a ≡ slice_index left b → a ≡ b
 one_write ops left none a b la lb wa wb word same = elim (cases_eq a b) [
@@ -21,7 +21,7 @@ one_write ops left none a b la lb wa wb word same = elim (cases_eq a b) [
 ]
 
 -- the write at a place that left what was found is the source
-at_place_is : (v : Valued) (sources : List ℕ) (placed : List Operation) (writes : List ℕ) → ((x y : ℕ) → AreAlike v.operations.now v.left.now x y → ⊥)
+at_place_is : (v : Valued) (sources : List ℕ) (placed : List Operation) (writes : List ℕ) → ((x y : ℕ) → AreAlikeValues v.operations.now v.left.now x y → ⊥)
     → IsValuedPlacing v placed writes → (x p : ℕ) → x < length v.operations.now → p < length writes
     → (operation_at placed (slice_index writes p)).word ≡ (operation_at placed x).word
     → slice_index v.left.now (slice_index writes p) ≡ slice_index v.found.now x
@@ -34,7 +34,7 @@ at_place_is v sources placed writes none i x p lx lp word left by =
     sym (i.same a low).word ∙ (word ∙ ((i.same x lx).word ∙ sym by.word)) in
     one_write v.operations.now v.left.now none a (slice_index sources x) low by.low is by.write words (left ∙ sym by.leaves)
 
-told_by : (v : Valued) (sources : List ℕ) (placed : List Operation) (writes : List ℕ) → ((x y : ℕ) → AreAlike v.operations.now v.left.now x y → ⊥)
+told_by : (v : Valued) (sources : List ℕ) (placed : List Operation) (writes : List ℕ) → ((x y : ℕ) → AreAlikeValues v.operations.now v.left.now x y → ⊥)
     → ((x : ℕ) → x < length v.operations.now → IsReader v.operations.now x → IsLeftBy v.operations.now v.left.now v.found.now x (slice_index sources x))
     → IsValuedPlacing v placed writes → (x : ℕ) → x < length v.operations.now → IsToldAt v.operations.now sources placed writes x
 told_by v sources placed writes none by i x lx =
@@ -81,7 +81,7 @@ finds_by v sources placed writes by i x lx = record {
 }
 
 -- with these sources, the orders of each word's writes that keep them are those that give the words
-pub by_values : (v : Valued) (sources : List ℕ) → ((x y : ℕ) → AreAlike v.operations.now v.left.now x y → ⊥)
+pub by_values : (v : Valued) (sources : List ℕ) → ((x y : ℕ) → AreAlikeValues v.operations.now v.left.now x y → ⊥)
     → ((x : ℕ) → x < length v.operations.now → IsReader v.operations.now x → IsLeftBy v.operations.now v.left.now v.found.now x (slice_index sources x))
     → (placed : List Operation) (writes : List ℕ)
     → (IsValuedPlacing v placed writes → IsPlacing v.operations.now sources v.words v.openings placed writes)

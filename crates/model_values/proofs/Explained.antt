@@ -11,7 +11,7 @@ use Rattle.memory_models.specs.Trace.{has, is_load, is_write, uses_word, operati
 use Rattle.memory_models.proofs.Orders.{load_uses}
 use Rattle.model_values.specs.Known.{IsRival, IsOwnLoad, IsReadBy}
 use Rattle.model_values.specs.Placed.{IsSame}
-use Rattle.model_values.specs.Unordered.{IsToldAt, IsOpeningOf, Explains}
+use Rattle.model_values.specs.Unordered.{IsToldAt, IsOpeningOf, ExplainsLog}
 
 -- what explains a trace, in one
 record IsExplained (rules : List Rule) (ops : List Operation) (sources : List ℕ) (words openings : ℕ) (placed : List Operation) (writes : List ℕ) (turn : ℕ → ℕ) : Type 0
@@ -23,7 +23,7 @@ record IsExplained (rules : List Rule) (ops : List Operation) (sources : List �
     pub order : IsMemoryOrder rules placed writes turn
 
 explained : (rules : List Rule) (ops : List Operation) (sources : List ℕ) (words openings : ℕ) (turn : ℕ → ℕ)
-    → (ex : Explains rules ops sources words openings turn) → IsExplained rules ops sources words openings ex.placed ex.writes turn
+    → (ex : ExplainsLog rules ops sources words openings turn) → IsExplained rules ops sources words openings ex.placed ex.writes turn
 explained rules ops sources words openings turn ex =
     record { size = ex.is.size; trace = ex.is.trace; told = ex.is.told; opened = ex.is.opened; order = ex.order }
 
@@ -68,7 +68,7 @@ kept_before rules ops x y (inl k) = k.2.own.before
 kept_before rules ops x y (inr w) = w.own.before
 
 pub kept_rises : (rules : List Rule) (ops : List Operation) (sources : List ℕ) (words openings : ℕ) (turn : ℕ → ℕ)
-    → Explains rules ops sources words openings turn → (x y : ℕ) → x < length ops → y < length ops → KeepsOrder rules ops x y → turn x < turn y
+    → ExplainsLog rules ops sources words openings turn → (x y : ℕ) → x < length ops → y < length ops → KeepsOrder rules ops x y → turn x < turn y
 kept_rises rules ops sources words openings turn ex x y lx ly kept =
     let e = explained rules ops sources words openings turn ex in
     e.order.program x y (subst (λ n. y < n) (sym e.size) ly)
@@ -131,7 +131,7 @@ writes_placed ops sources placed writes x y tx ty size lx ly wx wy word = record
 }
 
 pub opening_rises : (rules : List Rule) (ops : List Operation) (sources : List ℕ) (words openings : ℕ) (turn : ℕ → ℕ)
-    → Explains rules ops sources words openings turn → (x y : ℕ) → x < length ops → y < length ops → IsOpeningOf openings ops x y → turn x < turn y
+    → ExplainsLog rules ops sources words openings turn → (x y : ℕ) → x < length ops → y < length ops → IsOpeningOf openings ops x y → turn x < turn y
 opening_rises rules ops sources words openings turn ex x y lx ly begins =
     let e = explained rules ops sources words openings turn ex in
     places_rise rules ex.placed ex.writes turn e.order x y
@@ -179,7 +179,7 @@ read_by_some rules ops sources words openings placed writes turn e x y lx ly sou
     (omega (arith, next))
 
 pub read_rises : (rules : List Rule) (ops : List Operation) (sources : List ℕ) (words openings : ℕ) (turn : ℕ → ℕ)
-    → Explains rules ops sources words openings turn → (x y : ℕ) → x < length ops → y < length ops → IsReadBy ops sources x y → turn x < turn y
+    → ExplainsLog rules ops sources words openings turn → (x y : ℕ) → x < length ops → y < length ops → IsReadBy ops sources x y → turn x < turn y
 read_rises rules ops sources words openings turn ex x y lx ly r =
     read_by_some rules ops sources words openings ex.placed ex.writes turn (explained rules ops sources words openings turn ex) x y lx ly r.source r.written r.word r.reads
 
@@ -219,7 +219,7 @@ source_and rules ops sources words openings placed writes turn e x w r =
 
 -- a write behind the source is behind what read it
 pub later_rises : (rules : List Rule) (ops : List Operation) (sources : List ℕ) (words openings : ℕ) (turn : ℕ → ℕ)
-    → Explains rules ops sources words openings turn → (x w : ℕ) → IsRival ops sources x w → turn (slice_index sources x) < turn w → turn x < turn w
+    → ExplainsLog rules ops sources words openings turn → (x w : ℕ) → IsRival ops sources x w → turn (slice_index sources x) < turn w → turn x < turn w
 later_rises rules ops sources words openings turn ex x w r less =
     let e = explained rules ops sources words openings turn ex in
     let both = source_and rules ops sources words openings ex.placed ex.writes turn e x w r in
@@ -228,7 +228,7 @@ later_rises rules ops sources words openings turn ex x w r less =
 
 -- a write before what read the source, or of its own processor before it, is before the source
 pub earlier_rises : (rules : List Rule) (ops : List Operation) (sources : List ℕ) (words openings : ℕ) (turn : ℕ → ℕ)
-    → Explains rules ops sources words openings turn → (x w : ℕ) → IsRival ops sources x w → (turn w < turn x) ⊎ IsOwnLoad ops w x
+    → ExplainsLog rules ops sources words openings turn → (x w : ℕ) → IsRival ops sources x w → (turn w < turn x) ⊎ IsOwnLoad ops w x
     → turn w < turn (slice_index sources x)
 earlier_rises rules ops sources words openings turn ex x w r why =
     let e = explained rules ops sources words openings turn ex in
@@ -246,7 +246,7 @@ earlier_rises rules ops sources words openings turn ex x w r why =
 
 -- of two operations one comes first
 pub one_first : (rules : List Rule) (ops : List Operation) (sources : List ℕ) (words openings : ℕ) (turn : ℕ → ℕ)
-    → Explains rules ops sources words openings turn → (x y : ℕ) → x < length ops → y < length ops → x ≢ y → (turn x < turn y) ⊎ (turn y < turn x)
+    → ExplainsLog rules ops sources words openings turn → (x y : ℕ) → x < length ops → y < length ops → x ≢ y → (turn x < turn y) ⊎ (turn y < turn x)
 one_first rules ops sources words openings turn ex x y lx ly other =
     let e = explained rules ops sources words openings turn ex in
     elim (cases_lt (turn x) (turn y)) [

@@ -4,7 +4,7 @@ use Rattle.std.specs.Prelude.{slice_index, replicate}
 use Rattle.std.proofs.lemmas.List.{get_or-replicate}
 use Rattle.std.proofs.lemmas.Nat.{mul-add-lt}
 use Rattle.model_values.specs.declared.question.Unordered.{Unordered}
-use Rattle.model_values.specs.Known.{is_known, AgreesWith, HasNoted, HasSpread, IsFirstOf, IsOwnLoad, IsRival}
+use Rattle.model_values.specs.Known.{is_known, AgreesWith, HasNoted, HasSpreadOrder, IsFirstOf, IsOwnLoad, IsRival}
 use Rattle.model_values.specs.Unordered.{IsOrderOf}
 use Rattle.model_values.proofs.Explained.{kept_rises, opening_rises, read_rises, later_rises, earlier_rises}
 use Rattle.model_values.proofs.Table.{has_spread, spread_noted, known_le}
@@ -29,7 +29,7 @@ pub rival_more : (q : Unordered) (level x w : ℕ) (forth back : Bool) (a b c : 
     → (forth ≡ true → (is_known a (length q.operations.now) level w x ≡ true) ⊎ IsOwnLoad q.operations.now w x)
     → HasNoted (length q.operations.now) level forth w (slice_index q.sources.now x) a b
     → (back ≡ true → is_known b (length q.operations.now) level (slice_index q.sources.now x) w ≡ true)
-    → HasNoted (length q.operations.now) level back x w b c → HasSpread q level a c
+    → HasNoted (length q.operations.now) level back x w b c → HasSpreadOrder q level a c
 rival_more q level x w forth back a b c rival early one late two =
     let first = spread_noted q level forth w (slice_index q.sources.now x) a a b (has_spread q level a) one
     (λ turn order agrees fact. early_rises q level x w a turn rival order agrees (early fact)) in

@@ -3,7 +3,7 @@ use Rattle.std.proofs.Common.{◌≡◌, ℕ, ◌+◌, ◌-◌, ◌*◌, ◌<◌
 use Rattle.std.specs.Prelude.{Option, None, Some}
 use Rattle.model_values.specs.declared.question.Unordered.{Unordered}
 use Rattle.model_values.specs.Answers.{IsRefuted, IsSplit, IsTurned}
-use Rattle.model_values.specs.Known.{AgreesWith, AreRivals, HasSpread, IsOpenPair}
+use Rattle.model_values.specs.Known.{AgreesWith, AreRivals, HasSpreadOrder, IsOpenPair}
 use Rattle.model_values.specs.Searches.{IsCutOff}
 use Rattle.model_values.specs.Unordered.{IsOrderOf}
 use Rattle.model_values.proofs.Split.{IsPathOf, path_first, path_spread, path_split, path_turned, path_ended}
@@ -65,7 +65,7 @@ some_more nodes left new count some spent n is =
     (omega (arith, room), less.1 ∙ ap Some same)
 
 pub searching_split : (q : Unordered) (nodes left new : Option ℕ) (x y : ℕ) (path next : List (ℕ × ℕ)) (t s u : List ℕ)
-    → length path + 1 < 18446744073709551615 → IsSearching q nodes left true t path → IsSpent true left new → HasSpread q (length path) t s
+    → length path + 1 < 18446744073709551615 → IsSearching q nodes left true t path → IsSpent true left new → HasSpreadOrder q (length path) t s
     → IsOpenPair q.operations.now s (length path) (x, y) → AreRivals q.operations.now x y → IsSplit (length q.operations.now) x y path s next u
     → IsSearching q nodes new true u next
 searching_split q nodes left new x y path next t s u small g spent spread o rivals split = record {
@@ -78,7 +78,7 @@ searching_split q nodes left new x y path next t s u small g spent spread o riva
 }
 
 pub searching_turned : (q : Unordered) (nodes left new : Option ℕ) (path next : List (ℕ × ℕ)) (t s u : List ℕ)
-    → length path < 18446744073709551615 → IsSearching q nodes left true t path → IsSpent true left new → HasSpread q (length path) t s
+    → length path < 18446744073709551615 → IsSearching q nodes left true t path → IsSpent true left new → HasSpreadOrder q (length path) t s
     → IsRefuted q s (length path) → IsTurned (length q.operations.now) path s next u → IsSearching q nodes new true u next
 searching_turned q nodes left new path next t s u small g spent spread none turned =
     let p = path_spread q t s path spread g.stands in
@@ -92,7 +92,7 @@ searching_turned q nodes left new path next t s u small g spent spread none turn
     }
 
 pub searching_ended : (q : Unordered) (nodes left new : Option ℕ) (path next : List (ℕ × ℕ)) (t s u : List ℕ) → IsSearching q nodes left true t path
-    → IsSpent true left new → HasSpread q (length path) t s → IsRefuted q s (length path) → length path ≡ 0 → next ≡ path → u ≡ s
+    → IsSpent true left new → HasSpreadOrder q (length path) t s → IsRefuted q s (length path) → length path ≡ 0 → next ≡ path → u ≡ s
     → IsSearching q nodes new false u next
 searching_ended q nodes left new path next t s u g spent spread none zero same kept =
     subst (λ z. IsSearching q nodes new false z next) (sym kept) (subst (λ z. IsSearching q nodes new false s z) (sym same) at)
@@ -111,7 +111,7 @@ searching_ended q nodes left new path next t s u g spent spread none zero same k
 
 -- turning back, or the end
 pub searching_back : (q : Unordered) (nodes left new : Option ℕ) (path next : List (ℕ × ℕ)) (t s u : List ℕ) (more back : Bool)
-    → length path < 18446744073709551615 → more ≡ true → IsSearching q nodes left more t path → IsSpent true left new → HasSpread q (length path) t s
+    → length path < 18446744073709551615 → more ≡ true → IsSearching q nodes left more t path → IsSpent true left new → HasSpreadOrder q (length path) t s
     → IsRefuted q s (length path) → (back ≡ true → IsTurned (length q.operations.now) path s next u)
     → (back ≡ false → (length path ≡ 0) × ((next ≡ path) × (u ≡ s))) → IsSearching q nodes new back u next
 searching_back q nodes left new path next t s u true true small go g spent spread none turned ended =
@@ -124,7 +124,7 @@ searching_back q nodes left new path next t s u false back small go g spent spre
 -- going on
 pub searching_on : (q : Unordered) (nodes left new : Option ℕ) (x y : ℕ) (path next : List (ℕ × ℕ)) (t s u : List ℕ) (more : Bool)
     → length path + 1 < 18446744073709551615 → more ≡ true → IsSearching q nodes left more t path → IsSpent true left new
-    → HasSpread q (length path) t s → IsOpenPair q.operations.now s (length path) (x, y) → AreRivals q.operations.now x y
+    → HasSpreadOrder q (length path) t s → IsOpenPair q.operations.now s (length path) (x, y) → AreRivals q.operations.now x y
     → IsSplit (length q.operations.now) x y path s next u → IsSearching q nodes new more u next
 searching_on q nodes left new x y path next t s u true small go g spent spread o rivals split =
     searching_split q nodes left new x y path next t s u small g spent spread o rivals split

@@ -6,7 +6,7 @@ use Rattle.std.proofs.lemmas.Nat.{mul-add-lt}
 use Rattle.std.proofs.lemmas.List.{length-take-le, length_push, get_or-take, get_or_push, get_or_append_left}
 use Rattle.model_values.specs.declared.question.Unordered.{Unordered}
 use Rattle.model_values.specs.Answers.{AreSplitsBelow, IsRefuted, IsSplit, IsTurned, split_at}
-use Rattle.model_values.specs.Known.{is_known, AgreesWith, HasNoted, HasSpread, IsForgotten, IsNoted, IsOpenPair, IsSameBelow, unknown}
+use Rattle.model_values.specs.Known.{is_known, AgreesWith, HasNoted, HasSpreadOrder, IsForgotten, IsNoted, IsOpenPair, IsSameBelow, unknown}
 use Rattle.model_values.specs.Unordered.{IsOrderOf}
 use Rattle.model_values.proofs.Explained.{one_first}
 use Rattle.model_values.proofs.Table.{known_le, le_known, noted_then, noted_below, below_noted, below_then, forgotten_below, same_agrees, forgotten_agrees, unknown_less, unknown_fewer, unknown_most}
@@ -102,7 +102,7 @@ path_same q old new path noted top p =
           omega (arith, less, room, noted.size));
     }
 
-pub path_spread : (q : Unordered) (old new : List ℕ) (path : List (ℕ × ℕ)) → HasSpread q (length path) old new → IsPathOf q old path → IsPathOf q new path
+pub path_spread : (q : Unordered) (old new : List ℕ) (path : List (ℕ × ℕ)) → HasSpreadOrder q (length path) old new → IsPathOf q old path → IsPathOf q new path
 path_spread q old new path s p = path_same q old new path s.noted s.agrees p
 
 -- the writes of a path's splits are operations

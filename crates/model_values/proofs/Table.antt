@@ -5,7 +5,7 @@ use Rattle.std.proofs.lemmas.List.{get_or-set_same, get_or-set_other, length-set
 use Rattle.std.proofs.lemmas.Bool.{cases_eq, cases_lt, le-leb, leb-true, lt-leb}
 use Rattle.std.proofs.lemmas.Nat.{same_from_place, mul-add-lt}
 use Rattle.model_values.specs.declared.question.Unordered.{Unordered}
-use Rattle.model_values.specs.Known.{none_if, is_known, AgreesWith, HasNoted, HasSpread, IsNoted, IsSameBelow, IsForgotten, unknown}
+use Rattle.model_values.specs.Known.{none_if, is_known, AgreesWith, HasNoted, HasSpreadOrder, IsNoted, IsSameBelow, IsForgotten, unknown}
 use Rattle.model_values.specs.Unordered.{IsOrderOf}
 
 pub known_le : (table : List ℕ) (size level x y : ℕ) → is_known table size level x y ≡ true → slice_index table (x * size + y) ≤ level
@@ -248,20 +248,20 @@ known_noted size level wanted x y table known is fact = record {
   known = λ _. sym is ∙ fact;
 }
 
-pub has_spread : (q : Unordered) (level : ℕ) (table : List ℕ) → HasSpread q level table table
+pub has_spread : (q : Unordered) (level : ℕ) (table : List ℕ) → HasSpreadOrder q level table table
 has_spread q level table = record { noted = noted_same level table; agrees = λ turn order agrees. agrees }
 
-pub spread_then : (q : Unordered) (level : ℕ) (a b c : List ℕ) → HasSpread q level a b → HasSpread q level b c → HasSpread q level a c
+pub spread_then : (q : Unordered) (level : ℕ) (a b c : List ℕ) → HasSpreadOrder q level a b → HasSpreadOrder q level b c → HasSpreadOrder q level a c
 spread_then q level a b c one two = record {
   noted = noted_then level a b c one.noted two.noted;
   agrees = λ turn order agrees. two.agrees turn order (one.agrees turn order agrees);
 }
 
 -- a pair that holds in each order that explains the trace
-pub spread_noted : (q : Unordered) (level : ℕ) (wanted : Bool) (x y : ℕ) (a b c : List ℕ) → HasSpread q level a b
+pub spread_noted : (q : Unordered) (level : ℕ) (wanted : Bool) (x y : ℕ) (a b c : List ℕ) → HasSpreadOrder q level a b
     → HasNoted (length q.operations.now) level wanted x y b c
     → ((turn : ℕ → ℕ) → IsOrderOf q turn → AgreesWith b (length q.operations.now) level turn → wanted ≡ true → turn x < turn y)
-    → HasSpread q level a c
+    → HasSpreadOrder q level a c
 spread_noted q level wanted x y a b c one two holds = record {
   noted = noted_then level a b c one.noted two.noted;
   agrees = λ turn order agrees. (let mid = one.agrees turn order agrees in two.agrees turn mid (holds turn order mid));

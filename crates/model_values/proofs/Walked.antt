@@ -3,7 +3,7 @@ use Rattle.std.proofs.Common.{◌≡◌, ℕ, zero, suc, ◌+◌, ◌*◌, ◌<�
 use Rattle.std.proofs.lemmas.List.{length-take-le, length_push, get_or-take, get_or_push, get_or_append_left}
 use Rattle.model_values.specs.declared.question.Unordered.{Unordered}
 use Rattle.model_values.specs.Answers.{IsRefuted, IsSplit, IsTurned, split_at}
-use Rattle.model_values.specs.Known.{is_known, AgreesWith, AreRivals, HasSpread, IsOpenPair}
+use Rattle.model_values.specs.Known.{is_known, AgreesWith, AreRivals, HasSpreadOrder, IsOpenPair}
 use Rattle.model_values.specs.Searches.{Side, First, Second, KeepsSides, LeaveOpen, Searches, Begins, Splits, Refutes, Turns, Closes}
 use Rattle.model_values.specs.Unordered.{IsOrderOf}
 use Rattle.model_values.proofs.Table.{known_le, le_known}
@@ -117,7 +117,7 @@ searches_first q table path none = record {
 
 -- a split
 pub searches_split : (q : Unordered) (x y count : ℕ) (path next : List (ℕ × ℕ)) (t s u : List ℕ) → length path + 1 < 18446744073709551615
-    → IsSearchAt q t path count → HasSpread q (length path) t s → IsOpenPair q.operations.now s (length path) (x, y) → AreRivals q.operations.now x y
+    → IsSearchAt q t path count → HasSpreadOrder q (length path) t s → IsOpenPair q.operations.now s (length path) (x, y) → AreRivals q.operations.now x y
     → IsSplit (length q.operations.now) x y path s next u → IsSearchAt q u next (count + 1)
 searches_split q x y count path next t s u small at spread o rivals g =
     let size : ℕ = length q.operations.now in
@@ -139,7 +139,7 @@ searches_split q x y count path next t s u small at spread o rivals g =
 
 -- a search whose table is refuted
 pub searches_refuted : (q : Unordered) (count : ℕ) (path : List (ℕ × ℕ)) (t s : List ℕ) → IsPathOf q s path → (at : IsSearchAt q t path count)
-    → HasSpread q (length path) t s → IsRefuted q s (length path) → Searches q at.sides true (count + 1)
+    → HasSpreadOrder q (length path) t s → IsRefuted q s (length path) → Searches q at.sides true (count + 1)
 searches_refuted q count path t s p at spread none =
     let size : ℕ = length q.operations.now in
     let spreads = along_same size (length path) t s path path spread.noted.kept at.sides (length path) (omega arith) (λ i low. refl) at.along in
@@ -148,7 +148,7 @@ searches_refuted q count path t s p at spread none =
 
 -- turning back
 pub searches_turned : (q : Unordered) (count : ℕ) (path next : List (ℕ × ℕ)) (t s u : List ℕ) → length path < 18446744073709551615
-    → IsPathOf q s path → IsSearchAt q t path count → HasSpread q (length path) t s → IsRefuted q s (length path)
+    → IsPathOf q s path → IsSearchAt q t path count → HasSpreadOrder q (length path) t s → IsRefuted q s (length path)
     → IsTurned (length q.operations.now) path s next u → IsSearchAt q u next (count + 1)
 searches_turned q count path next t s u small p at spread none g =
     let size : ℕ = length q.operations.now in

@@ -4,7 +4,7 @@ use Rattle.std.specs.Prelude.{slice_index, if◌then◌else◌}
 use Rattle.std.proofs.lemmas.List.{length-take-le, length_push}
 use Rattle.model_values.specs.declared.question.Unordered.{Unordered}
 use Rattle.model_values.specs.Answers.{IsSplit, IsTurned}
-use Rattle.model_values.specs.Known.{HasSpread, IsOpenPair, unknown}
+use Rattle.model_values.specs.Known.{HasSpreadOrder, IsOpenPair, unknown}
 use Rattle.model_values.proofs.Split.{IsPathOf, less_to, path_spread, split_below, split_fewer, turned_fewer, turned_below}
 
 -- how many tables a search of so many unknown pairs looks at, at most
@@ -59,7 +59,7 @@ sides_less (suc l) old new less =
 
 -- a split leaves less
 pub left_split : (q : Unordered) (x y : ℕ) (path next : List (ℕ × ℕ)) (t s u : List ℕ) → length path + 1 < 18446744073709551615
-    → IsPathOf q t path → HasSpread q (length path) t s → IsOpenPair q.operations.now s (length path) (x, y)
+    → IsPathOf q t path → HasSpreadOrder q (length path) t s → IsOpenPair q.operations.now s (length path) (x, y)
     → IsSplit (length q.operations.now) x y path s next u → left_of true next u < left_of true path t
 left_split q x y path next t s u small p spread o g =
     let l : ℕ = length path in
@@ -84,7 +84,7 @@ left_split q x y path next t s u small p spread o g =
 
 -- turning back leaves less
 pub left_turned : (q : Unordered) (path next : List (ℕ × ℕ)) (t s u : List ℕ) → length path < 18446744073709551615
-    → IsPathOf q t path → HasSpread q (length path) t s → IsTurned (length q.operations.now) path s next u
+    → IsPathOf q t path → HasSpreadOrder q (length path) t s → IsTurned (length q.operations.now) path s next u
     → left_of true next u < left_of true path t
 left_turned q path next t s u small p spread g =
     let last : ℕ = g.last in
@@ -110,14 +110,14 @@ pub left_ended : (path : List (ℕ × ℕ)) (t : List ℕ) (next : List (ℕ × 
 left_ended path t next u = let some = weight_some (unknown (length path) t) in omega (arith, some)
 
 pub left_back : (q : Unordered) (path next : List (ℕ × ℕ)) (t s u : List ℕ) (more back : Bool) → length path < 18446744073709551615 → more ≡ true
-    → IsPathOf q t path → HasSpread q (length path) t s → (back ≡ true → IsTurned (length q.operations.now) path s next u)
+    → IsPathOf q t path → HasSpreadOrder q (length path) t s → (back ≡ true → IsTurned (length q.operations.now) path s next u)
     → left_of back next u < left_of more path t
 left_back q path next t s u true true small go p spread turned = left_turned q path next t s u small p spread (turned refl)
 left_back q path next t s u true false small go p spread turned = left_ended path t next u
 left_back q path next t s u false back small go p spread turned = absurd (let no : false ≡ true = go in cc)
 
 pub left_on : (q : Unordered) (x y : ℕ) (path next : List (ℕ × ℕ)) (t s u : List ℕ) (more : Bool) → length path + 1 < 18446744073709551615
-    → more ≡ true → IsPathOf q t path → HasSpread q (length path) t s → IsOpenPair q.operations.now s (length path) (x, y)
+    → more ≡ true → IsPathOf q t path → HasSpreadOrder q (length path) t s → IsOpenPair q.operations.now s (length path) (x, y)
     → IsSplit (length q.operations.now) x y path s next u → left_of more next u < left_of more path t
 left_on q x y path next t s u true small go p spread o g = left_split q x y path next t s u small p spread o g
 left_on q x y path next t s u false small go p spread o g = absurd (let no : false ≡ true = go in cc)

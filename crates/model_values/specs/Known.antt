@@ -112,7 +112,7 @@ AreSettled ops table level = (x y : ℕ) → x < length ops → y < length ops �
     ⊎ (is_known table (length ops) level y x ≡ true)
 
 -- what holds in each order that explains the trace is noted at a level
-pub record HasSpread (q : Unordered) (level : ℕ) (old new : List ℕ) : Type 0 where
+pub record HasSpreadOrder (q : Unordered) (level : ℕ) (old new : List ℕ) : Type 0 where
   pub noted : IsNoted level old new
   pub agrees : (turn : ℕ → ℕ) → IsOrderOf q turn
       → AgreesWith old (length q.operations.now) level turn

@@ -43,7 +43,7 @@ pub record IsPlacing (ops : List Operation) (sources : List ℕ) (words openings
         → (operation_at placed x).place < (operation_at placed y).place
 
 -- an order of all operations that explains the trace with some order of each word's writes
-pub record Explains (rules : List Rule) (ops : List Operation) (sources : List ℕ)
+pub record ExplainsLog (rules : List Rule) (ops : List Operation) (sources : List ℕ)
     (words openings : ℕ) (turn : ℕ → ℕ) : Type 0
   where
     pub placed : List Operation
@@ -54,4 +54,4 @@ pub record Explains (rules : List Rule) (ops : List Operation) (sources : List �
 -- an order that explains the trace of a question
 abbrev pub IsOrderOf : Unordered → (ℕ → ℕ) → Type 0
 IsOrderOf q turn =
-    Explains q.rules.now q.operations.now q.sources.now q.words q.openings turn
+    ExplainsLog q.rules.now q.operations.now q.sources.now q.words q.openings turn

@@ -13,7 +13,7 @@ use Rattle.model_values.specs.declared.question.Unordered.{Unordered}
 use Rattle.model_values.specs.declared.valued.Valued.{Valued}
 use Rattle.model_values.specs.Searches.{IsCutOff}
 use Rattle.model_values.specs.Unordered.{IsPlacing}
-use Rattle.model_values.specs.Values.{AreAlike, HasClearWriters, IsUnwritten, IsValuedPlacing}
+use Rattle.model_values.specs.Values.{AreAlikeValues, HasClearWriters, IsUnwritten, IsValuedPlacing}
 
 -- an order of each word's writes that gives the words, and turns by which the trace obeys the model
 pub record ExplainsValues {A : Type 0} (rules : List Rule) (v : Valued) (e : Explanation A) : Type 0
@@ -52,5 +52,5 @@ IsJudgedOn rules v nodes Undecided = CutsOffValues rules v nodes
 abbrev pub IsValuedVerdict : {A : Type 0} → List Rule → Valued → Option ℕ → ValuedVerdict A → Type 0
 IsValuedVerdict rules v nodes (Judged verdict) =
     HasClearWriters v × IsJudgedOn rules v nodes verdict
-IsValuedVerdict rules v nodes (Alike x y) = AreAlike v.operations.now v.left.now x y
+IsValuedVerdict rules v nodes (Alike x y) = AreAlikeValues v.operations.now v.left.now x y
 IsValuedVerdict rules v nodes (Unwritten x) = IsUnwritten v x × BreaksValues rules v

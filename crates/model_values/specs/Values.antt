@@ -43,7 +43,7 @@ abbrev pub IsReader : List Operation → ℕ → Type 0
 IsReader ops x = (is_load (operation_at ops x).kind ≡ true) ⊎ ((operation_at ops x).kind ≡ Atomic)
 
 -- two writes left the same in one word
-pub record AreAlike (ops : List Operation) (left : List ℕ) (x y : ℕ) : Type 0 where
+pub record AreAlikeValues (ops : List Operation) (left : List ℕ) (x y : ℕ) : Type 0 where
   pub first : x < length ops
   pub second : y < length ops
   pub other : x ≢ y
@@ -68,7 +68,7 @@ pub record IsUnwritten (v : Valued) (x : ℕ) : Type 0 where
 -- each word that was found shows who wrote it: no two writes left the same in one word, and some
 -- write left what each reader found
 pub record HasClearWriters (v : Valued) : Type 0 where
-  pub unlike : (x y : ℕ) → AreAlike v.operations.now v.left.now x y → ⊥
+  pub unlike : (x y : ℕ) → AreAlikeValues v.operations.now v.left.now x y → ⊥
   pub written : (x : ℕ) → x < length v.operations.now → IsReader v.operations.now x
       → (s : ℕ) × IsLeftBy v.operations.now v.left.now v.found.now x s
 
@@ -84,7 +84,7 @@ pub record IsKnownSource (v : Valued) (x s : ℕ) : Type 0 where
 pub record AreKnownSources (v : Valued) (sources : List ℕ) : Type 0 where
   pub size : length sources ≡ length v.operations.now
   pub each : (x : ℕ) → x < length v.operations.now → IsKnownSource v x (slice_index sources x)
-  pub unlike : (x y : ℕ) → AreAlike v.operations.now v.left.now x y → ⊥
+  pub unlike : (x y : ℕ) → AreAlikeValues v.operations.now v.left.now x y → ⊥
   pub same : (placed : List Operation) (writes : List ℕ)
       → (IsValuedPlacing v placed writes
       → IsPlacing v.operations.now sources v.words v.openings placed writes)
@@ -95,6 +95,6 @@ pub record AreKnownSources (v : Valued) (sources : List ℕ) : Type 0 where
 -- left, and then no order of each word's writes gives the words that were found
 abbrev pub AreSourcesOf : {A : Type 0} → Valued → Sources A → Type 0
 AreSourcesOf v (Told sources) = AreKnownSources v sources.items
-AreSourcesOf v (Alike x y) = AreAlike v.operations.now v.left.now x y
+AreSourcesOf v (Alike x y) = AreAlikeValues v.operations.now v.left.now x y
 AreSourcesOf v (Unwritten x) = IsUnwritten v x
     × ((placed : List Operation) (writes : List ℕ) → IsValuedPlacing v placed writes → ⊥)

@@ -2,7 +2,7 @@
 
 ghost use Rattle.std.specs.Prelude.{◌≡◌, ℕ, ◌*◌, ◌<◌, true, false, length, IfOk, IfSome};
 ghost use Rattle.memory_models.specs.Order.{KeepsOrder};
-ghost use Rattle.model_values.specs.Known.{AgreesWith, HasSpread, IsFirstOf, IsReadBy};
+ghost use Rattle.model_values.specs.Known.{AgreesWith, HasSpreadOrder, IsFirstOf, IsReadBy};
 ghost use Rattle.model_values.specs.Unordered.{IsOrderOf, IsOpeningOf};
 
 use crate::known::add;
@@ -78,7 +78,7 @@ fn start_row(question: &Unordered, table: &mut [usize], x: usize)
     requires size { length table.old
         ≡ length question.now.operations.now * length question.now.operations.now }
     requires x { x < length question.now.operations.now }
-    ensures { HasSpread question.now 0 table.old table.new }
+    ensures { HasSpreadOrder question.now 0 table.old table.new }
 {
     let size = question.operations.len();
     for y in 0..size {
@@ -91,7 +91,7 @@ fn start_row(question: &Unordered, table: &mut [usize], x: usize)
 fn start_rows(question: &Unordered, table: &mut [usize])
     requires size { length table.old
         ≡ length question.now.operations.now * length question.now.operations.now }
-    ensures { HasSpread question.now 0 table.old table.new }
+    ensures { HasSpreadOrder question.now 0 table.old table.new }
 {
     let size = question.operations.len();
     for i in 0..size {

@@ -7,7 +7,7 @@ ghost use Rattle.memory_models.specs.Following.{IsChainedOn};
 ghost use Rattle.memory_models.specs.Trace.{rule_at};
 ghost use Rattle.model_values.specs.Answers.{AreSplitsBelow, IsLookedAt, IsOrderVerdict, IsSplit};
 ghost use Rattle.model_values.specs.Answers.{IsTurned};
-ghost use Rattle.model_values.specs.Known.{AgreesWith, AreRivals, AreSettled, HasSpread, IsOpenPair};
+ghost use Rattle.model_values.specs.Known.{AgreesWith, AreRivals, AreSettled, HasSpreadOrder, IsOpenPair};
 ghost use Rattle.model_values.specs.Known.{is_known};
 ghost use Rattle.model_values.specs.Unordered.{IsOrderOf};
 
@@ -133,7 +133,7 @@ fn look<A: Allocator + Copy>(
         ⊎ IsChainedOn (rule_at question.now.rules.now k) }
     requires size { length table.old
         ≡ length question.now.operations.now * length question.now.operations.now }
-    ensures spread { HasSpread question.now level table.old table.new }
+    ensures spread { HasSpreadOrder question.now level table.old table.new }
     ensures looked { IfOk result (IsLookedAt question.now table.new level) }
 {
     spread(question, table, level);

@@ -1,7 +1,7 @@
 //! What follows from a table: the source of a load is the last write before it.
 
 ghost use Rattle.std.specs.Prelude.{◌≡◌, ◌⊎◌, ◌*◌, ◌<◌, true, length};
-ghost use Rattle.model_values.specs.Known.{HasSpread, IsRival, IsOwnLoad, is_known};
+ghost use Rattle.model_values.specs.Known.{HasSpreadOrder, IsRival, IsOwnLoad, is_known};
 
 use crate::known::{add, is_before};
 use crate::question::Unordered;
@@ -67,7 +67,7 @@ fn spread_rival(question: &Unordered, table: &mut [usize], level: usize, x: usiz
     requires size { length table.old
         ≡ length question.now.operations.now * length question.now.operations.now }
     requires rival { IsRival question.now.operations.now question.now.sources.now x w }
-    ensures { HasSpread question.now level table.old table.new }
+    ensures { HasSpreadOrder question.now level table.old table.new }
 {
     let size = question.operations.len();
     let source = question.sources[x];
@@ -82,7 +82,7 @@ fn spread_rival(question: &Unordered, table: &mut [usize], level: usize, x: usiz
 fn spread_pair(question: &Unordered, table: &mut [usize], level: usize, x: usize, w: usize) -> bool
     requires size { length table.old
         ≡ length question.now.operations.now * length question.now.operations.now }
-    ensures { HasSpread question.now level table.old table.new }
+    ensures { HasSpreadOrder question.now level table.old table.new }
 {
     if !is_rival(question.operations, question.sources, x, w) {
         return false;
@@ -94,7 +94,7 @@ fn spread_pair(question: &Unordered, table: &mut [usize], level: usize, x: usize
 fn spread_row(question: &Unordered, table: &mut [usize], level: usize, x: usize) -> bool
     requires size { length table.old
         ≡ length question.now.operations.now * length question.now.operations.now }
-    ensures { HasSpread question.now level table.old table.new }
+    ensures { HasSpreadOrder question.now level table.old table.new }
 {
     let mut more = false;
     for w in 0..question.operations.len() {
@@ -108,7 +108,7 @@ fn spread_row(question: &Unordered, table: &mut [usize], level: usize, x: usize)
 fn spread_once(question: &Unordered, table: &mut [usize], level: usize) -> bool
     requires size { length table.old
         ≡ length question.now.operations.now * length question.now.operations.now }
-    ensures { HasSpread question.now level table.old table.new }
+    ensures { HasSpreadOrder question.now level table.old table.new }
 {
     let mut more = false;
     for x in 0..question.operations.len() {
@@ -122,7 +122,7 @@ fn spread_once(question: &Unordered, table: &mut [usize], level: usize) -> bool
 pub(crate) fn spread(question: &Unordered, table: &mut [usize], level: usize)
     requires size { length table.old
         ≡ length question.now.operations.now * length question.now.operations.now }
-    ensures { HasSpread question.now level table.old table.new }
+    ensures { HasSpreadOrder question.now level table.old table.new }
 {
     for pass in 0..table.len() {
         if !spread_once(question, table, level) {

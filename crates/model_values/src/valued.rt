@@ -2,7 +2,7 @@
 
 ghost use Rattle.std.specs.Prelude.{◌≡◌, ℕ, ◌<◌, true, false, length, slice_index};
 ghost use Rattle.std.specs.Prelude.{IfNone, IfOk, IfSome};
-ghost use Rattle.model_values.specs.Values.{AreAlike, AreSourcesOf, IsKnownSource, IsLeftBy};
+ghost use Rattle.model_values.specs.Values.{AreAlikeValues, AreSourcesOf, IsKnownSource, IsLeftBy};
 ghost use Rattle.model_values.specs.Values.{IsReader, IsUnwritten};
 
 use memory_models::kinds::is_write;
@@ -60,8 +60,8 @@ fn is_reader(operations: &[Operation], x: usize) -> bool
 fn are_alike(operations: &[Operation], left: &[u64], x: usize, y: usize) -> bool
     requires x { x < length operations.now }
     requires y { y < length operations.now }
-    ensures yes { result ≡ true → AreAlike operations.now left.now x y }
-    ensures no { result ≡ false → AreAlike operations.now left.now x y → ⊥ }
+    ensures yes { result ≡ true → AreAlikeValues operations.now left.now x y }
+    ensures no { result ≡ false → AreAlikeValues operations.now left.now x y → ⊥ }
 {
     x != y
         && is_write(operations[x].kind)
@@ -73,8 +73,8 @@ fn are_alike(operations: &[Operation], left: &[u64], x: usize, y: usize) -> bool
 /// A write that left the same in its word as another one.
 fn alike_with(operations: &[Operation], left: &[u64], x: usize) -> Option<usize>
     requires x { x < length operations.now }
-    ensures some { IfSome result (λ y. AreAlike operations.now left.now x y) }
-    ensures none { IfNone result ((y : ℕ) → AreAlike operations.now left.now x y → ⊥) }
+    ensures some { IfSome result (λ y. AreAlikeValues operations.now left.now x y) }
+    ensures none { IfNone result ((y : ℕ) → AreAlikeValues operations.now left.now x y → ⊥) }
 {
     for y in 0..operations.len() {
         if are_alike(operations, left, x, y) {
@@ -86,8 +86,8 @@ fn alike_with(operations: &[Operation], left: &[u64], x: usize) -> Option<usize>
 
 /// Two writes that left the same in one word.
 fn find_alike(operations: &[Operation], left: &[u64]) -> Option<(usize, usize)>
-    ensures some { IfSome result (λ pair. AreAlike operations.now left.now pair.0 pair.1) }
-    ensures none { IfNone result ((x y : ℕ) → AreAlike operations.now left.now x y → ⊥) }
+    ensures some { IfSome result (λ pair. AreAlikeValues operations.now left.now pair.0 pair.1) }
+    ensures none { IfNone result ((x y : ℕ) → AreAlikeValues operations.now left.now x y → ⊥) }
 {
     for x in 0..operations.len() {
         if let Some(y) = alike_with(operations, left, x) {

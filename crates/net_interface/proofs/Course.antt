@@ -5,8 +5,8 @@ use Rattle.std.proofs.lemmas.Bool.{ne_eqb}
 use Rattle.std.specs.Prelude.{false, ◌==◌, if◌then◌else◌, IsSome}
 use Rattle.packet.specs.declared.kinds.Operation.{Operation}
 use Rattle.flit_buffer.specs.Channel.{first_of, rest}
-use Rattle.script_follower.specs.ProcessorRecord.{ProcessorRecord, ready}
-use Rattle.script_follower.specs.ProcessorTable.{request_flits, flits_due, issued_of, record_sent}
+use Rattle.one_order.specs.ProcessorRecord.{ProcessorRecord, ready}
+use Rattle.one_order.specs.ProcessorTable.{request_flits, flits_due, issued_of, record_sent}
 use Rattle.net_interface.specs.Place.{ProcessorPlace, with_state}
 use Rattle.net_interface.specs.Inside.{flits_in_course}
 

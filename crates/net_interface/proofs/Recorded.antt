@@ -9,21 +9,21 @@ use Rattle.packet.specs.declared.kinds.Op.TheVariants.{Load as Loads}
 use Rattle.packet.specs.declared.kinds.Reply.{Reply}
 use Rattle.packet.specs.declared.kinds.Operation.{Operation}
 use Rattle.packet.specs.declared.kinds.Response.{Response}
-use Rattle.script.specs.declared.line.Line.{Line}
-use Rattle.script.specs.declared.line.Line.TheVariants.{Spin}
-use Rattle.script.specs.Scripts.{mentions_last}
+use Rattle.script_lines.specs.declared.line.Line.{Line}
+use Rattle.script_lines.specs.declared.line.Line.TheVariants.{Spin}
+use Rattle.script_lines.specs.Lines.{mentions_last}
 use Rattle.tag_table.specs.Tags.{holder_of, free_tag, HoldsNone}
 use Rattle.tag_table.proofs.Moves.{taken, given, distinct-taken, distinct-given}
 use Rattle.one_order.proofs.Lists.{get_append_left, get_push, get_push_cases, get_set_same, get_set_other}
 use Rattle.one_order.specs.declared.answer.Answer.{Answer}
-use Rattle.script_follower.specs.Scripts.{Invocation, IsFollowable, AreAnswersBefore}
-use Rattle.script_follower.specs.Following.{Following, ShowsPast, starts, issues, answers, first_of, next_operation_of, after_issue, after_answer}
-use Rattle.script_follower.specs.Following.{left_of}
-use Rattle.script_follower.specs.ProcessorRecord.{ProcessorRecord, ready, issued_by, answered_by, index_of, index_in, answer_of, record_with}
-use Rattle.script_follower.proofs.Histories.{with_answer, unanswered_more, unanswered_set}
-use Rattle.script_follower.proofs.Shown.{stands, left_after_issue, left_within}
-use Rattle.script_follower.proofs.Grown.{shows_with, followable_with}
-use Rattle.script_follower.specs.ProcessorRecord.{first_record}
+use Rattle.one_order.specs.Scripts.{Invocation, IsFollowable, AreAnswersBefore}
+use Rattle.one_order.specs.Following.{Following, ShowsPast, starts, issues, answers, first_of, next_operation_of, after_issue, after_answer}
+use Rattle.one_order.specs.Following.{left_of}
+use Rattle.one_order.specs.ProcessorRecord.{ProcessorRecord, ready, issued_by, answered_by, index_of, index_in, answer_of, record_with}
+use Rattle.one_order.proofs.Histories.{with_answer, unanswered_more, unanswered_set}
+use Rattle.one_order.proofs.Shown.{stands, left_after_issue, left_within}
+use Rattle.one_order.proofs.Grown.{shows_with, followable_with}
+use Rattle.one_order.specs.ProcessorRecord.{first_record}
 use Rattle.net_interface.specs.Inside.{AwaitsAnswer, AreOperationsOf}
 
 -- no tag is held in the beginning

@@ -3,14 +3,14 @@ use Rattle.std.proofs.Common.{◌≡◌, ℕ, true, ◌+◌, ◌<◌, ◌≤◌,
 use Rattle.std.specs.Prelude.{vec_capacity}
 use Rattle.torus.specs.declared.step.OpId.{OpId}
 use Rattle.packet.specs.declared.kinds.Operation.{Operation}
-use Rattle.script.specs.declared.line.Line.{Line}
-use Rattle.script.specs.declared.line.Line.TheVariants.{Spin}
-use Rattle.script.specs.Scripts.{operation_count, operations_of, mentions_last}
+use Rattle.script_lines.specs.declared.line.Line.{Line}
+use Rattle.script_lines.specs.declared.line.Line.TheVariants.{Spin}
+use Rattle.script_lines.specs.Lines.{operation_count, operations_of, mentions_last}
 use Rattle.one_order.specs.declared.answer.Answer.{Answer}
-use Rattle.script_follower.specs.Following.{Following, first_of, left_of, follower_with}
-use Rattle.script_follower.specs.ProcessorRecord.{ProcessorRecord, record_with}
-use Rattle.script_follower.proofs.Grown.{left_with}
-use Rattle.script_follower.proofs.Places.{count_past_fences}
+use Rattle.one_order.specs.Following.{Following, first_of, left_of, follower_with}
+use Rattle.one_order.specs.ProcessorRecord.{ProcessorRecord, record_with}
+use Rattle.one_order.proofs.Grown.{left_with}
+use Rattle.one_order.proofs.Places.{count_past_fences}
 use Rattle.net_interface.specs.Inside.{record_of, AreOperationsOf, IsRecord}
 use Rattle.net_interface.specs.declared.record.Record.TheInside as in_record
 use Rattle.net_interface.proofs.Recorded.{after_line}

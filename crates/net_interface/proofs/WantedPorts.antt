@@ -14,14 +14,14 @@ use Rattle.packet.specs.Flit.{Heading}
 use Rattle.packet.specs.Flits.{flits_of}
 use Rattle.packet.specs.Spelling.{heading_of, values_of}
 use Rattle.packet.specs.Written.{head_flit, value_flits, flits_for}
-use Rattle.script.specs.declared.line.Line.{Line}
+use Rattle.script_lines.specs.declared.line.Line.{Line}
 use Rattle.flit_buffer.specs.Channel.{first_of, rest}
 use Rattle.flit_buffer.specs.Surroundings.{Surroundings, Wiring, IsPossible}
 use Rattle.flit_buffer.specs.declared.want.Want.{Want}
 use Rattle.flit_buffer.specs.declared.want.Want.TheVariants.{Take, Put, Credit, Access, Await}
-use Rattle.script_follower.specs.Following.{is_finished}
-use Rattle.script_follower.specs.ProcessorRecord.{ready, request_of}
-use Rattle.script_follower.specs.ProcessorTable.{ProcessorState, flits_due, processor_wants, processor_after}
+use Rattle.one_order.specs.Following.{is_finished}
+use Rattle.one_order.specs.ProcessorRecord.{ready, request_of}
+use Rattle.one_order.specs.ProcessorTable.{ProcessorState, flits_due, processor_wants, processor_after}
 use Rattle.net_interface.specs.Beginning.{first_processor}
 use Rattle.net_interface.specs.Reach.{IsProcessorState}
 

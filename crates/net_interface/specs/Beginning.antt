@@ -2,13 +2,13 @@
 use Rattle.std.specs.Prelude.{ℕ, ◌*◌, false, List, [], ◌∷◌}
 use Rattle.torus.specs.Shape.{Shape}
 use Rattle.torus.specs.declared.shape.Class.TheVariants.{Request, Reply}
-use Rattle.script.specs.declared.line.Line.{Line}
+use Rattle.script_lines.specs.declared.line.Line.{Line}
 use Rattle.channel_number.specs.Order.{channel_count}
 use Rattle.channel_number.specs.Ports.{injection_channel, ejection_channel}
 use Rattle.flit_buffer.specs.Surroundings.{Wiring}
 use Rattle.flit_buffer.specs.Wants.{PortEnds}
-use Rattle.script_follower.specs.ProcessorRecord.{first_record}
-use Rattle.script_follower.specs.ProcessorTable.{ProcessorState}
+use Rattle.one_order.specs.ProcessorRecord.{first_record}
+use Rattle.one_order.specs.ProcessorTable.{ProcessorState}
 
 -- a processor with so many tags and this script, before any step (this project's own format)
 abbrev pub first_processor : ℕ → List Line → ProcessorState

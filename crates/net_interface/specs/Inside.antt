@@ -4,13 +4,13 @@ use Rattle.std.specs.Prelude.{Option, Some, None, option_map, vec_capacity}
 use Rattle.torus.specs.declared.step.OpId.{OpId}
 use Rattle.torus.specs.declared.step.Tag.{Tag}
 use Rattle.packet.specs.declared.kinds.Operation.{Operation}
-use Rattle.script.specs.declared.line.Line.{Line}
+use Rattle.script_lines.specs.declared.line.Line.{Line}
 use Rattle.flit_buffer.specs.Channel.{first_of}
 use Rattle.tag_table.specs.Tags.{holder_of, HoldDistinctTags}
-use Rattle.script_follower.specs.Scripts.{Invocation, IsFollowable, AreAnswersBefore, unanswered}
-use Rattle.script_follower.specs.Following.{ShowsPast, left_of}
-use Rattle.script_follower.specs.ProcessorRecord.{ProcessorRecord, ready}
-use Rattle.script_follower.specs.ProcessorTable.{request_flits}
+use Rattle.one_order.specs.Scripts.{Invocation, IsFollowable, AreAnswersBefore, unanswered}
+use Rattle.one_order.specs.Following.{ShowsPast, left_of}
+use Rattle.one_order.specs.ProcessorRecord.{ProcessorRecord, ready}
+use Rattle.one_order.specs.ProcessorTable.{request_flits}
 use Rattle.net_interface.specs.Place.{ProcessorPlace}
 use Rattle.net_interface.specs.declared.record.Record.TheInside as in_record
 use Rattle.net_interface.specs.declared.processor.Processor.TheInside as in_processor

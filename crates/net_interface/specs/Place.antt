@@ -10,8 +10,8 @@ use Rattle.packet.specs.Flits.{offered}
 use Rattle.flit_buffer.specs.Agent.{Agent}
 use Rattle.flit_buffer.specs.Channel.{first_of}
 use Rattle.tag_table.specs.Tags.{holder_of}
-use Rattle.script_follower.specs.ProcessorRecord.{ProcessorRecord}
-use Rattle.script_follower.specs.ProcessorTable.{ProcessorState}
+use Rattle.one_order.specs.ProcessorRecord.{ProcessorRecord}
+use Rattle.one_order.specs.ProcessorTable.{ProcessorState}
 
 -- where a processor stands (how many tiles and words there are, and which tile is its own), and the
 -- agent that it is (this project's own format)

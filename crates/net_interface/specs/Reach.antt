@@ -1,6 +1,6 @@
 -- The states that a processor's choices lead to.
 use Rattle.std.specs.Prelude.{◌≢◌, All}
-use Rattle.script_follower.specs.ProcessorTable.{ProcessorState}
+use Rattle.one_order.specs.ProcessorTable.{ProcessorState}
 
 -- no flit that is left of the request in course is 0 (this project's own format)
 pub record IsProcessorState (p : ProcessorState) : Type 0 where

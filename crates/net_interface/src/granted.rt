@@ -6,9 +6,9 @@ ghost use Rattle.packet.specs.Answer.{flits_left};
 ghost use Rattle.packet.specs.declared.kinds.Operation.{Operation};
 ghost use Rattle.packet.specs.Flits.{offered};
 ghost use Rattle.flit_buffer.specs.Channel.{first_of, rest};
-ghost use Rattle.script_follower.specs.ProcessorRecord.{ready};
-ghost use Rattle.script_follower.specs.ProcessorTable.{request_flits, flits_due, issued_of, record_sent};
-ghost use Rattle.script_follower.specs.ProcessorTable.{record_offered, processor_wants, processor_after};
+ghost use Rattle.one_order.specs.ProcessorRecord.{ready};
+ghost use Rattle.one_order.specs.ProcessorTable.{request_flits, flits_due, issued_of, record_sent};
+ghost use Rattle.one_order.specs.ProcessorTable.{record_offered, processor_wants, processor_after};
 ghost use Rattle.net_interface.specs.Inside.{with_tag};
 ghost use Rattle.net_interface.specs.Place.{with_state, IsForProcessor, IsAcceptableToProcessor};
 

@@ -1,15 +1,15 @@
 //! Scripts that grow: a further line, and reports that are taken back.
 
 ghost use Rattle.std.specs.Prelude.{◌≡◌, ◌<◌, ◌≤◌, ◌+◌, ◌==◌, ℕ, true, length, OnOk, OnErr};
-ghost use Rattle.script.specs.Scripts.{operations_of, mentions_last};
-ghost use Rattle.script_follower.specs.Following.{left_of};
-ghost use Rattle.script_follower.specs.ProcessorRecord.{ready};
-ghost use Rattle.script_follower.specs.ProcessorTable.{request_flits, processor_with, processor_open};
+ghost use Rattle.script_lines.specs.Lines.{operations_of, mentions_last};
+ghost use Rattle.one_order.specs.Following.{left_of};
+ghost use Rattle.one_order.specs.ProcessorRecord.{ready};
+ghost use Rattle.one_order.specs.ProcessorTable.{request_flits, processor_with, processor_open};
 ghost use Rattle.net_interface.specs.Place.{with_state};
 
 use crate::processor::Processor;
 use crate::requests::request_flits;
-use script::Line;
+use script_lines::Line;
 use std::alloc::{AllocError, Allocator};
 
 impl<A: Allocator> Processor<A> {

@@ -3,12 +3,12 @@
 ghost use Rattle.std.specs.Prelude.{◌≡◌, ◌<◌, ℕ, List, Some, length, replicate};
 ghost use Rattle.torus.specs.Shape.{Shape, tiles_of};
 ghost use Rattle.torus.specs.declared.step.Choice.{Choice};
-ghost use Rattle.script.specs.declared.line.Line.{Line};
+ghost use Rattle.script_lines.specs.declared.line.Line.{Line};
 ghost use Rattle.channel_number.specs.Order.{channel_count};
 ghost use Rattle.flit_buffer.specs.Places.{empty_ring};
 ghost use Rattle.flit_buffer.specs.Surroundings.{Surroundings, Wiring, IsPossible, IsWired, ports_of};
 ghost use Rattle.flit_buffer.specs.declared.want.Want.{Want};
-ghost use Rattle.script_follower.specs.ProcessorTable.{ProcessorState, processor_wants, processor_after};
+ghost use Rattle.one_order.specs.ProcessorTable.{ProcessorState, processor_wants, processor_after};
 ghost use Rattle.net_interface.specs.Beginning.{first_processor, processor_wiring, processor_ports};
 ghost use Rattle.net_interface.specs.Reach.{IsProcessorState};
 

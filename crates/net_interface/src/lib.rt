@@ -11,5 +11,5 @@ mod requests;
 mod shown;
 mod start;
 
+pub use one_order::Answer;
 pub use processor::Processor;
-pub use script_follower::Answer;

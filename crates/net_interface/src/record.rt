@@ -4,16 +4,16 @@ ghost use Rattle.std.specs.Prelude.{◌≡◌, ◌≤◌, ◌<◌, ◌+◌, true
 ghost use Rattle.std.specs.Prelude.{replicate, length, OnOk, OnErr};
 ghost use Rattle.std.specs.Prelude.{slice_set, vec_len, vec_capacity};
 ghost use Rattle.torus.specs.declared.step.OpId.{OpId};
-ghost use Rattle.script.specs.Scripts.{operation_count, operations_of, mentions_last};
+ghost use Rattle.script_lines.specs.Lines.{operation_count, operations_of, mentions_last};
 ghost use Rattle.tag_table.specs.Tags.{free_tag, holder_of, out_count};
-ghost use Rattle.script_follower.specs.Scripts.{IsFollowable};
-ghost use Rattle.script_follower.specs.Following.{is_finished, left_of};
-ghost use Rattle.script_follower.specs.ProcessorRecord.{ready, index_of, issued_by, answered_by, record_with};
-ghost use Rattle.script_follower.specs.ProcessorRecord.{first_record};
+ghost use Rattle.one_order.specs.Scripts.{IsFollowable};
+ghost use Rattle.one_order.specs.Following.{is_finished, left_of};
+ghost use Rattle.one_order.specs.ProcessorRecord.{ready, index_of, issued_by, answered_by, record_with};
+ghost use Rattle.one_order.specs.ProcessorRecord.{first_record};
 
+use one_order::{Answer, Follower};
 use packet::{Operation, Response};
-use script::Line;
-use script_follower::{Answer, Follower};
+use script_lines::Line;
 use std::alloc::{AllocError, Allocator, Global};
 use std::marker::Model;
 use tag_table::{OpId, Tag, TagTable};
@@ -30,7 +30,7 @@ pub(crate) struct Record<A: Allocator = Global> {
 }
 
 impl<A: Allocator> Model for Record<A> {
-    ghost use Rattle.script_follower.specs.ProcessorRecord.{ProcessorRecord};
+    ghost use Rattle.one_order.specs.ProcessorRecord.{ProcessorRecord};
 
     ghost Value = { ProcessorRecord };
 

@@ -2,7 +2,7 @@
 
 ghost use Rattle.std.specs.Prelude.{◌≡◌, ◌<◌, ◌≤◌, ℕ, Option, IfSome};
 ghost use Rattle.packet.specs.declared.kinds.Operation.{Operation};
-ghost use Rattle.script_follower.specs.ProcessorTable.{request_flits};
+ghost use Rattle.one_order.specs.ProcessorTable.{request_flits};
 ghost use Rattle.net_interface.specs.Inside.{with_tag};
 
 use arrayvec::ArrayVec;

@@ -3,11 +3,11 @@
 ghost use Rattle.std.specs.Prelude.{◌≡◌, ◌<◌, Option};
 ghost use Rattle.packet.specs.declared.kinds.Operation.{Operation};
 ghost use Rattle.tag_table.specs.Tags.{holder_of, out_count};
-ghost use Rattle.script_follower.specs.Following.{is_finished};
+ghost use Rattle.one_order.specs.Following.{is_finished};
 
 use crate::processor::Processor;
+use one_order::Answer;
 use packet::Operation;
-use script_follower::Answer;
 use std::alloc::Allocator;
 use tag_table::{OpId, Tag};
 

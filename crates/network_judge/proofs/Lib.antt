@@ -16,3 +16,15 @@ pub mod Judged
 pub mod Going
 pub mod JudgedProgress
 mod Examples
+pub mod Lines
+pub mod Moves
+pub mod Still
+pub mod Jammed
+pub mod Arcs
+pub mod Circles
+pub mod Filling
+pub mod JamLinks
+pub mod Both
+mod JamExamples
+pub mod Walks
+mod SearchExamples

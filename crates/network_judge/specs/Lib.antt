@@ -10,3 +10,6 @@ pub mod Graph
 pub mod Links
 pub mod Exactly
 pub mod Receivers
+pub mod Jams
+pub mod LockUps
+pub mod Clear

@@ -8,7 +8,7 @@ use Rattle.network_judge.specs.declared.table.Kind.TheVariants.{Injection}
 use Rattle.network_judge.specs.Verdicts.{AllArrive}
 use Rattle.network_judge.specs.Replies.{IsReply, AreReplies}
 use Rattle.std.proofs.lemmas.Option.{slice_get_within}
-use Rattle.network_jam.specs.LockUps.{plain_format}
+use Rattle.network_judge.specs.LockUps.{plain_format}
 use Rattle.network_machine.specs.declared.channel.Channel.{Channel}
 use Rattle.network_machine.specs.declared.moves.Packet.{Packet}
 use Rattle.network_machine.specs.declared.moves.Hindrance.{Hindrance}

@@ -13,8 +13,8 @@ use Rattle.network_judge.specs.TableNet.{table_network}
 use Rattle.network_judge.specs.Ways.{place}
 use Rattle.network_judge.specs.Verdicts.{AllArrive}
 use Rattle.network_judge.proofs.Places.{place_next}
-use Rattle.network_jam.specs.LockUps.{plain_format}
-use Rattle.network_jam.proofs.Still.{on_within, simple}
+use Rattle.network_judge.specs.LockUps.{plain_format}
+use Rattle.network_judge.proofs.Still.{on_within, simple}
 use Rattle.network_machine.specs.Keeping.{PacketsComeTo, HeadComesTo, KeepsToRoutes, AllKeepToRoutes}
 
 -- what holds of the changed channel and of all others holds of all

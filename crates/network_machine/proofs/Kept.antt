@@ -10,7 +10,7 @@ use Rattle.network_machine.specs.declared.moves.Move.TheVariants.{Send, More, Ta
 use Rattle.network_machine.specs.Lines.{ShowsLine}
 use Rattle.network_machine.specs.Lets.{KeepsFrom}
 use Rattle.network_machine.specs.Moves.{move_channel}
-use Rattle.network_machine.specs.Machine.{NetworkMachineSpec, plain_network, Prevents, IsKept, KeepsOthers}
+use Rattle.network_machine.specs.Machine.{NetworkMachineSpec, plain_network, Prevents, IsKept, KeepsOtherChannels}
 use Rattle.network_machine.proofs.Which.{only_send, only_more, only_take, only_put, only_accept, only_credit}
 use Rattle.network_machine.proofs.Puts.{line_at, some_channel}
 
@@ -46,7 +46,7 @@ kept_prevents m of is =
     kept m of c is.here (get_or_default m.channels (move_channel of) d c is.here) (is.keeps d))
 
 -- and stays so, while something changes at other channels
-pub kept_elsewhere : (old new : NetworkMachineSpec) (x y : ℕ) (of : Move) → KeepsOthers old new x y → move_channel of ≢ x → move_channel of ≢ y
+pub kept_elsewhere : (old new : NetworkMachineSpec) (x y : ℕ) (of : Move) → KeepsOtherChannels old new x y → move_channel of ≢ x → move_channel of ≢ y
     → IsKept old of → IsKept new of
 kept_elsewhere old new x y of keeps other other_2 is = record {
   here = subst (λ n. move_channel of < n) (sym keeps.size) is.here;

@@ -6,7 +6,7 @@ use Rattle.wormhole.specs.State.{NetLine, NetState}
 use Rattle.wormhole.specs.Events.{lines_after}
 use Rattle.network_judge.specs.Table.{Table}
 use Rattle.network_judge.specs.Verdicts.{AllArrive}
-use Rattle.network_jam.specs.LockUps.{plain_format}
+use Rattle.network_judge.specs.LockUps.{plain_format}
 use Rattle.network_machine.specs.declared.channel.Channel.{Channel}
 use Rattle.network_machine.specs.declared.moves.Move.{Move}
 use Rattle.network_machine.specs.declared.moves.Move.TheVariants.{Put}

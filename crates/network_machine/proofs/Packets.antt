@@ -4,7 +4,7 @@ use Rattle.std.proofs.lemmas.Bool.{cases_eq, ne_eqb}
 use Rattle.wormhole.specs.Net.{Net, IsParcel, EndsWithTail, has_no_flit, net_flits}
 use Rattle.network_judge.specs.Table.{Table, joins_of}
 use Rattle.network_judge.specs.TableNet.{table_network}
-use Rattle.network_jam.specs.LockUps.{plain_format}
+use Rattle.network_judge.specs.LockUps.{plain_format}
 use Rattle.network_machine.specs.Packets.{head_word, rest_word, rest_words, packet_of}
 
 -- where some are left, the next one comes first

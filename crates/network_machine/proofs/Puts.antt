@@ -4,7 +4,7 @@ use Rattle.std.specs.Prelude.{slice_index_or}
 use Rattle.wormhole.specs.State.{NetState}
 use Rattle.wormhole.specs.Events.{NetEvent, ForwardHead, ForwardRest, CanHappen}
 use Rattle.network_judge.specs.Table.{channels_of, kind_of, table_next, is_receiver}
-use Rattle.network_jam.specs.LockUps.{plain_format}
+use Rattle.network_judge.specs.LockUps.{plain_format}
 use Rattle.network_machine.specs.declared.channel.Channel.{Channel}
 use Rattle.network_machine.specs.declared.moves.Move.TheVariants.{Put}
 use Rattle.network_machine.specs.Lines.{ShowsLine}

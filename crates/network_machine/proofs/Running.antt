@@ -5,7 +5,7 @@ use Rattle.wormhole.specs.State.{NetState, empty}
 use Rattle.wormhole.specs.Events.{NetEvent, after, after_all, CanAllHappen}
 use Rattle.network_judge.specs.declared.table.Reply.{Reply}
 use Rattle.network_judge.specs.Table.{Table}
-use Rattle.network_jam.specs.LockUps.{IsLockUp}
+use Rattle.network_judge.specs.LockUps.{IsLockUp}
 use Rattle.network_machine.specs.declared.moves.Move.{Move}
 use Rattle.network_machine.specs.Moves.{CanMove}
 use Rattle.network_machine.specs.Machine.{NetworkMachineSpec, ShowsNetwork, plain_network, SameTables, HasMadeMove}

@@ -6,7 +6,7 @@ use Rattle.wormhole.specs.Events.{NetEvent, InjectHead, InjectRest, Latch, Forwa
 use Rattle.wormhole.specs.Ends.{IsOwed}
 use Rattle.network_judge.specs.Table.{channels_of}
 use Rattle.network_judge.specs.Receivers.{GoesWhere, CanBeTaken}
-use Rattle.network_jam.specs.LockUps.{plain_format}
+use Rattle.network_judge.specs.LockUps.{plain_format}
 use Rattle.network_machine.specs.declared.channel.Channel.{Channel}
 use Rattle.network_machine.specs.Machine.{NetworkMachineSpec, ShowsNetwork, plain_network}
 use Rattle.network_machine.specs.Endings.{PreventsAllAt, HoldsFlit, HoldsNoFlit, IsLocked, IsAllEmpty}

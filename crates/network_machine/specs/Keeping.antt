@@ -3,7 +3,7 @@ use Rattle.std.specs.Prelude.{◌≡◌, ◌≢◌, ℕ, ◌<◌, ◌≤◌, tru
 use Rattle.wormhole.specs.State.{NetLine}
 use Rattle.network_judge.specs.Table.{Table, channels_of, joins_of}
 use Rattle.network_judge.specs.Ways.{place, IsWay}
-use Rattle.network_jam.specs.LockUps.{plain_format}
+use Rattle.network_judge.specs.LockUps.{plain_format}
 
 -- packets to ejection channel j come to channel x
 pub record PacketsComeTo (t : Table) (x j : ℕ) : Type 0 where

@@ -7,7 +7,7 @@ use Rattle.wormhole.specs.Events.{NetEvent, after}
 use Rattle.network_judge.specs.declared.table.Reply.{Reply}
 use Rattle.network_judge.specs.Table.{Table, joins_of}
 use Rattle.network_judge.specs.TableNet.{table_network}
-use Rattle.network_jam.specs.LockUps.{plain_format}
+use Rattle.network_judge.specs.LockUps.{plain_format}
 use Rattle.network_machine.specs.declared.channel.Channel.{Channel}
 use Rattle.network_machine.specs.declared.moves.Move.{Move}
 use Rattle.network_machine.specs.declared.moves.Hindrance.{Hindrance}
@@ -34,7 +34,7 @@ pub record ShowsNetwork (m : NetworkMachineSpec) (s : NetState) : Type 0 where
   pub keep : AllKeepToRoutes m.table s.lines
 
 -- a machine that is opened shows the empty network
-pub record IsOpened (t : Table) (answers : List Reply) (depth : ℕ) (m : NetworkMachineSpec) : Type 0
+pub record IsOpenedNetwork (t : Table) (answers : List Reply) (depth : ℕ) (m : NetworkMachineSpec) : Type 0
   where
     pub table : m.table ≡ t
     pub replies : m.replies ≡ answers
@@ -71,7 +71,7 @@ pub record IsKept (m : NetworkMachineSpec) (of : Move) : Type 0 where
       → ShowsLine l (slice_index_or m.channels (move_channel of) d) → KeepsFrom l of
 
 -- each channel but two is as it was
-pub record KeepsOthers (old new : NetworkMachineSpec) (x y : ℕ) : Type 0 where
+pub record KeepsOtherChannels (old new : NetworkMachineSpec) (x y : ℕ) : Type 0 where
   pub size : length new.channels ≡ length old.channels
   pub others : OthersStay old.channels new.channels x y
 

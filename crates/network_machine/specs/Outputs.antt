@@ -4,7 +4,7 @@ use Rattle.network_judge.specs.declared.table.Reply.{Reply}
 use Rattle.network_judge.specs.Replies.{IsReply, reply_at}
 use Rattle.network_judge.specs.Table.{Table, kind_of, table_next, is_receiver}
 use Rattle.network_judge.specs.declared.table.Kind.TheVariants.{Ejection}
-use Rattle.network_jam.specs.LockUps.{plain_format}
+use Rattle.network_judge.specs.LockUps.{plain_format}
 use Rattle.network_machine.specs.declared.channel.Channel.{Channel}
 
 -- a channel that another one owns, with a credit

@@ -3,7 +3,7 @@
 ghost use Rattle.std.specs.Prelude.{◌≡◌, true, false, OnOk, OnErr, IfErr, IfSome, IfNone};
 ghost use Rattle.network_machine.specs.declared.moves.Move.TheVariants.{Send, More, Take, Put, Accept, Credit};
 ghost use Rattle.network_machine.specs.Machine.{SameTables, MovesAll, Prevents, MakesAll};
-ghost use Rattle.network_machine.specs.Machine.{IsInReach, KeepsOthers};
+ghost use Rattle.network_machine.specs.Machine.{IsInReach, KeepsOtherChannels};
 ghost use Rattle.network_machine.specs.Outputs.{IsWayOut};
 ghost use Rattle.network_judge.specs.Verdicts.{AllArrive};
 ghost use Rattle.network_machine.specs.Moves.{move_channel, IsOfOneChannel};
@@ -20,7 +20,7 @@ impl<'a, A: Allocator> Machine<'a, A> {
     fn make_send(&mut self, packet: Packet) -> bool
         requires { IsInReach self.old (Send packet) }
         ensures made { MakesAll self.old self.new (Send packet) result }
-        ensures others { KeepsOthers self.old self.new packet.from packet.from }
+        ensures others { KeepsOtherChannels self.old self.new packet.from packet.from }
         ensures same { SameTables self.old self.new }
     {
         begin_at(&mut self.channels, packet)
@@ -30,7 +30,7 @@ impl<'a, A: Allocator> Machine<'a, A> {
     fn make_more(&mut self, x: usize) -> bool
         requires { IsInReach self.old (More x) }
         ensures made { MakesAll self.old self.new (More x) result }
-        ensures others { KeepsOthers self.old self.new x x }
+        ensures others { KeepsOtherChannels self.old self.new x x }
         ensures same { SameTables self.old self.new }
     {
         if !is_sender(self.kind(x)) {
@@ -43,7 +43,7 @@ impl<'a, A: Allocator> Machine<'a, A> {
     fn make_take(&mut self, x: usize) -> bool
         requires { IsInReach self.old (Take x) }
         ensures made { MakesAll self.old self.new (Take x) result }
-        ensures others { KeepsOthers self.old self.new x x }
+        ensures others { KeepsOtherChannels self.old self.new x x }
         ensures same { SameTables self.old self.new }
     {
         if is_receiver(self.kind(x)) {
@@ -56,7 +56,7 @@ impl<'a, A: Allocator> Machine<'a, A> {
     fn put_along(&mut self, x: usize, y: usize, flit: u64) -> bool
         requires { IsWayOut self.old.table self.old.channels x flit y }
         ensures made { MakesAll self.old self.new (Put x) result }
-        ensures others { KeepsOthers self.old self.new x y }
+        ensures others { KeepsOtherChannels self.old self.new x y }
         ensures stays { result ≡ false → self.new ≡ self.old }
         ensures same { SameTables self.old self.new }
         ensures arrive { AllArrive self.old.table }
@@ -89,7 +89,7 @@ impl<'a, A: Allocator> Machine<'a, A> {
     fn make_accept(&mut self, x: usize) -> bool
         requires { IsInReach self.old (Accept x) }
         ensures made { MakesAll self.old self.new (Accept x) result }
-        ensures others { KeepsOthers self.old self.new x x }
+        ensures others { KeepsOtherChannels self.old self.new x x }
         ensures same { SameTables self.old self.new }
     {
         if !is_receiver(self.kind(x)) {
@@ -102,7 +102,7 @@ impl<'a, A: Allocator> Machine<'a, A> {
     fn make_credit(&mut self, x: usize) -> bool
         requires { IsInReach self.old (Credit x) }
         ensures made { MakesAll self.old self.new (Credit x) result }
-        ensures others { KeepsOthers self.old self.new x x }
+        ensures others { KeepsOtherChannels self.old self.new x x }
         ensures same { SameTables self.old self.new }
     {
         credit_at(&mut self.channels, x)
@@ -113,7 +113,7 @@ impl<'a, A: Allocator> Machine<'a, A> {
         requires { IsInReach self.old of }
         ensures made { MakesAll self.old self.new of result }
         ensures others { IsOfOneChannel of
-            → KeepsOthers self.old self.new (move_channel of) (move_channel of) }
+            → KeepsOtherChannels self.old self.new (move_channel of) (move_channel of) }
         ensures same { SameTables self.old self.new }
     {
         match of {
@@ -129,7 +129,7 @@ impl<'a, A: Allocator> Machine<'a, A> {
     /// Attempts to put the flit from a latch, and answers the channel into which it goes.
     fn try_put(&mut self, x: usize) -> Option<usize>
         ensures moves { IfSome result (λ y. MovesAll self.old self.new (Put x)) }
-        ensures others { IfSome result (KeepsOthers self.old self.new x) }
+        ensures others { IfSome result (KeepsOtherChannels self.old self.new x) }
         ensures prevented { IfNone result (Prevents self.old (Put x)) }
         ensures stays { IfNone result (self.new ≡ self.old) }
         ensures same { SameTables self.old self.new }
@@ -151,7 +151,7 @@ impl<'a, A: Allocator> Machine<'a, A> {
         requires { IsOfOneChannel of }
         ensures moves { result ≡ true → MovesAll self.old self.new of }
         ensures others { result ≡ true
-            → KeepsOthers self.old self.new (move_channel of) (move_channel of) }
+            → KeepsOtherChannels self.old self.new (move_channel of) (move_channel of) }
         ensures prevented { result ≡ false → Prevents self.old of }
         ensures stays { result ≡ false → self.new ≡ self.old }
         ensures same { SameTables self.old self.new }
@@ -167,7 +167,7 @@ impl<'a, A: Allocator> Machine<'a, A> {
     /// its own where there is none. If it isn't made, nothing changes. It takes no memory.
     pub fn try_move(&mut self, of: Move) -> Option<usize>
         ensures moves { IfSome result (λ y. MovesAll self.old self.new of) }
-        ensures others { IfSome result (KeepsOthers self.old self.new (move_channel of)) }
+        ensures others { IfSome result (KeepsOtherChannels self.old self.new (move_channel of)) }
         ensures prevented { IfNone result (Prevents self.old of) }
         ensures stays { IfNone result (self.new ≡ self.old) }
         ensures same { SameTables self.old self.new }

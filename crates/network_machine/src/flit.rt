@@ -1,7 +1,7 @@
 //! Flits: words of 64 bits in the plain format.
 
 ghost use Rattle.std.specs.Prelude.{◌≡◌, ◌<◌, ◌^◌, true};
-ghost use Rattle.network_jam.specs.LockUps.{plain_format};
+ghost use Rattle.network_judge.specs.LockUps.{plain_format};
 ghost use Rattle.network_machine.specs.Packets.{head_word, rest_word};
 
 /// Whether a flit has the head bit.

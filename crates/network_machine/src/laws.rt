@@ -4,7 +4,7 @@ ghost use Rattle.std.specs.Prelude.{ℕ, List};
 ghost use Rattle.wormhole.specs.Net.{Net};
 ghost use Rattle.wormhole.specs.State.{NetState, empty};
 ghost use Rattle.wormhole.specs.Events.{NetEvent};
-ghost use Rattle.network_jam.specs.LockUps.{IsLockUp};
+ghost use Rattle.network_judge.specs.LockUps.{IsLockUp};
 ghost use Rattle.network_machine.specs.declared.moves.Move.{Move};
 ghost use Rattle.network_machine.specs.Machine.{NetworkMachineSpec};
 ghost use Rattle.network_machine.specs.Runs.{Runs};

@@ -5,7 +5,7 @@ ghost use Rattle.network_judge.specs.Table.{table_of, joins_of, kind_of, table_n
 ghost use Rattle.network_judge.specs.declared.table.Kind.TheVariants.{Ejection};
 ghost use Rattle.network_judge.specs.Replies.{AreReplies};
 ghost use Rattle.network_judge.specs.Verdicts.{AllArrive};
-ghost use Rattle.network_machine.specs.Machine.{IsOpened};
+ghost use Rattle.network_machine.specs.Machine.{IsOpenedNetwork};
 
 use crate::channel::Channel;
 use crate::opening::empty_channels;
@@ -60,7 +60,7 @@ impl<'a, A: Allocator + Copy> Machine<'a, A> {
         requires replies { AreReplies (table_of kinds.now joins.now choices.now) replies.now }
         requires arrive { AllArrive (table_of kinds.now joins.now choices.now) }
         requires depth { depth ≤ 8 }
-        ensures { IfOk result (IsOpened (table_of kinds.now joins.now choices.now) replies.now
+        ensures { IfOk result (IsOpenedNetwork (table_of kinds.now joins.now choices.now) replies.now
             depth) }
     {
         let columns = columns_of(alloc, kinds)?;

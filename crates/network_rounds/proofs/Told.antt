@@ -9,7 +9,7 @@ use Rattle.network_machine.specs.declared.moves.Move.TheVariants.{Send, More, Ta
 use Rattle.network_machine.specs.declared.free.Lets.{Lets}
 use Rattle.network_machine.specs.Lets.{is_let}
 use Rattle.network_machine.specs.Moves.{move_channel}
-use Rattle.network_machine.specs.Machine.{NetworkMachineSpec, IsKept, KeepsOthers}
+use Rattle.network_machine.specs.Machine.{NetworkMachineSpec, IsKept, KeepsOtherChannels}
 use Rattle.network_machine.proofs.Kept.{kept_prevents, kept_elsewhere}
 use Rattle.network_rounds.specs.declared.flags.Places.{Places}
 use Rattle.network_rounds.specs.declared.flags.Flags.{Flags}
@@ -173,7 +173,7 @@ tells_again m choices x f g tells h =
     }))
 
 -- a machine moves: the choices of two channels are untold
-moved : {A : Type 0} (old new : NetworkMachineSpec) (choices : List Move) (x y : ℕ) (f : Flags A) → KeepsOthers old new x y → AreFlags old choices f
+moved : {A : Type 0} (old new : NetworkMachineSpec) (choices : List Move) (x y : ℕ) (f : Flags A) → KeepsOtherChannels old new x y → AreFlags old choices f
     → AreFlagsBut (λ of. (move_channel of ≡ x) ⊎ ((move_channel of == y) ≡ true)) new choices f
 moved old new choices x y f others h = record {
   size = h.size;
@@ -209,14 +209,14 @@ eased P Q m choices f more h = record {
 }
 
 -- both are told, or the one where they are the same
-pub tells_both : {A : Type 0} (old new : NetworkMachineSpec) (choices : List Move) (x y : ℕ) (f g h : Flags A) → KeepsOthers old new x y
+pub tells_both : {A : Type 0} (old new : NetworkMachineSpec) (choices : List Move) (x y : ℕ) (f g h : Flags A) → KeepsOtherChannels old new x y
     → TellsChannel new x f g → TellsChannel new y g h → AreFlags old choices f → AreFlags new choices h
 tells_both {A} old new choices x y f g h others first second are =
     none_left new choices h (second (λ of. false) choices
     (eased (λ of. (move_channel of == y) ≡ true) (λ of. (move_channel of ≡ y) ⊎ (false ≡ true)) new choices g (λ o t. inl (eqb-true (move_channel o) y t))
     (first (λ of. move_channel of == y) choices (moved old new choices x y f others are))))
 
-pub tells_same : {A : Type 0} (old new : NetworkMachineSpec) (choices : List Move) (x y : ℕ) (f g : Flags A) → KeepsOthers old new x y → y ≡ x
+pub tells_same : {A : Type 0} (old new : NetworkMachineSpec) (choices : List Move) (x y : ℕ) (f g : Flags A) → KeepsOtherChannels old new x y → y ≡ x
     → TellsChannel new x f g → AreFlags old choices f → AreFlags new choices g
 tells_same {A} old new choices x y f g others same first are =
     none_left new choices g (first (λ of. false) choices

@@ -8,13 +8,13 @@ use Rattle.network_judge.specs.declared.table.Join.{Join}
 use Rattle.network_judge.specs.declared.table.Kind.{Kind}
 use Rattle.network_judge.specs.Table.{Table, table_of}
 use Rattle.network_judge.specs.Receivers.{GoesWhere}
-use Rattle.network_jam.specs.LockUps.{IsLockUp, LocksUp, plain_format}
+use Rattle.network_judge.specs.LockUps.{IsLockUp, LocksUp, plain_format}
 use Rattle.network_text.specs.Network.{NetworkSpec}
 use Rattle.network_machine.specs.declared.moves.Move.{Move}
 use Rattle.network_machine.specs.declared.moves.Ending.{Ending}
 use Rattle.network_machine.specs.declared.moves.Ending.TheVariants.{Locked}
 use Rattle.network_machine.specs.Moves.{event_move}
-use Rattle.network_machine.specs.Machine.{NetworkMachineSpec, ShowsNetwork, plain_network, IsOpened, SameTables}
+use Rattle.network_machine.specs.Machine.{NetworkMachineSpec, ShowsNetwork, plain_network, IsOpenedNetwork, SameTables}
 use Rattle.network_machine.specs.Runs.{Runs, RunsTo}
 use Rattle.network_machine.specs.Endings.{IsEnding}
 use Rattle.network_run.specs.LockedUp.{MovesLockUp}
@@ -73,7 +73,7 @@ still_in a b same ends number top depth s shows =
     (subst (λ (rs : List Reply). StandsStill rs (plain_network b.table number top depth) s) same.replies at))
 
 -- a run from the empty network that ends locked
-pub locked_by : (n : NetworkSpec) (depth : ℕ) (moves : List Move) (a b : NetworkMachineSpec) → IsOpened n.table n.replies depth a → RunsTo a b moves
+pub locked_by : (n : NetworkSpec) (depth : ℕ) (moves : List Move) (a b : NetworkMachineSpec) → IsOpenedNetwork n.table n.replies depth a → RunsTo a b moves
     → SameTables a b → IsEnding b Locked → MovesLockUp n depth moves
 locked_by n depth moves a b opened runs same ends =
     (let shows = λ (number : ℕ → ℕ) (top : ℕ). subst (λ (t : Table). ShowsNetwork a (empty (plain_network t number top depth))) (sym opened.table) (opened.shows number top) in
@@ -87,15 +87,15 @@ moves_lock n depth moves locks number top = (let e = locks number top in (e.0, e
 
 -- a machine that is opened with the tables of a network
 pub opened_in : (t : Table) (rs : List Reply) (kinds : List Kind) (joins : List Join) (choices : List ℕ) (answers : List Reply) (depth : ℕ) (m : NetworkMachineSpec)
-    → kinds ≡ t.kinds → joins ≡ t.joins → choices ≡ t.choices → answers ≡ rs → IsOpened (table_of kinds joins choices) answers depth m
-    → IsOpened t rs depth m
+    → kinds ≡ t.kinds → joins ≡ t.joins → choices ≡ t.choices → answers ≡ rs → IsOpenedNetwork (table_of kinds joins choices) answers depth m
+    → IsOpenedNetwork t rs depth m
 opened_in t rs kinds joins choices answers depth m one two three four opened =
     (let same : table_of kinds joins choices ≡ t =
     ap (λ k. table_of k joins choices) one ∙ ap (λ j. table_of t.kinds j choices) two ∙ ap (λ c. table_of t.kinds t.joins c) three in
-    subst (λ (x : Table). IsOpened x rs depth m) same (subst (λ (x : List Reply). IsOpened (table_of kinds joins choices) x depth m) four opened))
+    subst (λ (x : Table). IsOpenedNetwork x rs depth m) same (subst (λ (x : List Reply). IsOpenedNetwork (table_of kinds joins choices) x depth m) four opened))
 
 -- how its run ends
-pub run_ends : (n : NetworkSpec) (depth : ℕ) (moves : List Move) (ending : Ending) (a b : NetworkMachineSpec) → IsOpened n.table n.replies depth a
+pub run_ends : (n : NetworkSpec) (depth : ℕ) (moves : List Move) (ending : Ending) (a b : NetworkMachineSpec) → IsOpenedNetwork n.table n.replies depth a
     → RunsTo a b moves → SameTables a b → IsEnding b ending → RunEnds n depth moves ending
 run_ends n depth moves ending a b opened moved same ended = record {
   opened = a;

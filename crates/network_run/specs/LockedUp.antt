@@ -2,7 +2,7 @@
 -- Dally and Towles, Principles and Practices of Interconnection Networks, 2004, chapter 14.
 use Rattle.std.specs.Prelude.{◌≡◌, ℕ, List, map}
 use Rattle.wormhole.specs.Events.{NetEvent}
-use Rattle.network_jam.specs.LockUps.{IsLockUp}
+use Rattle.network_judge.specs.LockUps.{IsLockUp}
 use Rattle.network_text.specs.Network.{NetworkSpec}
 use Rattle.network_machine.specs.declared.moves.Move.{Move}
 use Rattle.network_machine.specs.Moves.{event_move}

@@ -8,7 +8,7 @@ use Rattle.network_machine.specs.declared.moves.Move.{Move}
 use Rattle.network_machine.specs.declared.moves.Ending.{Ending}
 use Rattle.network_machine.specs.declared.moves.Ending.TheVariants.{Locked}
 use Rattle.network_machine.specs.declared.moves.Hindrance.{Hindrance}
-use Rattle.network_machine.specs.Machine.{NetworkMachineSpec, IsOpened}
+use Rattle.network_machine.specs.Machine.{NetworkMachineSpec, IsOpenedNetwork}
 use Rattle.network_machine.specs.Runs.{RunsTo, StopsAt}
 use Rattle.network_machine.specs.Endings.{IsEnding}
 use Rattle.network_run.specs.declared.reason.RunReason.{RunReason}
@@ -26,7 +26,7 @@ pub record RunEnds (n : NetworkSpec) (depth : ℕ) (moves : List Move) (ending :
   where
     pub opened : NetworkMachineSpec
     pub reached : NetworkMachineSpec
-    pub opens : IsOpened n.table n.replies depth opened
+    pub opens : IsOpenedNetwork n.table n.replies depth opened
     pub runs : RunsTo opened reached moves
     pub ends : IsEnding reached ending
     pub locks : ending ≡ Locked → MovesLockUp n depth moves
@@ -35,7 +35,7 @@ pub record RunEnds (n : NetworkSpec) (depth : ℕ) (moves : List Move) (ending :
 pub record RunStops (n : NetworkSpec) (depth : ℕ) (moves : List Move) (place : ℕ) : Type 0 where
   pub opened : NetworkMachineSpec
   pub reached : NetworkMachineSpec
-  pub opens : IsOpened n.table n.replies depth opened
+  pub opens : IsOpenedNetwork n.table n.replies depth opened
   pub stops : StopsAt opened reached moves place
 
 -- what becomes of moves

@@ -4,8 +4,8 @@ ghost use Rattle.std.specs.Prelude.{◌≡◌, ◌≤◌};
 ghost use Rattle.network_judge.specs.Columns.{AreColumns};
 ghost use Rattle.network_judge.specs.Table.{columns_of};
 
-use jam_search::check::next_of;
-use network_jam::Fill;
+use network_judge::Fill;
+use network_judge::check::next_of;
 use network_judge::columns::{columns_of, ends_of};
 use network_machine::{Move, Packet};
 use network_text::Network;

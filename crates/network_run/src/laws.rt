@@ -1,7 +1,7 @@
 //! Laws of runs, each the contract of a function that does nothing.
 
 ghost use Rattle.std.specs.Prelude.{ℕ, ◌<◌, List};
-ghost use Rattle.network_jam.specs.LockUps.{LocksUp, plain_format};
+ghost use Rattle.network_judge.specs.LockUps.{LocksUp, plain_format};
 ghost use Rattle.network_machine.specs.declared.moves.Move.{Move};
 ghost use Rattle.network_text.specs.Network.{NetworkSpec};
 ghost use Rattle.network_run.specs.LockedUp.{MovesLockUp};

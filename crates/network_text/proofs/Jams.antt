@@ -5,15 +5,15 @@ use Rattle.network_judge.specs.declared.table.Verdict.{Verdict}
 use Rattle.network_judge.specs.declared.table.Verdict.TheVariants.{Rising, NoRoute, Cycle}
 use Rattle.network_judge.specs.Replies.{AreReplies}
 use Rattle.network_judge.specs.Verdicts.{IsVerdict}
-use Rattle.network_jam.specs.declared.fill.Fill.{Fill}
-use Rattle.network_jam.proofs.Both.{never}
-use Rattle.network_jam.proofs.Jammed.{jams_lock}
+use Rattle.network_judge.specs.declared.fill.Fill.{Fill}
+use Rattle.network_judge.proofs.Both.{never}
+use Rattle.network_judge.proofs.Jammed.{jams_lock}
 use Rattle.network_text.specs.Network.{NetworkSpec}
-use Rattle.network_text.specs.Answer.{verdict_text, jam_text, IsFound, IsJudgedText}
+use Rattle.network_text.specs.Answer.{verdict_text, jam_text, IsFoundVerdict, IsJudgedText}
 
 -- with numbers no jam is found, and the network never locks up
 pub none_found : {A : Type 0} (n : NetworkSpec) (v : Verdict A) (numbers : Vec ℕ A) → v ≡ Rising numbers → AreReplies n.table n.replies
-    → IsVerdict n.table n.replies v → IsFound n v None
+    → IsVerdict n.table n.replies v → IsFoundVerdict n v None
 none_found n (Rising numbers) other is are holds = (refl, λ depth flits deep. never n.table n.replies numbers.items are holds.1 depth flits deep)
 none_found n (NoRoute r) other is are holds = refl
 none_found n (Cycle links) other is are holds = tt
@@ -25,17 +25,17 @@ jam_put head before text lent jam put is same = put ∙ ap (λ t. t ++ jam_text 
 
 -- a jam that is found stands there
 pub judged_with_jam : {A : Type 0} (n : NetworkSpec) (v : Verdict A) (found : Option (Vec Fill A)) (jam : Vec Fill A) (text : List ℕ)
-    → found ≡ Some jam → IsFound n v found → text ≡ verdict_text v ++ jam_text jam.items → IsJudgedText n v text
+    → found ≡ Some jam → IsFoundVerdict n v found → text ≡ verdict_text v ++ jam_text jam.items → IsJudgedText n v text
 judged_with_jam n (Rising numbers) found jam text some is told = absurd (let no : Some jam ≡ None = sym some ∙ is.0 in cc)
 judged_with_jam n (NoRoute r) found jam text some is told = absurd (let no : Some jam ≡ None = sym some ∙ is in cc)
 judged_with_jam n (Cycle links) (Some fills) jam text some is told = record {
   behind = jam_text jam.items;
   follows = inr record {
     jam = jam.items;
-    holds = subst (λ f. IsFound n (Cycle links) f) some is;
+    holds = subst (λ f. IsFoundVerdict n (Cycle links) f) some is;
     is = refl;
     locks = λ depth flits deep tells.
-        jams_lock n.table n.replies jam.items (subst (λ f. IsFound n (Cycle links) f) some is) depth flits deep tells;
+        jams_lock n.table n.replies jam.items (subst (λ f. IsFoundVerdict n (Cycle links) f) some is) depth flits deep tells;
   };
   is = told;
 }
@@ -43,7 +43,7 @@ judged_with_jam n (Cycle links) None jam text some is told = absurd (let no : No
 
 -- where none is found, nothing does
 pub judged_alone : {A : Type 0} (n : NetworkSpec) (v : Verdict A) (found : Option (Vec Fill A)) (text : List ℕ)
-    → found ≡ None → IsFound n v found → text ≡ verdict_text v → IsJudgedText n v text
+    → found ≡ None → IsFoundVerdict n v found → text ≡ verdict_text v → IsJudgedText n v text
 judged_alone n (Rising numbers) found text none is told =
     record { behind = []; follows = (refl, is.1); is = told ∙ sym (append-nil _) }
 judged_alone n (NoRoute r) found text none is told =

@@ -18,10 +18,10 @@ use Rattle.network_judge.specs.declared.table.Verdict.TheVariants.{Rising, NoRou
 use Rattle.network_judge.specs.Cycles.{link_at}
 use Rattle.network_judge.specs.TableNet.{Flits}
 use Rattle.network_judge.specs.Verdicts.{IsVerdict}
-use Rattle.network_jam.specs.declared.fill.Fill.{Fill}
-use Rattle.network_jam.specs.Jams.{IsJam}
-use Rattle.network_jam.specs.LockUps.{LocksUp, HasOneFlitPackets}
-use Rattle.jam_search.specs.Clear.{fill_at}
+use Rattle.network_judge.specs.declared.fill.Fill.{Fill}
+use Rattle.network_judge.specs.Jams.{IsJam}
+use Rattle.network_judge.specs.LockUps.{LocksUp, HasOneFlitPackets}
+use Rattle.network_judge.specs.Clear.{fill_at}
 use Rattle.network_text.specs.declared.answer.Answer.{Answer}
 use Rattle.network_text.specs.Network.{NetworkSpec, network_of}
 
@@ -114,10 +114,10 @@ pub record IsJamText (n : NetworkSpec) (text : List ℕ) : Type 0 where
 
 -- what is found of a network with a verdict: a jam or none where it is a cycle, and else none; with
 -- numbers the network never locks up
-abbrev pub IsFound : {A : Type 0} → NetworkSpec → Verdict A → Option (Vec Fill A) → Type 0
-IsFound n (Rising numbers) found = (found ≡ None) × NeverLocksUp n
-IsFound n (NoRoute r) found = found ≡ None
-IsFound n (Cycle links) found = IfSome found (λ jam. IsJam n.table n.replies jam.items)
+abbrev pub IsFoundVerdict : {A : Type 0} → NetworkSpec → Verdict A → Option (Vec Fill A) → Type 0
+IsFoundVerdict n (Rising numbers) found = (found ≡ None) × NeverLocksUp n
+IsFoundVerdict n (NoRoute r) found = found ≡ None
+IsFoundVerdict n (Cycle links) found = IfSome found (λ jam. IsJam n.table n.replies jam.items)
 
 -- what may stand behind the text of a verdict: nothing behind numbers, with which the network never
 -- locks up, nor behind a pair without a route; behind a cycle nothing, or the text of a jam
@@ -134,7 +134,7 @@ pub record IsJudgedText {A : Type 0} (n : NetworkSpec) (v : Verdict A) (text : L
     pub is : text ≡ verdict_text v ++ behind
 
 -- what the verdict of a network says, and whether its numbers rise
-pub record Tells {A : Type 0} (n : NetworkSpec) (a : Answer A) : Type 0 where
+pub record TellsNetworkVerdict {A : Type 0} (n : NetworkSpec) (a : Answer A) : Type 0 where
   pub verdict : Verdict A
   pub holds : IsVerdict n.table n.replies verdict
   pub text : IsJudgedText n verdict a.text.items
@@ -143,5 +143,5 @@ pub record Tells {A : Type 0} (n : NetworkSpec) (a : Answer A) : Type 0 where
 -- what is answered to a text of these lines: the verdict of its network, or its first fault, or
 -- out of memory
 abbrev pub Answers : {A : Type 0} → List (List ℕ) → Result (Answer A) LineFault → Type 0
-Answers lines (Ok a) = (n : NetworkSpec) × (network_of lines ≡ Ok n) × Tells n a
+Answers lines (Ok a) = (n : NetworkSpec) × (network_of lines ≡ Ok n) × TellsNetworkVerdict n a
 Answers lines (Err e) = (e ≡ record { fault = fault.Memory; line = 0 }) ⊎ (network_of lines ≡ Err e)

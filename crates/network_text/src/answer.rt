@@ -3,7 +3,7 @@
 ghost use Rattle.std.specs.Prelude.{◌≡◌, IfOk};
 ghost use Rattle.std.specs.Str.Lines.{lines};
 ghost use Rattle.network_judge.specs.Verdicts.{IsVerdict};
-ghost use Rattle.network_text.specs.Answer.{Answers, Tells, is_rising};
+ghost use Rattle.network_text.specs.Answer.{Answers, TellsNetworkVerdict, is_rising};
 
 use crate::jam::judged_text;
 use crate::network::{Network, read_network};
@@ -57,7 +57,7 @@ pub fn answered<A: Allocator + Copy>(
     alloc: A,
     network: &Network<A>,
 ) -> Result<Answer<A>, AllocError>
-    ensures { IfOk result (Tells network.now) }
+    ensures { IfOk result (TellsNetworkVerdict network.now) }
 {
     let verdict = judge_network(alloc, network)?;
     let text = judged_text(alloc, network, &verdict)?;

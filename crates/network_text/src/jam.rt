@@ -3,13 +3,11 @@
 ghost use Rattle.std.specs.Prelude.{◌≡◌, ◌++◌, length, codes, IfOk, OnOk};
 ghost use Rattle.network_judge.specs.Verdicts.{IsVerdict};
 ghost use Rattle.network_text.specs.Answer.{first_lines, fill_line, fill_line_at, jam_text};
-ghost use Rattle.network_text.specs.Answer.{IsFound, IsJudgedText};
+ghost use Rattle.network_text.specs.Answer.{IsFoundVerdict, IsJudgedText};
 
 use crate::network::Network;
 use crate::verdict::{put_number, put_pair, verdict_text};
-use jam_search::find_jam;
-use network_jam::Fill;
-use network_judge::Verdict;
+use network_judge::{Fill, Verdict, find_jam};
 use std::alloc::{AllocError, Allocator};
 
 /// Adds the line of a channel that is filled.
@@ -49,7 +47,7 @@ pub(crate) fn jam_of<A: Allocator + Copy>(
     verdict: &Verdict<A>,
 ) -> Result<Option<Vec<Fill, A>>, AllocError>
     requires { IsVerdict network.now.table network.now.replies verdict.now }
-    ensures { IfOk result (IsFound network.now verdict.now) }
+    ensures { IfOk result (IsFoundVerdict network.now verdict.now) }
 {
     let kinds = network.kinds();
     match verdict {

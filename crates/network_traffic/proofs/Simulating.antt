@@ -16,7 +16,7 @@ use Rattle.network_rounds.specs.Simulations.{begun_in, choices_in}
 use Rattle.network_rounds.proofs.Longer.{Simulates, simulates_more}
 use Rattle.network_traffic.specs.declared.watch.Watch.{Watch}
 use Rattle.network_traffic.specs.Watches.{ShowsRounds}
-use Rattle.network_traffic.specs.Simulated.{is_later, some_later, ends_behind, GoesOn, GoesOnBefore, last_moving}
+use Rattle.network_traffic.specs.Simulated.{is_later, some_later, ends_behind, GoesOnSimulating, GoesOnBefore, last_moving}
 
 -- the rounds so far, behind none of which it is over
 pub record WatchedSoFar {A B C : Type 0} (t : Table) (packets : List Timed) (queues : List (Vec Timed A)) (groups : List (Vec Move B))
@@ -24,7 +24,7 @@ pub record WatchedSoFar {A B C : Type 0} (t : Table) (packets : List Timed) (que
   pub simulates : Simulates queues groups old new begun flits count room
   pub shows : ShowsRounds t packets simulates.simulation.rounds watch
   pub last : latest ≡ last_moving simulates.simulation.rounds
-  pub goes : GoesOn queues simulates.simulation.rounds
+  pub goes : GoesOnSimulating queues simulates.simulation.rounds
 
 -- the same, and whether it is over behind the last one
 pub record WatchedNext {A B C : Type 0} (t : Table) (packets : List Timed) (queues : List (Vec Timed A)) (groups : List (Vec Move B))
@@ -34,7 +34,7 @@ pub record WatchedNext {A B C : Type 0} (t : Table) (packets : List Timed) (queu
   pub last : latest ≡ last_moving simulates.simulation.rounds
   pub goes : GoesOnBefore queues simulates.simulation.rounds
   pub over : ends_behind queues simulates.simulation.rounds ≡ now_over
-  pub on : now_over ≡ false → GoesOn queues simulates.simulation.rounds
+  pub on : now_over ≡ false → GoesOnSimulating queues simulates.simulation.rounds
 
 -- no round
 pub watched_none : {A B C : Type 0} (t : Table) (packets : List Timed) (queues : List (Vec Timed A)) (groups : List (Vec Move B)) (m : NetworkMachineSpec)
@@ -111,14 +111,14 @@ watched_more t packets queues groups old between new begun flits begun_later fli
           ∙ ap last_moving (sym s.1))));
       goes = subst (GoesOnBefore queues) (sym s.1) h.goes;
       over = ap (ends_behind queues) s.1 ∙ behind;
-      on = λ no. subst (GoesOn queues) (sym s.1) (behind ∙ no, h.goes);
+      on = λ no. subst (GoesOnSimulating queues) (sym s.1) (behind ∙ no, h.goes);
     })
 
 -- where it is not over behind any round, it is not over
-pub goes_before : {A : Type 0} (queues : List (Vec Timed A)) (rounds : List (List Move)) → GoesOn queues rounds → GoesOnBefore queues rounds
+pub goes_before : {A : Type 0} (queues : List (Vec Timed A)) (rounds : List (List Move)) → GoesOnSimulating queues rounds → GoesOnBefore queues rounds
 goes_before queues [] goes = tt
 goes_before queues (made ∷ before) goes = goes.1
 
-pub goes_now : {A : Type 0} (queues : List (Vec Timed A)) (rounds : List (List Move)) → GoesOn queues rounds → ends_behind queues rounds ≡ false
+pub goes_now : {A : Type 0} (queues : List (Vec Timed A)) (rounds : List (List Move)) → GoesOnSimulating queues rounds → ends_behind queues rounds ≡ false
 goes_now queues [] goes = refl
 goes_now queues (made ∷ before) goes = goes.0

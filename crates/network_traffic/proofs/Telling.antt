@@ -7,7 +7,7 @@ use Rattle.network_judge.specs.Table.{Table, channels_of}
 use Rattle.network_judge.specs.Verdicts.{AllArrive}
 use Rattle.network_machine.specs.declared.moves.Move.{Move}
 use Rattle.network_machine.specs.declared.moves.Ending.{Ending}
-use Rattle.network_machine.specs.Machine.{NetworkMachineSpec, IsOpened}
+use Rattle.network_machine.specs.Machine.{NetworkMachineSpec, IsOpenedNetwork}
 use Rattle.network_machine.specs.Endings.{IsEnding}
 use Rattle.network_rounds.specs.declared.senders.Timed.{Timed}
 use Rattle.network_rounds.specs.Choices.{groups_of}
@@ -56,7 +56,7 @@ pub told : {A : Type 0} (n : NetworkSpec) (depth : ℕ) (packets ps : List Timed
     (opened reached : NetworkMachineSpec) (flits fs ws : List ℕ) (bs ds : List (Option ℕ)) (watch : Watch A) (extent : Extent) (ending : Ending) (text : List ℕ) (sound : Bool)
     → t ≡ n.table → ps ≡ packets
     → AreRouters n.table routers → map (λ (q : Vec Timed A). q.items) queues ≡ map (queue_of packets) (range_with_len 0 (channels_of n.table))
-    → map (λ (q : Vec Move A). q.items) groups ≡ groups_of n.table.kinds routers (channels_of n.table) → IsOpened n.table n.replies depth opened
+    → map (λ (q : Vec Move A). q.items) groups ≡ groups_of n.table.kinds routers (channels_of n.table) → IsOpenedNetwork n.table n.replies depth opened
     → IsSimulated t ps queues groups opened reached flits 1000000 watch extent → length flits ≡ channels_of n.table → IsEnding reached ending
     → bs ≡ watch.fates.begun.items → ds ≡ watch.fates.delivered.items → fs ≡ flits → ws ≡ watch.waited.items
     → text ≡ report_text packets (λ k. slice_index_or bs k None) (λ k. slice_index_or ds k None) (slice_index fs) (slice_index ws) (length fs) (end_line extent ending)

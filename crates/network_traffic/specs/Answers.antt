@@ -13,7 +13,7 @@ use Rattle.network_judge.specs.Verdicts.{IsFirstFault}
 use Rattle.network_machine.specs.declared.moves.Ending.{Ending}
 use Rattle.network_machine.specs.declared.moves.Ending.TheVariants as ending
 use Rattle.network_machine.specs.declared.moves.Move.{Move}
-use Rattle.network_machine.specs.Machine.{NetworkMachineSpec, IsOpened}
+use Rattle.network_machine.specs.Machine.{NetworkMachineSpec, IsOpenedNetwork}
 use Rattle.network_machine.specs.Endings.{IsEnding}
 use Rattle.network_rounds.specs.declared.senders.Timed.{Timed}
 use Rattle.network_rounds.specs.declared.reading.Traffic.{Traffic}
@@ -64,7 +64,7 @@ pub record IsSimulationText (A : Type 0) (n : NetworkSpec) (depth : ℕ) (packet
   pub grouped : map (λ group. group.items) groups
       ≡ groups_of n.table.kinds routers (channels_of n.table)
   pub opened : NetworkMachineSpec
-  pub opens : IsOpened n.table n.replies depth opened
+  pub opens : IsOpenedNetwork n.table n.replies depth opened
   pub reached : NetworkMachineSpec
   pub begun : List ℕ
   pub flits : List ℕ

@@ -31,15 +31,15 @@ ends_behind queues (made ∷ before) = length made == 0
     && not (some_later queues (λ x. begun_in x (made ∷ before)) (length before + 1))
 
 -- it is not, behind any of some rounds
-abbrev pub GoesOn : {A : Type 0} → List (Vec Timed A) → List (List Move) → Type 0
-GoesOn queues [] = Unit {0}
-GoesOn queues (made ∷ before) =
-    (ends_behind queues (made ∷ before) ≡ false) × GoesOn queues before
+abbrev pub GoesOnSimulating : {A : Type 0} → List (Vec Timed A) → List (List Move) → Type 0
+GoesOnSimulating queues [] = Unit {0}
+GoesOnSimulating queues (made ∷ before) =
+    (ends_behind queues (made ∷ before) ≡ false) × GoesOnSimulating queues before
 
 -- the same, but for the last one
 abbrev pub GoesOnBefore : {A : Type 0} → List (Vec Timed A) → List (List Move) → Type 0
 GoesOnBefore queues [] = Unit {0}
-GoesOnBefore queues (made ∷ before) = GoesOn queues before
+GoesOnBefore queues (made ∷ before) = GoesOnSimulating queues before
 
 -- the last round that makes a move, 0 if none does
 abbrev pub last_moving : List (List Move) → ℕ

@@ -5,3 +5,16 @@ pub mod Rows
 pub mod OneOrder
 pub mod Events
 pub mod Consequences
+pub mod Scripts
+pub mod Homes
+pub mod Following
+pub mod Inside
+pub mod ProcessorRecord
+pub mod ProcessorTable
+pub mod Load
+pub mod Flight
+pub mod Courses
+pub mod AbstractScripts
+pub mod EventBook
+pub mod Room
+pub mod Reported

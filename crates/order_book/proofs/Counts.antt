@@ -5,13 +5,13 @@ use Rattle.std.specs.Prelude.{sum_by}
 use Rattle.std.proofs.lemmas.List.{get_or-map, get_or-replicate, get_or_past, length-map, length-replicate}
 use Rattle.std.proofs.lemmas.List.Sums.{sum_by-cons, sum_by_more, sum_by-take-le}
 use Rattle.std.proofs.lemmas.Bool.{cases_eq, cases_lt}
-use Rattle.script.specs.declared.line.Line.{Line}
-use Rattle.script.specs.declared.lists.LineList.{LineList}
-use Rattle.script.specs.Scripts.{operations_of, operation_count, script_of, total_count}
-use Rattle.script.specs.ScriptViews.{lists_of}
-use Rattle.script_follower.specs.Scripts.{address_of}
-use Rattle.order_abstract.specs.Room.{home_room}
-use Rattle.script_follower.specs.Homes.{is_home, line_home_count, script_home_count}
+use Rattle.script_lines.specs.declared.line.Line.{Line}
+use Rattle.script_lines.specs.declared.lists.LineList.{LineList}
+use Rattle.script_lines.specs.Lines.{operations_of, operation_count, script_of, total_count}
+use Rattle.script_lines.specs.Views.{lists_of}
+use Rattle.one_order.specs.Scripts.{address_of}
+use Rattle.one_order.specs.Room.{home_room}
+use Rattle.one_order.specs.Homes.{is_home, line_home_count, script_home_count}
 
 -- one line more
 pub count_more : (lines : List Line) (i : ℕ) (d : Line) → i < length lines

@@ -5,7 +5,7 @@ use Rattle.std.proofs.lemmas.Option.{get_or_from_slice_get, slice_get-get_or}
 use Rattle.one_order.specs.declared.ordered.Ordered.{Ordered}
 use Rattle.one_order.specs.Observed.{list_at}
 use Rattle.one_order.specs.Events.{push_at}
-use Rattle.order_abstract.specs.EventBook.{EventBook, new_row, noted_service}
+use Rattle.one_order.specs.EventBook.{EventBook, new_row, noted_service}
 use Rattle.order_book.specs.declared.book.EventBook.TheInside.{Inside}
 use Rattle.order_book.specs.Inside.{book_of}
 use Rattle.order_book.proofs.Lists.{shown_at, pushed}

@@ -1,6 +1,6 @@
 -- What the fields of a book of events stand for.
 use Rattle.std.specs.Prelude.{map, vec_capacity}
-use Rattle.order_abstract.specs.EventBook.{EventBook}
+use Rattle.one_order.specs.EventBook.{EventBook}
 use Rattle.order_book.specs.declared.book.EventBook.TheInside.{Inside}
 use Rattle.order_book.specs.RoomyBook.{RoomyBook}
 

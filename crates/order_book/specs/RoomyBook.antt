@@ -1,6 +1,6 @@
 -- A book of events with the room that is reserved for it.
 use Rattle.std.specs.Prelude.{◌≡◌, ℕ, ◌≤◌, List, length, slice_index}
-use Rattle.order_abstract.specs.EventBook.{EventBook}
+use Rattle.one_order.specs.EventBook.{EventBook}
 
 -- a book, and for how many numbers each of its lists has room: the issues of each processor, the
 -- positions of each bank, and the rows (this project's own format)

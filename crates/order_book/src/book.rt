@@ -1,7 +1,7 @@
 ghost use Rattle.std.specs.Prelude.{◌≡◌, ℕ, ◌<◌, ◌≤◌, List, [], ◌∷◌, ◌++◌, Some, IfOk, length, map, replicate};
 ghost use Rattle.std.specs.Prelude.{slice_get, slice_index, vec_len, vec_capacity, OnOk};
 ghost use Rattle.one_order.specs.Observed.{list_at};
-ghost use Rattle.order_abstract.specs.EventBook.{first_book, noted_issue, noted_service, noted_answer, row_at};
+ghost use Rattle.one_order.specs.EventBook.{first_book, noted_issue, noted_service, noted_answer, row_at};
 ghost use Rattle.order_book.specs.RoomyBook.{KeepsRoom};
 
 use one_order::Ordered;

@@ -11,7 +11,7 @@ use Rattle.model_records.specs.Answers.{IsAnswerToLines, IsNoAnswerToLines}
 use Rattle.report_model.specs.declared.answer.NoReportAnswer.{NoReportAnswer}
 use Rattle.report_model.specs.declared.answer.NoReportAnswer.TheVariants.{Bad, NoOrder, Unjudged, Memory}
 use Rattle.report_model.specs.Answers.{HasNoRunAnswer, IsAnswerToReport, IsAnswerToRun, IsNoAnswerToReport, IsNoAnswerToRun}
-use Rattle.report_model.specs.Run.{RunSpec, report_run_of}
+use Rattle.report_model.specs.Run.{ModelledRun, report_run_of}
 
 -- the same answer, of the same words and entries
 pub answer_to_same : {A : Type 0} (words told : ℕ) (entries given : List LineEntry) (options : Options) (a : Answer A) → told ≡ words → given ≡ entries
@@ -27,25 +27,25 @@ none_to_same words told entries given why words_are entries_are is =
     (subst (λ (w : ℕ). IsNoAnswerToLines w given why) words_are is)
 
 -- the answer on a report, by that on its run
-pub answer_of_report : {A : Type 0} (text : List ℕ) (lines : List ReportLine) (r : RunSpec) (options : Options) (a : Answer A) → text ≡ text_of lines
+pub answer_of_report : {A : Type 0} (text : List ℕ) (lines : List ReportLine) (r : ModelledRun) (options : Options) (a : Answer A) → text ≡ text_of lines
     → AreGood lines → r ≡ report_run_of lines → IsAnswerToRun r options a → IsAnswerToReport text options a
 answer_of_report text lines r options a printed good same is = record {
   lines = lines;
   printed = printed;
   good = good;
-  is = subst (λ (s : RunSpec). IsAnswerToRun s options a) same is;
+  is = subst (λ (s : ModelledRun). IsAnswerToRun s options a) same is;
 }
 
-none_on_lines : (text : List ℕ) (lines : List ReportLine) (r : RunSpec) (why : NoReportAnswer) → text ≡ text_of lines → AreGood lines
+none_on_lines : (text : List ℕ) (lines : List ReportLine) (r : ModelledRun) (why : NoReportAnswer) → text ≡ text_of lines → AreGood lines
     → r ≡ report_run_of lines → IsNoAnswerToRun r why → HasNoRunAnswer text why
 none_on_lines text lines r why printed good same is = record {
   lines = lines;
   printed = printed;
   good = good;
-  is = subst (λ (s : RunSpec). IsNoAnswerToRun s why) same is;
+  is = subst (λ (s : ModelledRun). IsNoAnswerToRun s why) same is;
 }
 
-pub none_of_report : (text : List ℕ) (lines : List ReportLine) (r : RunSpec) (why : NoReportAnswer) → text ≡ text_of lines → AreGood lines
+pub none_of_report : (text : List ℕ) (lines : List ReportLine) (r : ModelledRun) (why : NoReportAnswer) → text ≡ text_of lines → AreGood lines
     → r ≡ report_run_of lines → IsNoAnswerToRun r why → IsNoAnswerToReport text why
 none_of_report text lines r (Bad line) printed good same is = absurd is
 none_of_report text lines r (NoOrder line) printed good same is = none_on_lines text lines r (NoOrder line) printed good same is

@@ -1,8 +1,8 @@
 -- The answer on a good report with the fences of its scripts, part by part.
 use Rattle.std.proofs.Common.{◌≡◌, ◌⊎◌, ◌∙◌, ℕ, List, false, sym, ap, subst, inl, inr}
 use Rattle.torus.specs.Shape.{tiles_of}
-use Rattle.script.specs.Machine.{MachineSpec}
-use Rattle.script.specs.Scripts.{ScriptsSpec}
+use Rattle.script_lines.specs.Machine.{MachineSpec}
+use Rattle.script_lines.specs.Lines.{ScriptsSpec}
 use Rattle.report_lines.specs.Line.{text_of}
 use Rattle.report_lines.specs.declared.line.ReportLine.{ReportLine}
 use Rattle.report_check.specs.Good.{AreGood}
@@ -21,10 +21,10 @@ use Rattle.report_model.specs.Answers.{lacks_order, programs_run}
 use Rattle.report_model.specs.Entries.{entries_with}
 use Rattle.report_model.specs.Programs.{AreAllScripted, IsUnscriptedAmong, programs_of}
 use Rattle.report_model.specs.Rows.{made_of, rows_of}
-use Rattle.report_model.specs.Run.{RunSpec, report_run_of}
+use Rattle.report_model.specs.Run.{ModelledRun, report_run_of}
 use Rattle.report_model.proofs.Answered.{answer_to_same, none_to_same}
 
-module _ (machine : MachineSpec) (scripts : ScriptsSpec) (r : RunSpec) (made : List ReportRow) (tiles : ℕ) (ordered : lacks_order r ≡ false)
+module _ (machine : MachineSpec) (scripts : ScriptsSpec) (r : ModelledRun) (made : List ReportRow) (tiles : ℕ) (ordered : lacks_order r ≡ false)
     (run : IsRunOf machine scripts r) (made_are : made ≡ made_of (rows_of r)) (tiles_are : tiles ≡ tiles_of machine.shape) where
   scripted_run : AreAllScripted scripts.lists made tiles → AreAllScripted scripts.lists (made_of (rows_of r)) (tiles_of machine.shape)
   scripted_run is =
@@ -79,7 +79,7 @@ module _ (machine : MachineSpec) (scripts : ScriptsSpec) (r : RunSpec) (made : L
   ]
 
 -- what is so of what the lines of a good report say
-pub on_good_report : (IsSo : RunSpec → Type 0) (text : List ℕ) (lines : List ReportLine) (r : RunSpec) → text ≡ text_of lines → AreGood lines
+pub on_good_report : (IsSo : ModelledRun → Type 0) (text : List ℕ) (lines : List ReportLine) (r : ModelledRun) → text ≡ text_of lines → AreGood lines
     → r ≡ report_run_of lines → IsSo r → IsGoodReportWith text IsSo
 on_good_report IsSo text lines r printed good same is = record {
   lines = lines;
@@ -88,7 +88,7 @@ on_good_report IsSo text lines r printed good same is = record {
   is = subst IsSo same is;
 }
 
-pub none_with : (machine : MachineSpec) (scripts : ScriptsSpec) (text : List ℕ) (lines : List ReportLine) (r : RunSpec) (why : NoTextsAnswer)
+pub none_with : (machine : MachineSpec) (scripts : ScriptsSpec) (text : List ℕ) (lines : List ReportLine) (r : ModelledRun) (why : NoTextsAnswer)
     → text ≡ text_of lines → AreGood lines → r ≡ report_run_of lines → IsNoAnswerWithFences machine scripts r why
     → IsNoAnswerToReportOf machine scripts text why
 none_with machine scripts text lines r (Report (Bad line)) printed good same is = absurd is

@@ -14,16 +14,16 @@ use Rattle.report_lines.proofs.Joined.{line_some}
 use Rattle.report_lines.proofs.LinesFound.{read_of}
 use Rattle.report_check.specs.Good.{AllStand}
 use Rattle.report_check.specs.Seen.{Seen, seen_after}
-use Rattle.report_model.specs.Run.{RunSpec, nothing_run, run_after, report_run_of}
+use Rattle.report_model.specs.Run.{ModelledRun, nothing_run, run_after, report_run_of}
 
 -- the lines that were read fit, and the rest is left
-pub record ReadTo (text rest : List ℕ) (r : RunSpec) : Type 0 where
+pub record ReadTo (text rest : List ℕ) (r : ModelledRun) : Type 0 where
   pub lines : List ReportLine
   pub printed : text ≡ text_of lines ++ rest
   pub fits : AllByRecursion FitsLine lines
   pub run : r ≡ report_run_of lines
 
-pub read_start : (text : List ℕ) (r : RunSpec) → r ≡ nothing_run → ReadTo text text r
+pub read_start : (text : List ℕ) (r : ModelledRun) → r ≡ nothing_run → ReadTo text text r
 read_start text r none = record { lines = []; printed = refl; fits = tt; run = none }
 
 fits_push : (lines : List ReportLine) (line : ReportLine) → AllByRecursion FitsLine lines → FitsLine line → AllByRecursion FitsLine (lines ++ line ∷ [])
@@ -36,17 +36,17 @@ text_of_push lines line rest =
     ∙ append_assoc (text_of lines) (line_text line) rest
 
 -- one line more
-pub read_more : (text rest more : List ℕ) (r new : RunSpec) (line : ReportLine) → ReadTo text rest r → rest ≡ line_text line ++ more → FitsLine line
+pub read_more : (text rest more : List ℕ) (r new : ModelledRun) (line : ReportLine) → ReadTo text rest r → rest ≡ line_text line ++ more → FitsLine line
     → new ≡ run_after r line → ReadTo text more new
 read_more text rest more r new line p cut fits taken = record {
   lines = p.lines ++ line ∷ [];
   printed = p.printed ∙ ap (λ (t : List ℕ). text_of p.lines ++ t) cut ∙ sym (text_of_push p.lines line more);
   fits = fits_push p.lines line p.fits fits;
-  run = taken ∙ ap (λ (z : RunSpec). run_after z line) p.run ∙ sym (fold_push run_after nothing_run p.lines line);
+  run = taken ∙ ap (λ (z : ModelledRun). run_after z line) p.run ∙ sym (fold_push run_after nothing_run p.lines line);
 }
 
 -- a line is counted
-pub one_line_more : (r : RunSpec) (line : ReportLine) → (run_after r line).count ≡ r.count + 1
+pub one_line_more : (r : ModelledRun) (line : ReportLine) → (run_after r line).count ≡ r.count + 1
 one_line_more r (Header version) = refl
 one_line_more r (Shape radices words) = refl
 one_line_more r (Init address word) = refl
@@ -82,7 +82,7 @@ one_reading (l ∷ lines) (m ∷ read) rest fits all none is =
     let left : text_of lines ≡ text_of read ++ rest = ap (λ (x : ReportLine × List ℕ). x.1) one in
     ap (λ (x : ReportLine). x ∷ lines) same ∙ ap (λ (x : List ReportLine). m ∷ x) (one_reading lines read rest fits.1 all.1 none left)
 
-pub all_read : (text rest : List ℕ) (r : RunSpec) → ReadTo text rest r → report_line_at rest ≡ None → (lines : List ReportLine)
+pub all_read : (text rest : List ℕ) (r : ModelledRun) → ReadTo text rest r → report_line_at rest ≡ None → (lines : List ReportLine)
     → AllByRecursion FitsLine lines → text ≡ text_of lines → r ≡ report_run_of lines
 all_read text rest r p none lines fits is =
     p.run ∙ ap report_run_of (sym (one_reading lines p.lines rest fits p.fits none (sym is ∙ p.printed)))

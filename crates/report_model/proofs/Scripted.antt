@@ -3,11 +3,11 @@ use Rattle.std.proofs.Common.{◌≡◌, ℕ, zero, suc, ◌+◌, ◌<◌, ◌�
 use Rattle.std.specs.Prelude.{◌||◌, if◌then◌else◌, Option}
 use Rattle.std.proofs.lemmas.Option.{get_or_from_slice_get}
 use Rattle.packet.specs.declared.kinds.Reply.{Reply}
-use Rattle.script.specs.declared.line.Line.{Line}
-use Rattle.script.specs.declared.line.Line.TheVariants.{Load, Store, Swap, Cas, Add, And, Or, Xor, Max, Min, Fence, Spin}
-use Rattle.script.specs.Scripts.{operations_of, AreAcceptedScripts, ScriptsSpec, script_of}
-use Rattle.script_follower.specs.declared.spin.OpenSpin.{OpenSpin}
-use Rattle.script_follower.specs.Following.{Following, follower_with, is_finished, left_of}
+use Rattle.script_lines.specs.declared.line.Line.{Line}
+use Rattle.script_lines.specs.declared.line.Line.TheVariants.{Load, Store, Swap, Cas, Add, And, Or, Xor, Max, Min, Fence, Spin}
+use Rattle.script_lines.specs.Lines.{operations_of, AreAcceptedScripts, ScriptsSpec, script_of}
+use Rattle.one_order.specs.declared.spin.OpenSpin.{OpenSpin}
+use Rattle.one_order.specs.Following.{Following, follower_with, is_finished, left_of}
 use Rattle.report_model.specs.Programs.{AreSpinsShort, Standing, handed, is_fence}
 
 slice_get_is : {X : Type 0} (xs : List X) (k : ℕ) (d : X) → k < length xs → slice_get xs k ≡ Some (slice_index_or xs k d)

@@ -7,9 +7,9 @@ use Rattle.std.proofs.lemmas.Grind.{flat_map-append}
 use Rattle.std.specs.List.{flat_map, range_with_len}
 use Rattle.std.proofs.lemmas.List.Sums.{count_by-le-length, fold_push, length-filter}
 use Rattle.packet.specs.declared.kinds.Reply.{Reply}
-use Rattle.script.specs.declared.line.Line.{Line}
-use Rattle.script.specs.Scripts.{script_of}
-use Rattle.script_follower.specs.Following.{Following, after_answer, after_issue, first_of, last_answered, next_operation_of, other_answered}
+use Rattle.script_lines.specs.declared.line.Line.{Line}
+use Rattle.script_lines.specs.Lines.{script_of}
+use Rattle.one_order.specs.Following.{Following, after_answer, after_issue, first_of, last_answered, next_operation_of, other_answered}
 use Rattle.report_model.specs.declared.answer.NoTextsAnswer.{NoTextsAnswer}
 use Rattle.report_model.specs.declared.row.ProgramStep.{ProgramStep}
 use Rattle.report_model.specs.declared.row.ReportRow.{ReportRow}

@@ -1,8 +1,8 @@
 -- The answer to the question which memory models a report obeys.
 use Rattle.std.specs.Prelude.{◌≡◌, ◌==◌, ◌&&◌, ℕ, Bool, true, false, not, List, Some, length}
 use Rattle.torus.specs.Shape.{tiles_of}
-use Rattle.script.specs.Machine.{MachineSpec}
-use Rattle.script.specs.Scripts.{Fit, ScriptsSpec}
+use Rattle.script_lines.specs.Machine.{MachineSpec}
+use Rattle.script_lines.specs.Lines.{Fit, ScriptsSpec}
 use Rattle.report_lines.specs.Contents.{radices_of}
 use Rattle.report_lines.specs.Line.{text_of}
 use Rattle.report_lines.specs.declared.line.ReportLine.{ReportLine}
@@ -20,28 +20,28 @@ use Rattle.report_model.specs.declared.row.ProgramStep.{ProgramStep}
 use Rattle.report_model.specs.Entries.{entries_of, entries_with}
 use Rattle.report_model.specs.Programs.{AreAllScripted, IsUnscriptedAmong, programs_of}
 use Rattle.report_model.specs.Rows.{made_of, rows_of}
-use Rattle.report_model.specs.Run.{RunSpec, report_run_of}
+use Rattle.report_model.specs.Run.{ModelledRun, report_run_of}
 
 -- whether there are entries, but no order lines
-abbrev pub lacks_order : RunSpec → Bool
+abbrev pub lacks_order : ModelledRun → Bool
 lacks_order r = not (length r.entries == 0) && (length r.orders == 0)
 
 -- the answer on what a report says of its run: that on the log that its operations are
-pub record IsAnswerToRun {A : Type 0} (r : RunSpec) (options : Options) (a : Answer A) : Type 0
+pub record IsAnswerToRun {A : Type 0} (r : ModelledRun) (options : Options) (a : Answer A) : Type 0
   where
     pub ordered : lacks_order r ≡ false
     pub is : IsAnswerToLines r.words (entries_of r) options a
 
 -- why there is none: the order lines are missing behind the last line, or there is none on the log, or
 -- memory was refused
-abbrev pub IsNoAnswerToRun : RunSpec → NoReportAnswer → Type 0
+abbrev pub IsNoAnswerToRun : ModelledRun → NoReportAnswer → Type 0
 IsNoAnswerToRun r (Bad line) = ⊥
 IsNoAnswerToRun r (NoOrder line) = (lacks_order r ≡ true) × (line ≡ r.count)
 IsNoAnswerToRun r (Unjudged why) = IsNoAnswerToLines r.words (entries_of r) why
 IsNoAnswerToRun r Memory = Unit {0}
 
 -- a text is a good report, and this is so of what its lines say
-pub record IsGoodReportWith (text : List ℕ) (IsSo : RunSpec → Type 0) : Type 0 where
+pub record IsGoodReportWith (text : List ℕ) (IsSo : ModelledRun → Type 0) : Type 0 where
   pub lines : List ReportLine
   pub printed : text ≡ text_of lines
   pub good : AreGood lines
@@ -64,7 +64,7 @@ IsNoAnswerToReport text (Unjudged why) = HasNoRunAnswer text (Unjudged why)
 IsNoAnswerToReport text Memory = Unit {0}
 
 -- scripts are those of a machine, which has the shape and the number of words of a run
-pub record IsRunOf (machine : MachineSpec) (scripts : ScriptsSpec) (r : RunSpec) : Type 0 where
+pub record IsRunOf (machine : MachineSpec) (scripts : ScriptsSpec) (r : ModelledRun) : Type 0 where
   pub fit : Fit scripts machine
   pub radices : r.radices ≡ Some (radices_of machine.shape.radices)
   pub words : r.words ≡ length machine.opening
@@ -72,15 +72,15 @@ pub record IsRunOf (machine : MachineSpec) (scripts : ScriptsSpec) (r : RunSpec)
 -- a machine and its scripts
 module _ (machine : MachineSpec) (scripts : ScriptsSpec) where
   -- a run's operations are those that the scripts issue, each the next one of its processor
-  abbrev pub IsScripted : RunSpec → Type 0
+  abbrev pub IsScripted : ModelledRun → Type 0
   IsScripted r = AreAllScripted scripts.lists (made_of (rows_of r)) (tiles_of machine.shape)
 
   -- the programs of a run: the operations with the fences of the scripts
-  abbrev pub programs_run : RunSpec → List ProgramStep
+  abbrev pub programs_run : ModelledRun → List ProgramStep
   programs_run r = programs_of scripts.lists (made_of (rows_of r)) (tiles_of machine.shape)
 
   -- the answer on the log of a run with the fences of the scripts that were run
-  pub record IsAnswerWithFences {A : Type 0} (r : RunSpec) (options : Options) (a : Answer A) : Type 0
+  pub record IsAnswerWithFences {A : Type 0} (r : ModelledRun) (options : Options) (a : Answer A) : Type 0
     where
       pub ordered : lacks_order r ≡ false
       pub run : IsRunOf machine scripts r
@@ -88,7 +88,7 @@ module _ (machine : MachineSpec) (scripts : ScriptsSpec) where
       pub is : IsAnswerToLines r.words (entries_with r (programs_run r)) options a
 
   -- there is none on that log
-  pub record IsUnjudgedWithFences (r : RunSpec) (why : NoAnswer) : Type 0 where
+  pub record IsUnjudgedWithFences (r : ModelledRun) (why : NoAnswer) : Type 0 where
     pub ordered : lacks_order r ≡ false
     pub run : IsRunOf machine scripts r
     pub scripted : IsScripted r
@@ -96,7 +96,7 @@ module _ (machine : MachineSpec) (scripts : ScriptsSpec) where
 
   -- why there is none: as without scripts; or the run is of another machine, told at the line of its
   -- shape; or it has an operation that the scripts don't issue there
-  abbrev pub IsNoAnswerWithFences : RunSpec → NoTextsAnswer → Type 0
+  abbrev pub IsNoAnswerWithFences : ModelledRun → NoTextsAnswer → Type 0
   IsNoAnswerWithFences r (texts.Report (Bad line)) = ⊥
   IsNoAnswerWithFences r (texts.Report (NoOrder line)) =
       (lacks_order r ≡ true) × (line ≡ r.count)

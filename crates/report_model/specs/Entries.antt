@@ -11,7 +11,7 @@ use Rattle.report_model.specs.declared.row.ProgramStep.{ProgramStep}
 use Rattle.report_model.specs.declared.row.ReportRow.{ReportRow}
 use Rattle.report_model.specs.Indexes.{name_issued, operation_step}
 use Rattle.report_model.specs.Rows.{made_of, rows_of}
-use Rattle.report_model.specs.Run.{RunSpec}
+use Rattle.report_model.specs.Run.{ModelledRun}
 
 -- an operation or a fence is made
 abbrev pub made_entry : ProgramStep → LineEntry
@@ -37,14 +37,14 @@ services steps row = service_entries row (name_issued steps row.issued)
 -- the entries of a report as a log, where its processors' programs are these steps: the opening
 -- words, the programs, and the operations' services in the order of service, which is the order of
 -- each word
-abbrev pub entries_with : RunSpec → List ProgramStep → List LineEntry
+abbrev pub entries_with : ModelledRun → List ProgramStep → List LineEntry
 entries_with r steps =
     (r.inits ++ map made_entry steps) ++ flat_map (services steps) (rows_of r)
 
 -- the operations of a report in the order of issue, which is the program order of each processor
-abbrev pub steps_issued : RunSpec → List ProgramStep
+abbrev pub steps_issued : ModelledRun → List ProgramStep
 steps_issued r = map operation_step (made_of (rows_of r))
 
 -- the entries of a report as a log without fences
-abbrev pub entries_of : RunSpec → List LineEntry
+abbrev pub entries_of : ModelledRun → List LineEntry
 entries_of r = entries_with r (steps_issued r)

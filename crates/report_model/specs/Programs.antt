@@ -4,11 +4,11 @@ use Rattle.std.specs.Prelude.{◌≡◌, ◌≢◌, ℕ, ◌-◌, ◌<◌, ◌�
 use Rattle.std.specs.Prelude.{length, filter, fold, take, Some, slice_get, if◌then◌else◌}
 use Rattle.std.specs.List.{flat_map, range_with_len}
 use Rattle.packet.specs.declared.kinds.Reply.{Reply}
-use Rattle.script.specs.declared.line.Line.{Line}
-use Rattle.script.specs.declared.line.Line.TheVariants.{Fence, Spin}
-use Rattle.script.specs.Scripts.{script_of}
-use Rattle.script_follower.specs.Following.{Following, after_answer, after_issue, first_of}
-use Rattle.script_follower.specs.Following.{follower_with, is_finished, next_operation_of}
+use Rattle.script_lines.specs.declared.line.Line.{Line}
+use Rattle.script_lines.specs.declared.line.Line.TheVariants.{Fence, Spin}
+use Rattle.script_lines.specs.Lines.{script_of}
+use Rattle.one_order.specs.Following.{Following, after_answer, after_issue, first_of}
+use Rattle.one_order.specs.Following.{follower_with, is_finished, next_operation_of}
 use Rattle.report_model.specs.declared.answer.NoTextsAnswer.{NoTextsAnswer}
 use Rattle.report_model.specs.declared.answer.NoTextsAnswer.TheVariants.{OtherOperation}
 use Rattle.report_model.specs.declared.row.ProgramStep.{ProgramStep}

@@ -7,7 +7,7 @@ use Rattle.report_lines.specs.declared.line.OrderLine.{OrderLine}
 use Rattle.report_check.specs.Seen.{line_operation}
 use Rattle.report_model.specs.declared.row.ReportRow.{ReportRow}
 use Rattle.report_model.specs.declared.run.ServedLine.{ServedLine}
-use Rattle.report_model.specs.Run.{RunSpec}
+use Rattle.report_model.specs.Run.{ModelledRun}
 
 -- the bank and the place of an entry as one number: a bank has at most 65536 entries
 abbrev pub entry_key : ServedLine → ℕ
@@ -40,7 +40,7 @@ abbrev pub row_ordered : List ServedLine → OrderLine → Option ReportRow
 row_ordered entries o = option_map (λ s. report_row_of s o) (entry_ordered entries o)
 
 -- the operations by their services, in the order of the order lines
-abbrev pub rows_of : RunSpec → List ReportRow
+abbrev pub rows_of : ModelledRun → List ReportRow
 rows_of r = filter_map (row_ordered r.entries) r.orders
 
 -- the operation whose issue has a number

@@ -13,7 +13,7 @@ use Rattle.report_model.specs.declared.run.ServedLine.{ServedLine}
 
 -- how many lines there are, the radices and the number of words, the opening words, and the entries,
 -- each with its line, and the order lines
-pub record RunSpec : Type 0 where
+pub record ModelledRun : Type 0 where
   pub count : ℕ
   pub radices : Option Radices
   pub words : ℕ
@@ -22,12 +22,12 @@ pub record RunSpec : Type 0 where
   pub orders : List OrderLine
 
 -- before the first line
-abbrev pub nothing_run : RunSpec
+abbrev pub nothing_run : ModelledRun
 nothing_run =
     record { count = 0; radices = None; words = 0; inits = []; entries = []; orders = [] }
 
 -- with one more line
-abbrev pub run_after : RunSpec → ReportLine → RunSpec
+abbrev pub run_after : ModelledRun → ReportLine → ModelledRun
 run_after r (Header version) = record r { count = r.count + 1 }
 run_after r (Shape radices words) =
     record r { count = r.count + 1; radices = Some radices; words = words }
@@ -45,11 +45,11 @@ run_after r (Order o) = record r { count = r.count + 1; orders = r.orders ++ o �
 run_after r (End complete) = record r { count = r.count + 1 }
 
 -- what the lines of a report say
-abbrev pub report_run_of : List ReportLine → RunSpec
+abbrev pub report_run_of : List ReportLine → ModelledRun
 report_run_of lines = fold run_after nothing_run lines
 
 -- the same of what the program keeps
-abbrev pub run_seen : {A : Type 0} → RunLines A → RunSpec
+abbrev pub run_seen : {A : Type 0} → RunLines A → ModelledRun
 run_seen r = record {
   count = r.count;
   radices = r.radices;

@@ -1,7 +1,7 @@
 //! The programs of a report's processors by their scripts.
 
 ghost use Rattle.std.specs.Prelude.{◌≡◌, ◌⊎◌, ◌*◌, ◌++◌, ◌≤◌, IfErr, IfOk, OnOk, [], ◌∷◌, length, if◌then◌else◌};
-ghost use Rattle.script.specs.Scripts.{script_of};
+ghost use Rattle.script_lines.specs.Lines.{script_of};
 ghost use Rattle.report_model.specs.Indexes.{fence_before, operation_step};
 ghost use Rattle.report_model.specs.Programs.{AreAllScripted, AreScripted, AreSpinsShort, IsUnscripted};
 ghost use Rattle.report_model.specs.Programs.{IsUnscriptedAmong, operations_by, programs_of, walk_over};
@@ -9,8 +9,8 @@ ghost use Rattle.report_model.specs.Programs.{IsUnscriptedAmong, operations_by, 
 use crate::answer::{NoReportAnswer, NoTextsAnswer};
 use crate::row::{ProgramStep, ReportRow, fence_before, operation_step, row_at};
 use crate::standing::{hand, is_next, lines_passed};
+use one_order::Follower;
 use script::{Line, Scripts};
-use script_follower::Follower;
 use std::alloc::{AllocError, Allocator};
 
 /// Memory was refused.

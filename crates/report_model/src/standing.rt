@@ -1,12 +1,12 @@
 //! Where a processor stands in its script.
 
 ghost use Rattle.std.specs.Prelude.{◌≡◌, ◌≢◌, ◌-◌, ◌≤◌, IfOk, OnOk, Some, true, false, drop, length, if◌then◌else◌};
-ghost use Rattle.script_follower.specs.Following.{is_finished, next_operation_of};
+ghost use Rattle.one_order.specs.Following.{is_finished, next_operation_of};
 ghost use Rattle.report_model.specs.Programs.{AreSpinsShort, handed, is_fence};
 
+use one_order::Follower;
 use packet::Operation;
 use script::Line;
-use script_follower::Follower;
 use std::alloc::{AllocError, Allocator};
 
 /// How far a script is handed to its follower.

@@ -9,12 +9,12 @@ use Rattle.std.proofs.lemmas.List.FromFn.{get_or-map-range_with_len, length-map-
 use Rattle.torus.specs.Shape.{tiles_of}
 use Rattle.torus.specs.declared.step.Step.{Step}
 use Rattle.script.specs.declared.fault.LineFault.{LineFault}
-use Rattle.order_abstract.specs.Load.{Load}
-use Rattle.order_abstract.specs.Scripts.{AreFinished}
+use Rattle.one_order.specs.Load.{Load}
+use Rattle.one_order.specs.AbstractScripts.{AreFinished}
 use Rattle.core_laws.specs.Core.{after, records_of, run_of}
 use Rattle.core_laws.specs.Runs.{IsAcceptedLoad}
-use Rattle.core_machine.specs.Machine.{Core, IsAfter, all_finished, core_after, core_after_load, shown}
-use Rattle.core_machine.specs.Reported.{ReportsWell}
+use Rattle.core_laws.specs.Machine.{Core, IsAfter, all_finished, core_after, core_after_load, shown}
+use Rattle.core_laws.specs.Reported.{ReportsWell}
 use Rattle.history.specs.Ended.{AreAllFinished}
 use Rattle.history.specs.Groups.{GroupGoesOn, Owns}
 use Rattle.history.specs.Known.{known}

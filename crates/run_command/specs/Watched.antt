@@ -3,8 +3,8 @@ use Rattle.std.specs.Prelude.{◌≡◌, ℕ, ◌<◌, List, [], Bool, Result, O
 use Rattle.torus.specs.Shape.{tiles_of}
 use Rattle.torus.specs.declared.step.Step.{Step}
 use Rattle.script.specs.declared.fault.LineFault.{LineFault}
-use Rattle.order_abstract.specs.Load.{Load}
-use Rattle.core_machine.specs.Machine.{core_after_load}
+use Rattle.one_order.specs.Load.{Load}
+use Rattle.core_laws.specs.Machine.{core_after_load}
 use Rattle.history.specs.Seats.{Knowing}
 use Rattle.worker_run.specs.Calls.{Call}
 use Rattle.worker_run.specs.Watching.{AreCallsOfRun}

@@ -5,10 +5,10 @@ use Rattle.std.specs.Prelude.{IsTrue, ◌↔◌}
 use Rattle.torus.specs.Shape.{tiles_of}
 use Rattle.torus.specs.declared.step.Step.{Step}
 use Rattle.script.specs.declared.fault.LineFault.{LineFault}
-use Rattle.order_abstract.specs.Load.{Load}
-use Rattle.order_abstract.specs.Scripts.{AreFinished}
+use Rattle.one_order.specs.Load.{Load}
+use Rattle.one_order.specs.AbstractScripts.{AreFinished}
 use Rattle.core_laws.specs.Core.{after, run_of}
-use Rattle.core_machine.specs.Machine.{IsLawful, all_finished, book_after, core_after_load}
+use Rattle.core_laws.specs.Machine.{IsLawful, all_finished, book_after, core_after_load}
 use Rattle.history.specs.Ended.{AreAllFinished}
 use Rattle.history.specs.Groups.{GroupGoesOn, Owns}
 use Rattle.history.specs.Ending.{Ended}

@@ -3,8 +3,8 @@ ghost use Rattle.std.specs.List.{range_with_len};
 ghost use Rattle.std.specs.Str.Lines.{lines};
 ghost use Rattle.torus.specs.Shape.{tiles_of};
 ghost use Rattle.torus.specs.declared.fault.Fault.TheVariants as fault;
-ghost use Rattle.order_abstract.specs.Load.{Load};
-ghost use Rattle.core_machine.specs.Machine.{IsAfter};
+ghost use Rattle.one_order.specs.Load.{Load};
+ghost use Rattle.core_laws.specs.Machine.{IsAfter};
 ghost use Rattle.machine_core.specs.Loading.{load_by};
 ghost use Rattle.history.specs.Opening.{fresh};
 ghost use Rattle.history.specs.Seats.{IsSeatOf};
@@ -21,7 +21,7 @@ ghost use Rattle.run_command.specs.Watched.{HearsWorkers, TellsWorkers};
 use arrayvec::ArrayVec;
 use commands::in_rounds::loaded;
 use commands::{Ending, Silent};
-use core_machine::laws::{
+use core_laws::machine_laws::{
     ended_followers_finish_scripts, steps_decide_the_machine, steps_lead_on,
     steps_lead_to_a_machine,
 };

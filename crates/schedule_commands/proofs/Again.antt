@@ -7,7 +7,7 @@ use Rattle.std.proofs.lemmas.List.Elements.{All-nil, All-cons, All-head, All-tai
 use Rattle.torus.specs.declared.step.Step.{Step}
 use Rattle.torus.specs.Shape.{Shape, IsAccepted, tiles_of, dims_of}
 use Rattle.lexer.specs.Words.{words_of as cut}
-use Rattle.script.specs.Machine.{MachineSpec}
+use Rattle.script_lines.specs.Machine.{MachineSpec}
 use Rattle.script.specs.Outcome.{by_fault}
 use Rattle.script.specs.Reasons.{fault_of}
 use Rattle.script.specs.Steps.{after_words, steps_from, steps_of}

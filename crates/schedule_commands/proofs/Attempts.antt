@@ -4,10 +4,10 @@ use Rattle.torus.specs.declared.step.Step.{Step}
 use Rattle.torus.specs.declared.step.Stepped.{Stepped}
 use Rattle.torus.specs.declared.step.Stepped.TheVariants.{Moved, Idle}
 use Rattle.core_laws.specs.Core.{State, step}
-use Rattle.core_machine.specs.Machine.{Core, built_to, machine_told, core_next, core_after}
-use Rattle.core_machine.specs.Enabled.{ahead_if_moved}
-use Rattle.core_machine.specs.Moves.{moves_from}
-use Rattle.core_machine.proofs.StepLists.{machine_joined}
+use Rattle.core_laws.specs.Machine.{Core, built_to, machine_told, core_next, core_after}
+use Rattle.core_laws.specs.Enabled.{ahead_if_moved}
+use Rattle.core_laws.specs.MachineMoves.{moves_from}
+use Rattle.core_laws.proofs.StepLists.{machine_joined}
 use Rattle.program_fault.specs.Done.{Output, TookAll, TookFront}
 use Rattle.schedule_commands.specs.declared.line.ScheduleLine.{ScheduleLine}
 use Rattle.schedule_commands.specs.Line.{text_of}

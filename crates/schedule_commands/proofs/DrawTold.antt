@@ -5,14 +5,14 @@ use Rattle.std.specs.Str.Lines.{lines}
 use Rattle.torus.specs.declared.step.Step.{Step}
 use Rattle.script.specs.declared.fault.LineFault.{LineFault}
 use Rattle.script.specs.Steps.{steps_of}
-use Rattle.order_abstract.specs.Load.{Load}
-use Rattle.core_progress.specs.Moves.{most_moves}
+use Rattle.one_order.specs.Load.{Load}
+use Rattle.core_laws.specs.ProgressMoves.{most_moves}
 use Rattle.machine_core.specs.Loading.{HasLoaded}
-use Rattle.core_machine.specs.Machine.{Core, IsAfter, all_finished, core_after, core_after_load}
-use Rattle.core_machine.proofs.Machines.{named_machine, after_steps}
-use Rattle.core_machine.proofs.Moves.{all_moves}
-use Rattle.core_machine.specs.Moves.{AreMoves, moves_of}
-use Rattle.core_machine.proofs.StepLists.{load_enabled, load_few}
+use Rattle.core_laws.specs.Machine.{Core, IsAfter, all_finished, core_after, core_after_load}
+use Rattle.core_laws.proofs.Machines.{named_machine, after_steps}
+use Rattle.core_laws.proofs.Moves.{all_moves}
+use Rattle.core_laws.specs.MachineMoves.{AreMoves, moves_of}
+use Rattle.core_laws.proofs.StepLists.{load_enabled, load_few}
 use Rattle.schedule_commands.specs.declared.line.ScheduleLine.TheVariants.{End, Move}
 use Rattle.schedule_commands.specs.Line.{line_text, text_of}
 use Rattle.schedule_commands.specs.Schedule.{moves_schedule}

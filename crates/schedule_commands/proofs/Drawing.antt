@@ -8,7 +8,7 @@ use Rattle.std.specs.Int.{from_bool}
 use Rattle.std.proofs.lemmas.List.Concat.{flat_map-append}
 use Rattle.torus.specs.declared.step.Step.{Step}
 use Rattle.core_laws.specs.Core.{round}
-use Rattle.core_machine.specs.Machine.{Core, core_next, core_after, all_finished}
+use Rattle.core_laws.specs.Machine.{Core, core_next, core_after, all_finished}
 use Rattle.machine_core.proofs.Rounds.{core_append}
 use Rattle.rand_xoshiro.specs.SplitMix64.{mix_u64}
 use Rattle.schedule_commands.specs.declared.line.ScheduleLine.{ScheduleLine}

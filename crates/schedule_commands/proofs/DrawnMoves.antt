@@ -5,16 +5,16 @@ use Rattle.std.specs.Prelude.{is_some}
 use Rattle.std.specs.List.{filter}
 use Rattle.std.proofs.lemmas.Option.{slice_get-get_or}
 use Rattle.torus.specs.declared.step.Step.{Step}
-use Rattle.core_progress.specs.Rounds.{if_enabled, first_enabled, moves_in, one_if_moved, or_same}
-use Rattle.order_abstract.specs.Load.{Load}
+use Rattle.core_laws.specs.Rounds.{if_enabled, first_enabled, moves_in, one_if_moved, or_same}
+use Rattle.one_order.specs.Load.{Load}
 use Rattle.core_laws.specs.Core.{State, step, round}
-use Rattle.core_progress.specs.Moves.{most_moves}
-use Rattle.core_machine.specs.Machine.{Core, IsAfter, built_to, core_next, core_after, all_finished}
-use Rattle.core_machine.proofs.Machines.{after_steps}
-use Rattle.core_machine.proofs.Moves.{lives, most_left}
-use Rattle.core_machine.specs.Enabled.{ahead_if_moved}
-use Rattle.core_machine.specs.Moves.{moves_of, moves_from}
-use Rattle.core_machine.proofs.StepLists.{load_few, machine_few, machine_further, machine_joined}
+use Rattle.core_laws.specs.ProgressMoves.{most_moves}
+use Rattle.core_laws.specs.Machine.{Core, IsAfter, built_to, core_next, core_after, all_finished}
+use Rattle.core_laws.proofs.Machines.{after_steps}
+use Rattle.core_laws.proofs.Moves.{lives, most_left}
+use Rattle.core_laws.specs.Enabled.{ahead_if_moved}
+use Rattle.core_laws.specs.MachineMoves.{moves_of, moves_from}
+use Rattle.core_laws.proofs.StepLists.{load_few, machine_few, machine_further, machine_joined}
 use Rattle.rand_xoshiro.specs.SplitMix64.{mix_u64}
 use Rattle.schedule_commands.specs.Drawn.{drawn_moves, drawn_of, enabled_now, move_then, unless_finished}
 

@@ -6,12 +6,12 @@ use Rattle.std.proofs.lemmas.Bool.{cases_lt}
 use Rattle.std.proofs.lemmas.List.Concat.{flat_map-append}
 use Rattle.std.proofs.lemmas.List.FromFn.{length-map-range_with_len, map-range_with_len_more}
 use Rattle.torus.specs.declared.step.Step.{Step}
-use Rattle.order_abstract.specs.Load.{Load}
-use Rattle.core_machine.specs.Machine.{Core, IsAfter, all_finished, core_after}
-use Rattle.core_machine.proofs.Machines.{named_machine, after_steps}
-use Rattle.core_machine.specs.Moves.{moves_from}
-use Rattle.clocked_laws.specs.Fewest.{AreFewestFrom, after_rounds_from, round_behind, rounds_from}
-use Rattle.clocked_laws.proofs.Rounds.{HasMade, busy_more, none_made, one_more as one_more_made, enough as enough_made, as_allowed as all_allowed}
+use Rattle.one_order.specs.Load.{Load}
+use Rattle.core_laws.specs.Machine.{Core, IsAfter, all_finished, core_after}
+use Rattle.core_laws.proofs.Machines.{named_machine, after_steps}
+use Rattle.core_laws.specs.MachineMoves.{moves_from}
+use Rattle.machine_core.specs.Fewest.{AreFewestFrom, after_rounds_from, round_behind, rounds_from}
+use Rattle.machine_core.proofs.LawsRounds.{HasMade, busy_more, none_made, one_more as one_more_made, enough as enough_made, as_allowed as all_allowed}
 use Rattle.schedule_commands.specs.declared.line.ScheduleLine.{ScheduleLine}
 use Rattle.schedule_commands.specs.Line.{line_text, text_of}
 use Rattle.schedule_commands.specs.Schedule.{round_lines, lines_of_rounds}

@@ -9,15 +9,15 @@ use Rattle.torus.specs.declared.step.Step.{Step}
 use Rattle.torus.specs.Shape.{tiles_of, dims_of}
 use Rattle.channel_number.specs.Ports.{port_count}
 use Rattle.flit_buffer.specs.Surroundings.{Surroundings}
-use Rattle.core_progress.specs.Rounds as rounds
+use Rattle.core_laws.specs.Rounds as rounds
 use Rattle.schedule_commands.specs.Schedule.{IsStepOf}
-use Rattle.tile_laws.specs.Tile.{Design, TileState}
-use Rattle.tile_laws.specs.Agents.{agent_kind, agent_tile}
-use Rattle.tile_laws.proofs.AgentNumbers.{number_of_agent, number_low}
+use Rattle.tile.specs.Tile.{Design, TileState}
+use Rattle.tile.specs.Agents.{agent_kind, agent_tile}
+use Rattle.tile.proofs.AgentNumbers.{number_of_agent, number_low}
 use Rattle.core_laws.specs.Core.{State, step}
 use Rattle.core_laws.proofs.AgentSteps.{option_map_some}
 use Rattle.core_laws.proofs.AgentChoices.{own_choice, numbered}
-use Rattle.core_machine.specs.Enabled.{ahead_if_moved, enabled_of}
+use Rattle.core_laws.specs.Enabled.{ahead_if_moved, enabled_of}
 
 module _ (d : Design) (s : State) (x : Step) (t : State) (is : step d s x ≡ Some t) where
   pub inside : agent_tile x.agent < length s.tiles

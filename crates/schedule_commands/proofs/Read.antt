@@ -1,10 +1,12 @@
 -- What three texts ask for.
 use Rattle.std.proofs.Common.{◌≡◌, ℕ, List, Ok, refl}
 use Rattle.torus.specs.declared.step.Step.{Step}
-use Rattle.script.specs.Machine.{MachineSpec, machine_of}
-use Rattle.script.specs.Scripts.{ScriptsSpec, scripts_of}
+use Rattle.script_lines.specs.Machine.{MachineSpec}
+use Rattle.script.specs.Machine.{machine_of}
+use Rattle.script_lines.specs.Lines.{ScriptsSpec}
+use Rattle.script.specs.Scripts.{scripts_of}
 use Rattle.script.specs.Steps.{steps_of}
-use Rattle.order_abstract.specs.Load.{load_of}
+use Rattle.one_order.specs.Load.{load_of}
 use Rattle.machine_core.specs.Run.{asked_of}
 
 -- all three are read

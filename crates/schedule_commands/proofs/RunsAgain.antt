@@ -6,16 +6,16 @@ use Rattle.std.proofs.lemmas.List.{length-map}
 use Rattle.std.proofs.lemmas.List.Elements.{All-nil, All-cons, All-head, All-tail, All-same}
 use Rattle.torus.specs.declared.step.Step.{Step}
 use Rattle.torus.specs.Shape.{Shape, tiles_of, dims_of, IsAccepted as IsAcceptedShape}
-use Rattle.script.specs.Machine.{MachineSpec}
+use Rattle.script_lines.specs.Machine.{MachineSpec}
 use Rattle.script.specs.Steps.{steps_of}
 use Rattle.schedule_commands.specs.Line.{text_of}
 use Rattle.schedule_commands.specs.Schedule.{IsStepOf, schedule_of, moves_schedule}
 use Rattle.schedule_commands.proofs.Again.{rounds_read_back, moves_read_back}
 use Rattle.core_laws.specs.Core.{Load, design_of, first_tile, first_state}
 use Rattle.core_laws.specs.Runs.{IsAcceptedLoad}
-use Rattle.core_machine.specs.Machine.{Core, IsAfter}
-use Rattle.core_machine.specs.Moves.{moves_of, moves_from}
-use Rattle.core_machine.proofs.StepLists.{machine_further}
+use Rattle.core_laws.specs.Machine.{Core, IsAfter}
+use Rattle.core_laws.specs.MachineMoves.{moves_of, moves_from}
+use Rattle.core_laws.proofs.StepLists.{machine_further}
 use Rattle.schedule_commands.proofs.OfTorus.{enabled_are}
 
 first_count : (l : Load) → IsAcceptedLoad l → length (first_state l).tiles ≡ tiles_of l.shape

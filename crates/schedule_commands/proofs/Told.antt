@@ -7,28 +7,28 @@ use Rattle.std.proofs.lemmas.List.Concat.{flat_map-append}
 use Rattle.std.proofs.lemmas.List.FromFn.{length-map-range_with_len, map-range_with_len_more}
 use Rattle.torus.specs.declared.step.Step.{Step}
 use Rattle.script.specs.declared.fault.LineFault.{LineFault}
-use Rattle.script.specs.Machine.{MachineSpec}
+use Rattle.script_lines.specs.Machine.{MachineSpec}
 use Rattle.script.specs.Steps.{steps_of}
-use Rattle.order_abstract.specs.Load.{Load}
-use Rattle.order_abstract.specs.Scripts.{AreFinished}
+use Rattle.one_order.specs.Load.{Load}
+use Rattle.one_order.specs.AbstractScripts.{AreFinished}
 use Rattle.core_laws.specs.Core.{run_of}
 use Rattle.core_laws.specs.Runs.{IsAcceptedLoad}
 use Rattle.machine_core.specs.Loading.{HasLoaded}
-use Rattle.core_machine.specs.Machine.{Core, IsAfter, all_finished, core_after, core_after_load}
-use Rattle.core_machine.proofs.Machines.{named_machine, stands_after, after_steps, finished_of_machine}
-use Rattle.core_machine.specs.Moves.{moves_of, moves_from}
-use Rattle.core_machine.proofs.StepLists.{load_machine, machine_further}
+use Rattle.core_laws.specs.Machine.{Core, IsAfter, all_finished, core_after, core_after_load}
+use Rattle.core_laws.proofs.Machines.{named_machine, stands_after, after_steps, finished_of_machine}
+use Rattle.core_laws.specs.MachineMoves.{moves_of, moves_from}
+use Rattle.core_laws.proofs.StepLists.{load_machine, machine_further}
 use Rattle.schedule_commands.specs.declared.line.ScheduleLine.{ScheduleLine}
 use Rattle.schedule_commands.specs.declared.line.ScheduleLine.TheVariants.{End, Move}
 use Rattle.schedule_commands.specs.Line.{line_text, text_of}
 use Rattle.schedule_commands.specs.Schedule.{schedule_of, moves_schedule}
 use Rattle.schedule_commands.proofs.RunsAgain.{rounds_again, moves_again}
 use Rattle.program_fault.specs.Done.{Output, TookAll, TookFront, Wrote}
-use Rattle.machine_core.specs.Run.{Asked}
+use Rattle.machine_core.specs.Run.{AskedRun}
 use Rattle.schedule_commands.specs.Asked.{HasOpened}
 use Rattle.schedule_commands.specs.Output.{headed}
-use Rattle.clocked_laws.specs.Fewest.{AreFewestFrom, after_rounds_from, round_behind, rounds_from}
-use Rattle.clocked_laws.proofs.Rounds.{round_more}
+use Rattle.machine_core.specs.Fewest.{AreFewestFrom, after_rounds_from, round_behind, rounds_from}
+use Rattle.machine_core.proofs.LawsRounds.{round_more}
 use Rattle.schedule_commands.specs.Rounds.{HasPutRounds, HasPutSome, moves_of_rounds, round_moves, rounds_text}
 use Rattle.schedule_commands.specs.Schedules.{TellsRun, IsRoundsText, IsMovesText}
 use Rattle.schedule_commands.proofs.Outputs.{took_then, front_then, front_of_more}
@@ -140,7 +140,7 @@ pub from_start : (l : Load) (start : Core) (steps : List Step) → IsAfter l sta
 from_start l start steps after = sym (machine_further l start [] steps after)
 
 -- the text of moves with the last line
-pub moves_are : (asked : Result Asked LineFault) (given : Asked) → asked ≡ Ok given → (start c : Core) (finished : Bool)
+pub moves_are : (asked : Result AskedRun LineFault) (given : AskedRun) → asked ≡ Ok given → (start c : Core) (finished : Bool)
     → IsAfter given.load start [] → c ≡ core_after start given.steps → finished ≡ all_finished c.state
     → IsMovesText asked finished (text_of (headed None (moves_from start given.steps)) ++ line_text (End finished))
 moves_are asked given read start c finished after made is =
@@ -159,7 +159,7 @@ moves_are asked given read start c finished after made is =
           (λ machine same. moves_again l machine steps finished after.accepted same));
     }
 
-module _ (asked : Result Asked LineFault) (start : Core) (steps : List Step) (opened : HasOpened asked start steps) (c : Core) where
+module _ (asked : Result AskedRun LineFault) (start : Core) (steps : List Step) (opened : HasOpened asked start steps) (c : Core) where
   moves_text_is : (finished : Bool) → c ≡ core_after start steps → finished ≡ all_finished c.state
       → IsMovesText asked finished (text_of (headed None (moves_from start steps)) ++ line_text (End finished))
   moves_text_is finished made is =
@@ -191,7 +191,7 @@ module _ (asked : Result Asked LineFault) (start : Core) (steps : List Step) (op
   )
 
 -- a beginning of the moves
-pub moves_front : (asked : Result Asked LineFault) (start : Core) (steps : List Step) (opened : HasOpened asked start steps) (old new : Output)
+pub moves_front : (asked : Result AskedRun LineFault) (start : Core) (steps : List Step) (opened : HasOpened asked start steps) (old new : Output)
     → TookFront old new (text_of (headed None (moves_from start steps))) → (finished : Bool) × Wrote (IsMovesText asked) TookFront old new finished
 moves_front asked start steps opened old new took =
     let c : Core = core_after start steps in (

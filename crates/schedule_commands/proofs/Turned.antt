@@ -16,7 +16,7 @@ use Rattle.torus.specs.declared.step.Choice.TheVariants.{CreditOf, Put, TakeFrom
 use Rattle.channel_number.specs.Ports.{port_count}
 use Rattle.core_laws.specs.Core.{attempts_of, round, round_at}
 use Rattle.machine_core.specs.Rounds.{attempts_between}
-use Rattle.core_machine.specs.Machine.{Core}
+use Rattle.core_laws.specs.Machine.{Core}
 use Rattle.machine_core.specs.Clocked.{clocked_round, turned_at, turned_round}
 use Rattle.schedule_commands.specs.Drawn.{enabled_now}
 use Rattle.schedule_commands.specs.Turned.{AreTurned, HasChoiceRoom}

@@ -2,12 +2,12 @@
 use Rattle.std.specs.Prelude.{◌≡◌, List, [], Result, Ok}
 use Rattle.torus.specs.declared.step.Step.{Step}
 use Rattle.script.specs.declared.fault.LineFault.{LineFault}
-use Rattle.core_machine.specs.Machine.{Core, IsAfter}
-use Rattle.machine_core.specs.Run.{Asked}
+use Rattle.core_laws.specs.Machine.{Core, IsAfter}
+use Rattle.machine_core.specs.Run.{AskedRun}
 
 -- a machine has made no step of what is asked for, and these are the steps
-pub record HasOpened (asked : Result Asked LineFault) (c : Core) (steps : List Step) : Type 0 where
-  pub given : Asked
+pub record HasOpened (asked : Result AskedRun LineFault) (c : Core) (steps : List Step) : Type 0 where
+  pub given : AskedRun
   pub read : asked ≡ Ok given
   pub after : IsAfter given.load c []
   pub are : steps ≡ given.steps

@@ -3,11 +3,11 @@ use Rattle.std.specs.Prelude.{◌≡◌, ℕ, zero, suc, ◌≤◌, ◌%◌, Boo
 use Rattle.std.specs.Prelude.{Option, Some, None, IfSome, is_some, slice_get, unwrap_or}
 use Rattle.torus.specs.declared.step.Step.{Step}
 use Rattle.script.specs.declared.fault.LineFault.{LineFault}
-use Rattle.order_abstract.specs.Load.{Load}
+use Rattle.one_order.specs.Load.{Load}
 use Rattle.core_laws.specs.Core.{step, round}
-use Rattle.core_progress.specs.Moves.{most_moves}
-use Rattle.core_machine.specs.Machine.{Core, built_to, core_next, core_after_load, all_finished}
-use Rattle.core_machine.specs.Moves.{AreMoves}
+use Rattle.core_laws.specs.ProgressMoves.{most_moves}
+use Rattle.core_laws.specs.Machine.{Core, built_to, core_next, core_after_load, all_finished}
+use Rattle.core_laws.specs.MachineMoves.{AreMoves}
 use Rattle.rand_xoshiro.specs.SplitMix64.{mix_u64}
 use Rattle.schedule_commands.specs.Line.{text_of}
 use Rattle.schedule_commands.specs.Schedule.{moves_schedule}

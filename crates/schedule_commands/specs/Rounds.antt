@@ -2,10 +2,10 @@
 use Rattle.std.specs.Prelude.{ℕ, List, map, Bool, Result, Ok, Err}
 use Rattle.std.specs.List.{range_with_len}
 use Rattle.torus.specs.declared.step.Step.{Step}
-use Rattle.order_abstract.specs.Load.{Load}
-use Rattle.core_machine.specs.Machine.{Core, IsAfter}
-use Rattle.clocked_laws.specs.Fewest.{AreFewestFrom, after_rounds_from, round_behind, rounds_from}
-use Rattle.core_machine.specs.Moves.{moves_from}
+use Rattle.one_order.specs.Load.{Load}
+use Rattle.core_laws.specs.Machine.{Core, IsAfter}
+use Rattle.machine_core.specs.Fewest.{AreFewestFrom, after_rounds_from, round_behind, rounds_from}
+use Rattle.core_laws.specs.MachineMoves.{moves_from}
 use Rattle.schedule_commands.specs.Line.{text_of}
 use Rattle.schedule_commands.specs.Schedule.{lines_of_rounds}
 use Rattle.program_fault.specs.Done.{Output, TookAll, TookFront}

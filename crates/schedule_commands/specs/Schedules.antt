@@ -3,20 +3,20 @@ use Rattle.std.specs.Prelude.{◌≡◌, ℕ, List, Bool, Result, Ok, IsTrue, �
 use Rattle.std.specs.Str.Lines.{lines}
 use Rattle.torus.specs.declared.step.Step.{Step}
 use Rattle.script.specs.declared.fault.LineFault.{LineFault}
-use Rattle.script.specs.Machine.{MachineSpec}
+use Rattle.script_lines.specs.Machine.{MachineSpec}
 use Rattle.script.specs.Steps.{steps_of}
-use Rattle.order_abstract.specs.Load.{Load}
-use Rattle.order_abstract.specs.Scripts.{AreFinished}
+use Rattle.one_order.specs.Load.{Load}
+use Rattle.one_order.specs.AbstractScripts.{AreFinished}
 use Rattle.core_laws.specs.Core.{run_of}
-use Rattle.core_machine.specs.Machine.{core_after_load, all_finished}
-use Rattle.core_machine.specs.Moves.{moves_of}
+use Rattle.core_laws.specs.Machine.{core_after_load, all_finished}
+use Rattle.core_laws.specs.MachineMoves.{moves_of}
 use Rattle.schedule_commands.specs.Line.{text_of}
 use Rattle.schedule_commands.specs.Schedule.{schedule_of, moves_schedule}
 use Rattle.program_fault.specs.declared.fault.ProgramFault.{ProgramFault}
 use Rattle.program_fault.specs.Done.{Does, Output}
 use Rattle.program_fault.specs.Outcome.{IsTextsFault}
-use Rattle.machine_core.specs.Run.{Asked}
-use Rattle.clocked_laws.specs.Fewest.{AreFewestFrom, rounds_from}
+use Rattle.machine_core.specs.Run.{AskedRun}
+use Rattle.machine_core.specs.Fewest.{AreFewestFrom, rounds_from}
 use Rattle.schedule_commands.specs.Rounds.{moves_of_rounds}
 
 -- A text tells of a run of these steps from a load: the answer says whether every script is
@@ -46,14 +46,14 @@ abbrev pub PrintsSchedule : Bool → Result Load LineFault → ℕ → Output �
 PrintsSchedule clocked asked most = Does (IsRoundsText clocked asked most) (IsTextsFault asked)
 
 -- a text has the moves among the steps that were asked for
-pub record IsMovesText (asked : Result Asked LineFault) (finished : Bool) (text : List ℕ) : Type 0
+pub record IsMovesText (asked : Result AskedRun LineFault) (finished : Bool) (text : List ℕ) : Type 0
   where
-    pub given : Asked
+    pub given : AskedRun
     pub read : asked ≡ Ok given
     pub is : text ≡ text_of (moves_schedule (moves_of given.load given.steps) finished)
     pub run : TellsRun given.load given.steps finished text
 
 -- the moves were printed
-abbrev pub PrintsMoves : Result Asked LineFault → Output → Output → Result Bool ProgramFault
+abbrev pub PrintsMoves : Result AskedRun LineFault → Output → Output → Result Bool ProgramFault
     → Type 0
 PrintsMoves asked = Does (IsMovesText asked) (IsTextsFault asked)

@@ -1,8 +1,8 @@
 ghost use Rattle.std.specs.Prelude.{◌≡◌, ◌≤◌, ◌<◌, ◌+◌, ◌^◌, [], true, Some, OnOk, length, take};
 ghost use Rattle.std.specs.Str.Lines.{lines};
-ghost use Rattle.order_abstract.specs.Load.{Load};
-ghost use Rattle.core_machine.specs.Machine.{IsAfter, core_after};
-ghost use Rattle.core_machine.specs.Moves.{moves_from};
+ghost use Rattle.one_order.specs.Load.{Load};
+ghost use Rattle.core_laws.specs.Machine.{IsAfter, core_after};
+ghost use Rattle.core_laws.specs.MachineMoves.{moves_from};
 ghost use Rattle.machine_core.specs.Loading.{load_by};
 ghost use Rattle.machine_core.specs.Clocked.{clocked_round};
 ghost use Rattle.program_fault.specs.Done.{output};

@@ -2,7 +2,7 @@ ghost use Rattle.std.specs.Prelude.{◌≡◌, None, OnOk, length, slice_get};
 ghost use Rattle.std.specs.Str.Lines.{lines};
 ghost use Rattle.core_laws.specs.Core.{round};
 ghost use Rattle.machine_core.specs.Loading.{load_by};
-ghost use Rattle.core_machine.specs.Machine.{core_after};
+ghost use Rattle.core_laws.specs.Machine.{core_after};
 ghost use Rattle.schedule_commands.specs.Line.{text_of};
 ghost use Rattle.program_fault.specs.Done.{output};
 ghost use Rattle.schedule_commands.specs.Output.{Took, headed};

@@ -1,9 +1,9 @@
 ghost use Rattle.std.specs.Prelude.{◌≡◌, IfErr, IfOk, [], false};
 ghost use Rattle.std.specs.Str.Lines.{lines};
-ghost use Rattle.order_abstract.specs.Load.{Load};
+ghost use Rattle.one_order.specs.Load.{Load};
 ghost use Rattle.core_laws.specs.Core.{round};
 ghost use Rattle.machine_core.specs.Loading.{HasLoaded, load_by};
-ghost use Rattle.core_machine.specs.Machine.{IsAfter};
+ghost use Rattle.core_laws.specs.Machine.{IsAfter};
 ghost use Rattle.program_fault.specs.Done.{output};
 ghost use Rattle.program_fault.specs.Outcome.{IsReadFault};
 ghost use Rattle.schedule_commands.specs.Rounds.{PutsRounds};

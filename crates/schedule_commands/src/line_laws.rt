@@ -5,7 +5,7 @@ ghost use Rattle.std.specs.Prelude.{flat_map};
 ghost use Rattle.std.specs.Str.Lines.{lines};
 ghost use Rattle.torus.specs.declared.step.Step.{Step};
 ghost use Rattle.torus.specs.Shape.{IsAccepted};
-ghost use Rattle.script.specs.Machine.{MachineSpec};
+ghost use Rattle.script_lines.specs.Machine.{MachineSpec};
 ghost use Rattle.script.specs.Steps.{steps_of};
 ghost use Rattle.schedule_commands.specs.declared.line.ScheduleLine.{ScheduleLine};
 ghost use Rattle.schedule_commands.specs.Line.{text_of};

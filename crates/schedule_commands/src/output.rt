@@ -1,8 +1,8 @@
 //! What is put of a schedule: a line, the moves among attempts, and the last line.
 
 ghost use Rattle.std.specs.Prelude.{◌≡◌, ◌∷◌, [], IfOk, OnOk};
-ghost use Rattle.core_machine.specs.Machine.{core_next, core_after, all_finished};
-ghost use Rattle.core_machine.specs.Moves.{moves_from};
+ghost use Rattle.core_laws.specs.Machine.{core_next, core_after, all_finished};
+ghost use Rattle.core_laws.specs.MachineMoves.{moves_from};
 ghost use Rattle.schedule_commands.specs.declared.line.ScheduleLine.TheVariants.{End};
 ghost use Rattle.schedule_commands.specs.Line.{line_text, text_of};
 ghost use Rattle.program_fault.specs.Done.{output};

@@ -3,14 +3,14 @@
 ghost use Rattle.std.specs.Prelude.{◌≡◌, ◌<◌, ◌^◌, ℕ, List, Bool, length, Ok, All, flat_map};
 ghost use Rattle.std.specs.Str.Lines.{lines};
 ghost use Rattle.torus.specs.declared.step.Step.{Step};
-ghost use Rattle.script.specs.Machine.{MachineSpec};
+ghost use Rattle.script_lines.specs.Machine.{MachineSpec};
 ghost use Rattle.script.specs.Steps.{steps_of};
 ghost use Rattle.schedule_commands.specs.Line.{text_of};
 ghost use Rattle.schedule_commands.specs.Schedule.{IsStepOf, schedule_of, moves_schedule};
 ghost use Rattle.core_laws.specs.Core.{Load};
 ghost use Rattle.core_laws.specs.Runs.{IsAcceptedLoad};
-ghost use Rattle.core_machine.specs.Machine.{Core, IsAfter};
-ghost use Rattle.core_machine.specs.Moves.{moves_of, moves_from};
+ghost use Rattle.core_laws.specs.Machine.{Core, IsAfter};
+ghost use Rattle.core_laws.specs.MachineMoves.{moves_of, moves_from};
 
 /// The moves of a list of steps, from an accepted load and from a machine that steps led to, are of
 /// agents and choices that the torus has.

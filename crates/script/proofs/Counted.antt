@@ -9,9 +9,9 @@ use Rattle.std.proofs.lemmas.Option.{slice_get_within, slice_get-get_or, get_or_
 use Rattle.std.proofs.Math.ListN.{get_or-append}
 use Rattle.std.proofs.Math.Seq.{get_or-append_seam}
 use Rattle.std.proofs.lemmas.Bool.{cases_eq}
-use Rattle.script.specs.declared.line.Line.{Line}
-use Rattle.script.specs.Scripts.{operations_of, operation_count, total_count, script_of, mentions_last, IsAcceptedLine, IsAcceptedScript}
-use Rattle.script.specs.ScriptViews.{AreCounted}
+use Rattle.script_lines.specs.declared.line.Line.{Line}
+use Rattle.script_lines.specs.Lines.{operations_of, operation_count, total_count, script_of, mentions_last, IsAcceptedLine, IsAcceptedScript}
+use Rattle.script_lines.specs.Views.{AreCounted}
 
 -- the line at a place of a list with one more
 push_cases : (lines : List Line) (x line : Line) (i : ℕ) → slice_get (lines ++ x ∷ []) i ≡ Some line →

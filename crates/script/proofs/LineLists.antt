@@ -3,10 +3,10 @@ use Rattle.std.proofs.Common.{◌≡◌, ℕ, ◌+◌, ◌<◌, List, [], ◌∷
 use Rattle.std.specs.Prelude.{slice_set}
 use Rattle.std.proofs.lemmas.List.{map-set, get_or-map, map_push, replicate_more}
 use Rattle.std.proofs.Math.Seq.{map-set_same}
-use Rattle.script.specs.declared.line.Line.{Line}
-use Rattle.script.specs.declared.lists.LineList.{LineList}
-use Rattle.script.specs.ScriptViews.{lists_of}
-use Rattle.script.specs.Scripts.{script_of}
+use Rattle.script_lines.specs.declared.line.Line.{Line}
+use Rattle.script_lines.specs.declared.lists.LineList.{LineList}
+use Rattle.script_lines.specs.Views.{lists_of}
+use Rattle.script_lines.specs.Lines.{script_of}
 
 -- one line more in one list
 pub pushed : {A : Type 0} (items : List (LineList A)) (p : ℕ) (old new : LineList A) (line : Line) → p < length items → old ≡ get_or items p old →

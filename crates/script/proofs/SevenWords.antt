@@ -2,7 +2,7 @@
 use Rattle.std.proofs.Common.{◌≡◌, ℕ, ◌+◌, List, [], ◌∷◌, take, refl, sym, ◌∙◌, ap}
 use Rattle.std.specs.Prelude.{Result, Ok, Err, Option, Some, None, ok_or, if◌then◌else◌}
 use Rattle.lexer.specs.Words.{words_of, begins_comment}
-use Rattle.script.specs.declared.line.Line.{Line}
+use Rattle.script_lines.specs.declared.line.Line.{Line}
 use Rattle.lexer.specs.declared.refusal.Refusal.{Refusal}
 use Rattle.lexer.specs.Outcome.{◌>>=◌, refusal_at, then_lines}
 use Rattle.script.specs.declared.reason.Keyword.{Keyword}
@@ -11,11 +11,13 @@ use Rattle.script.specs.declared.reason.TextReason.{TextReason}
 use Rattle.script.specs.declared.reason.TextReason.TheVariants as reason
 use Rattle.script.specs.Reasons.{setting_named}
 use Rattle.script.specs.Settings.{few_indexes, one_index, after_radix, after_dims, after_datelines, after_depth, after_tags}
-use Rattle.script.specs.Machine.{Reading, MachineSpec, after_count, after_init_values, with_settings, after_keyword, after_words, machine_from}
+use Rattle.script_lines.specs.Machine.{MachineSpec}
+use Rattle.script.specs.Machine.{Reading, after_count, after_init_values, with_settings, after_keyword, after_words, machine_from}
 use Rattle.script.specs.Scripts as scripts
 use Rattle.script.specs.Steps as made
 use Rattle.torus.specs.declared.step.Step.{Step}
-use Rattle.script.specs.Scripts.{ScriptsSpec, scripts_from}
+use Rattle.script_lines.specs.Lines.{ScriptsSpec}
+use Rattle.script.specs.Scripts.{scripts_from}
 
 scripts_seven : (m : ℕ) (lists : List (List Line)) (ws : List (List ℕ)) → scripts.after_words m lists (take 7 ws) ≡ scripts.after_words m lists ws
 scripts_seven m lists [] = refl

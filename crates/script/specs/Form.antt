@@ -10,10 +10,10 @@ use Rattle.packet.specs.declared.kinds.Code.TheVariants as code
 use Rattle.packet.specs.Names.{code_named, arity}
 use Rattle.lexer.specs.Numbers.{value_of}
 use Rattle.lexer.specs.Outcome.{◌>>=◌}
-use Rattle.script.specs.declared.line.Line.{Line}
-use Rattle.script.specs.declared.line.Line.TheVariants as line
-use Rattle.script.specs.declared.line.Value.{Value}
-use Rattle.script.specs.declared.line.Value.TheVariants as value
+use Rattle.script_lines.specs.declared.line.Line.{Line}
+use Rattle.script_lines.specs.declared.line.Line.TheVariants as line
+use Rattle.script_lines.specs.declared.line.Value.{Value}
+use Rattle.script_lines.specs.declared.line.Value.TheVariants as value
 use Rattle.script.specs.declared.form.Operand.{Operand}
 use Rattle.script.specs.declared.form.Operand.TheVariants.{Number, Last}
 use Rattle.script.specs.declared.form.Form.{Form}

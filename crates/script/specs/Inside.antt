@@ -1,6 +1,6 @@
 -- How a `MachineText` keeps its machine.
 use Rattle.script.specs.declared.machine.MachineText.TheInside.{Inside}
-use Rattle.script.specs.Machine.{MachineSpec, IsAcceptedMachine}
+use Rattle.script_lines.specs.Machine.{MachineSpec, IsAcceptedMachine}
 
 abbrev pub machine_of_fields : {A : Type 0} → Inside A → MachineSpec
 machine_of_fields m = record {

@@ -18,23 +18,6 @@ use Rattle.script.specs.Reasons.{fault_of, setting_named}
 use Rattle.script.specs.Settings.{Settings, no_settings, number_at, value_at, one_index, few_indexes, spread, last_digits}
 use Rattle.script.specs.Settings.{after_radix, after_dims, after_datelines, after_depth, after_tags}
 
--- a machine as its text gives it: the torus (Dally and Towles, chapter 5), the flits that a channel
--- holds
--- (chapter 13), the tags of a processor, and the opening words by address
-pub record MachineSpec : Type 0 where
-  pub shape : Shape
-  pub depth : ℕ
-  pub tags : ℕ
-  pub opening : List ℕ
-
--- what an accepted machine is: all numbers within the limits
-pub record IsAcceptedMachine (m : MachineSpec) : Type 0 where
-  pub shape : IsAccepted m.shape
-  pub depth : (1 ≤ m.depth) × (m.depth ≤ 8)
-  pub tags : (1 ≤ m.tags) × (m.tags ≤ 16)
-  pub words : (1 ≤ length m.opening) × (length m.opening ≤ 65536)
-  pub each : (a : ℕ) → a < length m.opening → slice_index m.opening a < 2 ^ 64
-
 -- what the lines so far gave: the settings; the opening words by address, none before the number of
 -- words is given; and which of them a line has named
 pub record Reading : Type 0 where

@@ -21,7 +21,7 @@ use Rattle.script.specs.declared.reason.TextReason.TheVariants as reason
 use Rattle.script.specs.Outcome.{by_fault}
 use Rattle.script.specs.Reasons.{fault_of, kind_of_agent}
 use Rattle.script.specs.Settings.{number_at}
-use Rattle.script.specs.Machine.{MachineSpec}
+use Rattle.script_lines.specs.Machine.{MachineSpec}
 
 -- the words for choices
 abbrev pub choice_word : List ℕ → Option ChoiceWord

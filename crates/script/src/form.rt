@@ -1,7 +1,8 @@
 ghost use Rattle.std.specs.Prelude.{◌≡◌, ◌<◌, ◌∷◌, [], map, IfOk};
 ghost use Rattle.script.specs.Form.{form_of, operation_form, fence_form, spin_form, operand_at, word_at};
 ghost use Rattle.script.specs.Form.{cas_form, update_form, load_form, checked_at, line_with, line_of_form};
-ghost use Rattle.script.specs.Scripts.{IsAcceptedLine, IsWord, line_for, line_or_why};
+ghost use Rattle.script_lines.specs.Lines.{IsAcceptedLine, IsWord};
+ghost use Rattle.script.specs.Scripts.{line_for, line_or_why};
 
 use crate::number::{number_at, value_at};
 use crate::reason::TextReason;

@@ -2,7 +2,8 @@ ghost use Rattle.std.specs.Prelude.{◌≡◌, ◌≤◌, length, slice_get, vec
 ghost use Rattle.std.specs.Str.Lines.{lines};
 ghost use Rattle.torus.specs.Shape.{IsAccepted};
 ghost use Rattle.lexer.specs.Outcome.{Agrees, Gives as GivesOrWhy};
-ghost use Rattle.script.specs.Machine.{MachineSpec, IsAcceptedMachine, machine_of, machine_or_why};
+ghost use Rattle.script_lines.specs.Machine.{MachineSpec, IsAcceptedMachine};
+ghost use Rattle.script.specs.Machine.{machine_of, machine_or_why};
 ghost use Rattle.script.specs.Machine.{machine_with};
 ghost use Rattle.script.specs.MachineViews.{reading_of, IsChecked};
 ghost use Rattle.script.specs.Outcome.{Gives};
@@ -26,7 +27,7 @@ pub struct MachineText<A: Allocator = Global> {
 }
 
 impl<A: Allocator> Model for MachineText<A> {
-    ghost use Rattle.script.specs.Machine.{MachineSpec};
+    ghost use Rattle.script_lines.specs.Machine.{MachineSpec};
 
     ghost Value = { MachineSpec };
 

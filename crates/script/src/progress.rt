@@ -1,14 +1,16 @@
 ghost use Rattle.std.specs.Prelude.{◌≡◌, ◌<◌, ◌≤◌, ◌+◌, ◌∷◌, [], length, map, replicate, slice_index, true};
 ghost use Rattle.std.specs.Prelude.{OnOk, IfOk, IfNone, vec_len, Ok};
 ghost use Rattle.lexer.specs.Outcome.{Makes};
-ghost use Rattle.script.specs.Scripts.{IsAcceptedLine, add_line, after_words, take_line, no_room};
-ghost use Rattle.script.specs.Scripts.{mentions_last, operations_of};
-ghost use Rattle.script.specs.ScriptViews.{lists_of, IsCounted};
+ghost use Rattle.script_lines.specs.Lines.{IsAcceptedLine};
+ghost use Rattle.script.specs.Scripts.{add_line, after_words, take_line, no_room};
+ghost use Rattle.script_lines.specs.Lines.{mentions_last, operations_of};
+ghost use Rattle.script_lines.specs.Views.{lists_of};
+ghost use Rattle.script.specs.ScriptViews.{IsCounted};
 
-use crate::Line;
 use crate::form::line_or_why;
-use crate::lists::{LineList, empty_lists, push_line};
+use crate::lists::{empty_lists, push_line};
 use crate::reason::TextReason;
+use crate::{Line, LineList};
 use std::alloc::{AllocError, Allocator};
 
 /// The scripts so far.

@@ -3,14 +3,13 @@ ghost use Rattle.std.specs.Option.{option_copied};
 ghost use Rattle.std.specs.Str.Lines.{lines};
 ghost use Rattle.lexer.specs.Outcome.{Gives as GivesOrWhy};
 ghost use Rattle.script.specs.Outcome.{Gives};
-ghost use Rattle.script.specs.Scripts.{ScriptsSpec, AreAcceptedScripts, Fit, fits};
+ghost use Rattle.script_lines.specs.Lines.{ScriptsSpec, AreAcceptedScripts, Fit, fits};
 ghost use Rattle.script.specs.Scripts.{scripts_of, scripts_or_why, scripts_from};
-ghost use Rattle.script.specs.ScriptViews.{lists_of};
+ghost use Rattle.script_lines.specs.Views.{lists_of};
 
-use crate::lists::LineList;
 use crate::progress::Progress;
 use crate::reason::TextReason;
-use crate::{Line, LineFault, MachineText};
+use crate::{Line, LineFault, LineList, MachineText};
 use lexer::{Refusal, first_words, next_line};
 use std::alloc::{Allocator, Global};
 use std::marker::Model;
@@ -24,7 +23,7 @@ pub struct Scripts<A: Allocator = Global> {
 }
 
 impl<A: Allocator> Model for Scripts<A> {
-    ghost use Rattle.script.specs.Scripts.{ScriptsSpec};
+    ghost use Rattle.script_lines.specs.Lines.{ScriptsSpec};
 
     ghost Value = { ScriptsSpec };
 

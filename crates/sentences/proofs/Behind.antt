@@ -1,8 +1,8 @@
 -- The replies behind a spin's loads and behind a line, reply by reply.
 use Rattle.std.proofs.Common.{◌≡◌, ℕ, zero, suc, ◌+◌, ◌-◌, ◌<◌, ◌==◌, List, [], ◌∷◌, drop, refl, ◌∙◌, ap, arith, Some, None, true, false}
 use Rattle.std.specs.Prelude.{Option}
-use Rattle.script.specs.declared.line.Line.{Line}
-use Rattle.script.specs.declared.line.Line.TheVariants.{Load, Store, Swap, Cas, Add, And, Or, Xor, Max, Min, Fence, Spin}
+use Rattle.script_lines.specs.declared.line.Line.{Line}
+use Rattle.script_lines.specs.declared.line.Line.TheVariants.{Load, Store, Swap, Cas, Add, And, Or, Xor, Max, Min, Fence, Spin}
 use Rattle.sentences.specs.Answered.{behind_line, behind_reply, behind_spin}
 use Rattle.sentences.specs.Spins.{reply_of_next}
 use Rattle.sentences.proofs.Spent.{next_is}

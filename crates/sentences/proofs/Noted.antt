@@ -7,7 +7,7 @@ use Rattle.std.proofs.lemmas.List.Folds.{find-append}
 use Rattle.std.proofs.lemmas.Bool.{cases_eq}
 use Rattle.std.proofs.lemmas.Bool.Decides.{nat_tests}
 use Rattle.one_order.specs.declared.answer.Answer.{Answer}
-use Rattle.script_follower.specs.Scripts.{reply_number}
+use Rattle.one_order.specs.Scripts.{reply_number}
 use Rattle.sentences.specs.Replies.{reply_in}
 
 -- lists over a range that agree, but at one place

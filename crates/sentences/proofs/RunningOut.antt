@@ -4,8 +4,8 @@ use Rattle.std.proofs.Common.{ap, subst, arith, slice_get}
 use Rattle.std.specs.Prelude.{Bool, Option, if◌then◌else◌}
 use Rattle.std.proofs.lemmas.Bool.Decides.{nat_tests}
 use Rattle.std.proofs.lemmas.List.{append_assoc}
-use Rattle.script.specs.declared.line.Line.{Line}
-use Rattle.script.specs.declared.line.Line.TheVariants.{Load, Store, Swap, Cas, Add, And, Or, Xor, Max, Min, Fence, Spin}
+use Rattle.script_lines.specs.declared.line.Line.{Line}
+use Rattle.script_lines.specs.declared.line.Line.TheVariants.{Load, Store, Swap, Cas, Add, And, Or, Xor, Max, Min, Fence, Spin}
 use Rattle.sentences.specs.declared.spins.SpentSpin.{SpentSpin}
 use Rattle.sentences.specs.Spins.{replied, spent_from, spent_spins, spun}
 use Rattle.sentences.specs.RunsOut.{AreRepliesTo, AreSpent, HaveFound, RanOut}

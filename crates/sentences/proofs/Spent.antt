@@ -1,8 +1,8 @@
 -- Spins, reply by reply.
 use Rattle.std.proofs.Common.{◌≡◌, ℕ, zero, suc, ◌+◌, ◌-◌, ◌<◌, ◌==◌, List, [], ◌∷◌, drop, refl, ◌∙◌, ap, arith, Some, None, true, false}
 use Rattle.std.specs.Prelude.{Option}
-use Rattle.script.specs.declared.line.Line.{Line}
-use Rattle.script.specs.declared.line.Line.TheVariants.{Load, Store, Swap, Cas, Add, And, Or, Xor, Max, Min, Fence, Spin}
+use Rattle.script_lines.specs.declared.line.Line.{Line}
+use Rattle.script_lines.specs.declared.line.Line.TheVariants.{Load, Store, Swap, Cas, Add, And, Or, Xor, Max, Min, Fence, Spin}
 use Rattle.sentences.specs.declared.spins.SpentSpin.{SpentSpin}
 use Rattle.sentences.specs.Spins.{replied, reply_of_next, spent_from, spun}
 

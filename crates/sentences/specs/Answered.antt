@@ -1,8 +1,8 @@
 -- Whether all operations of a script are answered, by what they were replied.
 use Rattle.std.specs.Prelude.{ℕ, zero, suc, ◌==◌, Bool, true, false, List, [], ◌∷◌, Option, Some}
 use Rattle.std.specs.Prelude.{None, if◌then◌else◌}
-use Rattle.script.specs.declared.line.Line.{Line}
-use Rattle.script.specs.declared.line.Line.TheVariants.{Fence, Spin}
+use Rattle.script_lines.specs.declared.line.Line.{Line}
+use Rattle.script_lines.specs.declared.line.Line.TheVariants.{Fence, Spin}
 
 -- the replies behind those to a spin with so many loads left: behind that of the load that found the
 -- number sought, or of the last; `None` where one before isn't answered

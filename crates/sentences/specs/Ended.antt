@@ -5,8 +5,8 @@ use Rattle.std.specs.Io.Iter.{u64_saturate}
 use Rattle.std.specs.List.Sorted.{IsNonDecreasingBy, IsPermutation}
 use Rattle.torus.specs.declared.fault.Fault.TheVariants as fault
 use Rattle.script.specs.declared.fault.LineFault.{LineFault}
-use Rattle.script.specs.declared.line.Line.{Line}
-use Rattle.script.specs.Scripts.{ScriptsSpec}
+use Rattle.script_lines.specs.declared.line.Line.{Line}
+use Rattle.script_lines.specs.Lines.{ScriptsSpec}
 use Rattle.one_order.specs.declared.answer.Answer.{Answer}
 use Rattle.sentences.specs.declared.spins.SpentSpin.{SpentSpin}
 use Rattle.sentences.specs.declared.scripts.EndedSpin.{EndedSpin}

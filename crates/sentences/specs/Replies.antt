@@ -2,7 +2,7 @@
 use Rattle.std.specs.Prelude.{ℕ, ◌==◌, List, length, map, find, Option, option_map}
 use Rattle.std.specs.List.{range_with_len}
 use Rattle.one_order.specs.declared.answer.Answer.{Answer}
-use Rattle.script_follower.specs.Scripts.{reply_number}
+use Rattle.one_order.specs.Scripts.{reply_number}
 
 -- the number replied to the operation of an index, if it is answered
 abbrev pub reply_in : List Answer → ℕ → Option ℕ

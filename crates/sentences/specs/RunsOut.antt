@@ -1,8 +1,8 @@
 -- When a spin has run out of loads, said of what its script's operations were replied.
 use Rattle.std.specs.Prelude.{◌≡◌, ◌⊎◌, ℕ, ◌≤◌, ◌==◌, false, List, [], ◌∷◌, ◌++◌, Option, Some}
 use Rattle.std.specs.Prelude.{length}
-use Rattle.script.specs.declared.line.Line.{Line}
-use Rattle.script.specs.declared.line.Line.TheVariants.{Fence, Spin}
+use Rattle.script_lines.specs.declared.line.Line.{Line}
+use Rattle.script_lines.specs.declared.line.Line.TheVariants.{Fence, Spin}
 use Rattle.sentences.specs.declared.spins.SpentSpin.{SpentSpin}
 
 -- loads that are answered with other numbers than the one sought

@@ -1,8 +1,8 @@
 -- Which spins of a script ran out of loads, by what its operations were replied.
 use Rattle.std.specs.Prelude.{ℕ, zero, suc, ◌+◌, ◌==◌, List, [], ◌∷◌, Option, Some, None}
 use Rattle.std.specs.Prelude.{if◌then◌else◌}
-use Rattle.script.specs.declared.line.Line.{Line}
-use Rattle.script.specs.declared.line.Line.TheVariants.{Fence, Spin}
+use Rattle.script_lines.specs.declared.line.Line.{Line}
+use Rattle.script_lines.specs.declared.line.Line.TheVariants.{Fence, Spin}
 use Rattle.sentences.specs.declared.spins.SpentSpin.{SpentSpin}
 
 -- what comes behind an operation that is answered; nothing comes behind one that isn't

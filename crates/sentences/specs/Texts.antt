@@ -5,7 +5,7 @@ use Rattle.std.specs.Prelude.{if◌then◌else◌}
 use Rattle.std.specs.List.{slice_index_or}
 use Rattle.lexer.specs.Words.{words_of, begins_comment}
 use Rattle.lexer.specs.Numbers.{index_of}
-use Rattle.script.specs.declared.line.Line.{Line}
+use Rattle.script_lines.specs.declared.line.Line.{Line}
 use Rattle.one_order.specs.declared.answer.Answer.{Answer}
 use Rattle.sentences.specs.declared.spins.SpentSpin.{SpentSpin}
 use Rattle.sentences.specs.Spins.{spent_spins}

@@ -13,8 +13,10 @@ use Rattle.script.specs.declared.fault.LineFault.{LineFault}
 use Rattle.script.specs.declared.reason.TextReason.{TextReason}
 use Rattle.script.specs.declared.reason.TextReason.TheVariants as reason
 use Rattle.script.specs.Reasons.{fault_of}
-use Rattle.script.specs.Machine.{MachineSpec, machine_of, machine_or_why}
-use Rattle.script.specs.Scripts.{ScriptsSpec, scripts_of, scripts_or_why}
+use Rattle.script_lines.specs.Machine.{MachineSpec}
+use Rattle.script.specs.Machine.{machine_of, machine_or_why}
+use Rattle.script_lines.specs.Lines.{ScriptsSpec}
+use Rattle.script.specs.Scripts.{scripts_of, scripts_or_why}
 use Rattle.script.specs.Steps.{steps_of, steps_or_why}
 use Rattle.sentences.specs.declared.sentence.Sentence.{Sentence}
 use Rattle.sentences.specs.declared.sentence.TileSentence.{TileSentence}

@@ -1,7 +1,7 @@
 //! The laws of scripts that are answered, each the contract of a function that does nothing.
 
 ghost use Rattle.std.specs.Prelude.{◌≡◌, ◌↔◌, ℕ, List, Option, Some, slice_get, true};
-ghost use Rattle.script.specs.declared.line.Line.{Line};
+ghost use Rattle.script_lines.specs.declared.line.Line.{Line};
 ghost use Rattle.sentences.specs.declared.spins.SpentSpin.{SpentSpin};
 ghost use Rattle.sentences.specs.Answered.{are_answered};
 ghost use Rattle.sentences.specs.RunsOut.{HasAllReplies, RanOut};

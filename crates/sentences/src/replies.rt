@@ -3,7 +3,7 @@
 ghost use Rattle.std.specs.Prelude.{◌≡◌, ◌∷◌, ◌++◌, [], ℕ, List, map, IfOk, None, replicate, slice_get};
 ghost use Rattle.std.specs.List.{range_with_len};
 ghost use Rattle.one_order.specs.declared.answer.Answer.{Answer};
-ghost use Rattle.script_follower.specs.Scripts.{reply_number};
+ghost use Rattle.one_order.specs.Scripts.{reply_number};
 ghost use Rattle.sentences.specs.Replies.{replies_in, reply_in};
 
 use one_order::Answer;

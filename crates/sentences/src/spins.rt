@@ -2,7 +2,7 @@
 
 ghost use Rattle.std.specs.Prelude.{◌≡◌, ◌+◌, ◌∷◌, ℕ, List, [], Option, MatchOption, IfOk, drop, option_map};
 ghost use Rattle.std.specs.List.{cons_option};
-ghost use Rattle.script.specs.declared.line.Line.{Line};
+ghost use Rattle.script_lines.specs.declared.line.Line.{Line};
 ghost use Rattle.sentences.specs.Spins.{spun, spent_from, spent_spins, reply_of_next};
 ghost use Rattle.sentences.specs.Answered.{are_answered, behind_line, behind_spin};
 

@@ -3,8 +3,8 @@ use Rattle.std.proofs.Common.{◌≡◌, ℕ, Bool, true, false, List, [], refl}
 use Rattle.std.specs.Prelude.{if◌then◌else◌}
 use Rattle.torus.specs.declared.step.Step.{Step}
 use Rattle.core_laws.specs.Core.{Load}
-use Rattle.core_machine.specs.Machine.{Core}
-use Rattle.core_growth.specs.Handed.{has_reported, moves_kept}
+use Rattle.core_laws.specs.Machine.{Core}
+use Rattle.core_laws.specs.Handed.{has_reported, moves_kept}
 
 none_by : (b : Bool) → ◌≡◌ {A = List Step} (if b then [] else []) []
 none_by true = refl

@@ -1,7 +1,7 @@
 //! Machines that are loaded, and fabrics with their seats.
 ghost use Rattle.std.specs.Prelude.{◌≤◌, [], All};
 ghost use Rattle.core_laws.specs.Core.{Load};
-ghost use Rattle.core_machine.specs.Machine.{IsAfter};
+ghost use Rattle.core_laws.specs.Machine.{IsAfter};
 ghost use Rattle.fabric.specs.Seats.{IsSeatOf};
 
 use fabric::{Fabric, Final, ProbeSeat, TileSeat};

@@ -1,7 +1,7 @@
 //! Schedules that are made to hurt, on a machine and on a fabric whose one seat has all tiles.
 ghost use Rattle.std.specs.Prelude.{◌≡◌, ◌≤◌, [], true, IfSome};
 ghost use Rattle.core_laws.specs.Core.{Load};
-ghost use Rattle.core_machine.specs.Machine.{IsAfter};
+ghost use Rattle.core_laws.specs.Machine.{IsAfter};
 ghost use Rattle.fabric.specs.Seats.{IsSeatOf};
 
 use crate::fixtures::{PAIR, Whole, deal_whole, only_seat, opened, step_at};

@@ -5,8 +5,8 @@ use Rattle.std.proofs.lemmas.Bool.{cond-true}
 use Rattle.torus.specs.declared.step.Step.{Step}
 use Rattle.flit_buffer.specs.Words.{word_of}
 use Rattle.flit_buffer.specs.declared.word_op.WordOp.{WordOp}
-use Rattle.tile_laws.specs.declared.agent.Agent.{Agent}
-use Rattle.tile_laws.specs.Agents.{TilePlace, agent_kind, agent_tile, agent_op, agent_absorbed, tile_next_op, tile_absorbed}
+use Rattle.tile.specs.declared.agent.Agent.{Agent}
+use Rattle.tile.specs.Agents.{TilePlace, agent_kind, agent_tile, agent_op, agent_absorbed, tile_next_op, tile_absorbed}
 use Rattle.tile.specs.Placed.{agent_attempted, tile_attempted}
 
 pub own_op : (p : TilePlace) (attempt : Step) (a : Agent) → agent_tile attempt.agent ≡ p.tile → agent_kind attempt.agent ≡ a

@@ -5,20 +5,20 @@ use Rattle.torus.specs.Shape.{dims_of}
 use Rattle.torus.specs.declared.step.Choice.{Choice}
 use Rattle.torus.specs.declared.step.Choice.TheVariants as choice
 use Rattle.torus.specs.declared.step.Step.{Step}
-use Rattle.script.specs.declared.line.Line.{Line}
+use Rattle.script_lines.specs.declared.line.Line.{Line}
 use Rattle.flit_buffer.specs.Words.{word_of}
 use Rattle.channel_number.specs.Ports.{port_count}
 use Rattle.router.specs.Table.{IsRoutable, empty_router}
 use Rattle.home_bank.specs.BankAgent.{IsAcceptableToBank}
 use Rattle.home_bank.specs.Beginning.{empty_bank}
-use Rattle.script_follower.specs.ProcessorTable.{ProcessorState}
+use Rattle.one_order.specs.ProcessorTable.{ProcessorState}
 use Rattle.net_interface.specs.Place.{IsAcceptableToProcessor}
 use Rattle.net_interface.specs.Beginning.{first_processor}
-use Rattle.tile_laws.specs.declared.agent.Agent.{Agent}
-use Rattle.tile_laws.specs.declared.agent.Agent.TheVariants.{Processor, Router, Bank}
-use Rattle.tile_laws.specs.Tile.{Design, TileState}
-use Rattle.tile_laws.specs.Agents.{TilePlace, agent_op, agent_absorbed, tile_next_op, tile_absorbed}
-use Rattle.tile_laws.specs.Beginning.{new_tile}
+use Rattle.tile.specs.declared.agent.Agent.{Agent}
+use Rattle.tile.specs.declared.agent.Agent.TheVariants.{Processor, Router, Bank}
+use Rattle.tile.specs.Tile.{Design, TileState}
+use Rattle.tile.specs.Agents.{TilePlace, agent_op, agent_absorbed, tile_next_op, tile_absorbed}
+use Rattle.tile.specs.Beginning.{new_tile}
 
 -- a tile in its place, and for how many entries its bank has room (this project's own format)
 pub record PlacedTile : Type 0 where

@@ -2,24 +2,24 @@ ghost use Rattle.std.specs.Prelude.{◌≡◌, ◌<◌, ◌≤◌, None, length,
 ghost use Rattle.std.specs.Prelude.{vec_len, slice_index, is_some};
 ghost use Rattle.torus.specs.Shape.{tiles_of};
 ghost use Rattle.torus.specs.declared.step.Stepped.TheVariants as stepped;
-ghost use Rattle.script.specs.Scripts.{operation_count};
+ghost use Rattle.script_lines.specs.Lines.{operation_count};
 ghost use Rattle.flit_buffer.specs.Tries.{performed_by};
 ghost use Rattle.flit_buffer.specs.Words.{word_of};
-ghost use Rattle.script_follower.specs.Scripts.{IsFollowable};
-ghost use Rattle.tile_laws.specs.declared.agent.Agent.TheVariants.{Processor as ProcessorAgent};
-ghost use Rattle.tile_laws.specs.declared.agent.Agent.TheVariants.{Router as RouterAgent};
-ghost use Rattle.tile_laws.specs.declared.agent.Agent.TheVariants.{Bank as BankOfTile};
-ghost use Rattle.tile_laws.specs.Agents.{agent_op, tile_next_op, tile_absorbed, agent_kind};
+ghost use Rattle.one_order.specs.Scripts.{IsFollowable};
+ghost use Rattle.tile.specs.declared.agent.Agent.TheVariants.{Processor as ProcessorAgent};
+ghost use Rattle.tile.specs.declared.agent.Agent.TheVariants.{Router as RouterAgent};
+ghost use Rattle.tile.specs.declared.agent.Agent.TheVariants.{Bank as BankOfTile};
+ghost use Rattle.tile.specs.Agents.{agent_op, tile_next_op, tile_absorbed, agent_kind};
 ghost use Rattle.tile.specs.Placed.{with_place, first_tile, IsAcceptableTo, HasRoomForEntry};
 ghost use Rattle.tile.specs.Placed.{agent_attempted, tile_attempted};
 
+use crate::{Agent, Processor, agent_kind, agent_tile};
 use flit_buffer::WordOp;
 use home_bank::BankAgent;
 use router::Router;
-use script::Line;
+use script_lines::Line;
 use std::alloc::{AllocError, Allocator, Global};
 use std::marker::Model;
-use tile_laws::{Agent, Processor, agent_kind, agent_tile};
 use torus::{Choice, Step, Stepped, Torus};
 
 /// The three agents of a tile: its processor, its router and its bank, each with the ends of its

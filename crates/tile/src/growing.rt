@@ -1,13 +1,13 @@
 //! What grows in a tile: the room of its bank and the script of its processor.
 
 ghost use Rattle.std.specs.Prelude.{◌≡◌, ◌<◌, ◌≤◌, ◌+◌, ◌-◌, ℕ, true, length, OnOk, OnErr};
-ghost use Rattle.script.specs.Scripts.{operations_of, mentions_last};
-ghost use Rattle.script_follower.specs.Following.{left_of};
-ghost use Rattle.script_follower.specs.ProcessorTable.{processor_with, processor_open};
+ghost use Rattle.script_lines.specs.Lines.{operations_of, mentions_last};
+ghost use Rattle.one_order.specs.Following.{left_of};
+ghost use Rattle.one_order.specs.ProcessorTable.{processor_with, processor_open};
 ghost use Rattle.tile.specs.Placed.{with_room, with_processor};
 
 use crate::agents::TileAgents;
-use script::Line;
+use script_lines::Line;
 use std::alloc::{AllocError, Allocator};
 
 impl<A: Allocator> TileAgents<A> {

@@ -2,14 +2,14 @@
 
 ghost use Rattle.std.specs.Prelude.{◌≡◌, ◌≤◌, ◌↔◌, length, IsTrue};
 ghost use Rattle.tag_table.specs.Tags.{holder_of};
-ghost use Rattle.script_follower.specs.Following.{is_finished};
+ghost use Rattle.one_order.specs.Following.{is_finished};
 
+use crate::Answer;
 use crate::agents::TileAgents;
 use home_bank::Entry;
 use packet::Operation;
 use std::alloc::Allocator;
 use tag_table::{OpId, Tag};
-use tile_laws::Answer;
 
 impl<A: Allocator> TileAgents<A> {
     /// The number of the tile.

@@ -10,9 +10,8 @@ use command_verdicts::{
     explain_no_order, explain_other_run, explain_replay, explain_run_models, explain_simulation,
     explain_trace, explain_values, model_status, status, verdict_text,
 };
-use error_lines::explain;
 use model_answer::WrongSentence;
-use program_fault::{ProgramFault, Texts, status_of};
+use program_fault::{ProgramFault, Texts, explain, status_of};
 use value_answer::{AlikeSentence, UnwrittenSentence};
 
 /// The exit status of an answer. Where a trace has no order, or a log a wrong reply, standard error

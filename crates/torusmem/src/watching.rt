@@ -2,8 +2,7 @@
 
 use command_jobs::{fault_told, flushed, writer};
 use command_verdicts::{Judged, status, verdict_text, watched_verdict};
-use error_lines::explain_unread;
-use program_fault::{ProgramFault, Unread};
+use program_fault::{ProgramFault, Unread, explain_unread};
 use report_lines::Piped;
 use report_lines::output::put_all;
 use std::fs::File;

@@ -5,14 +5,14 @@ use Rattle.std.proofs.lemmas.Bool.{leb-true, ltb-true}
 use Rattle.std.proofs.lemmas.Option.{same_Some, none-some}
 use Rattle.torus.specs.declared.fault.Fault.{Fault}
 use Rattle.torus.specs.declared.fault.Fault.TheVariants as fault
-use Rattle.script.specs.declared.line.Line.{Line}
-use Rattle.script.specs.declared.line.Value.{Value}
+use Rattle.script_lines.specs.declared.line.Line.{Line}
+use Rattle.script_lines.specs.declared.line.Value.{Value}
 use Rattle.torus.specs.declared.step.Step.{Step}
 use Rattle.core_laws.specs.Core.{Load}
-use Rattle.core_growth.specs.Appended.{load_with}
-use Rattle.core_growth.specs.Handed.{refused}
-use Rattle.core_machine.specs.Machine.{IsAfter}
-use Rattle.machine_asked.specs.Asked.{Asked, IsNumbered, has_spin, index_asked, is_behind_spin, is_operation}
+use Rattle.core_laws.specs.Appended.{load_with}
+use Rattle.core_laws.specs.Handed.{refused}
+use Rattle.core_laws.specs.Machine.{IsAfter}
+use Rattle.machine_asked.specs.Asked.{Asked, IsNumberedLine, has_spin, index_asked, is_behind_spin, is_operation}
 use Rattle.torusmem_c.specs.declared.outcome.Outcome.{Outcome}
 use Rattle.torusmem_c.specs.declared.outcome.Code.TheVariants as code
 use Rattle.torusmem_c.specs.Outcome.{c_outcome}
@@ -76,7 +76,7 @@ index_there v p line operation plain none missing =
 pub numbers_of : (p : ℕ) (line : Line) (old new : Asked) (r : Outcome) (index : Option ℕ) → is_operation line ≡ true → is_behind_spin old p ≡ false
     → IsHanded p line old new → index ≡ index_asked old p line
     → IfSome index (λ i. (l : Load) (steps : List Step) → IsAfter l old.core steps → old.spins ≡ map has_spin l.scripts
-    → IsNumbered (load_with l p line) p line i)
+    → IsNumberedLine (load_with l p line) p line i)
     → r ≡ c_outcome code.Done (unwrap_or index 0) → Numbers p line old new r
 numbers_of p line old new r None operation plain handed is numbered told = absurd (index_there old p line operation plain handed.taken is)
 numbers_of p line old new r (Some i) operation plain handed is numbered told =

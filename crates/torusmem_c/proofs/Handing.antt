@@ -1,13 +1,13 @@
 -- A machine that goes on where another stands, and the words of one that is opened.
 use Rattle.std.proofs.Common.{◌≡◌, ℕ, ◌+◌, List, [], ◌∷◌, ◌++◌, replicate, Option, Some, None, sym, ◌∙◌, ap, subst}
 use Rattle.std.proofs.lemmas.List.{append_assoc, replicate_more}
-use Rattle.core_machine.specs.Machine.{shown}
+use Rattle.core_laws.specs.Machine.{shown}
 use Rattle.machine_asked.specs.Asked.{Asked}
 use Rattle.machine_asked.specs.Opened.{IsOpened}
 use Rattle.torusmem_c.specs.declared.outcome.Outcome.{Outcome}
 use Rattle.torusmem_c.specs.declared.outcome.Code.TheVariants as code
 use Rattle.torusmem_c.specs.Outcome.{c_outcome, no_memory}
-use Rattle.torusmem_c.specs.Opening.{HandsOn, Keeps}
+use Rattle.torusmem_c.specs.Opening.{HandsOn, KeepsHandle}
 
 -- one word more, which is 0
 pub zero_more : (given items new : List ℕ) (n : ℕ) → items ≡ given ++ replicate n 0 → new ≡ items ++ 0 ∷ [] → new ≡ given ++ replicate (n + 1) 0
@@ -18,7 +18,7 @@ zero_more given items new n so_far grown =
 
 -- what is kept of a machine that opens with the words of another
 pub handed_on : (v made : Asked) (rounds : ℕ) (after : Option Asked) (r : Outcome)
-    → IsOpened v.core.shape v.core.depth v.core.tags (shown v.core).memory made → Keeps made rounds after r
+    → IsOpened v.core.shape v.core.depth v.core.tags (shown v.core).memory made → KeepsHandle made rounds after r
     → HandsOn v (c_outcome code.Done rounds) after r
 handed_on v made rounds None r opened kept = kept
 handed_on v made rounds (Some u) r opened kept =

@@ -2,7 +2,7 @@
 use Rattle.std.proofs.Common.{◌≡◌}
 use Rattle.std.specs.Prelude.{Option, None, Result}
 use Rattle.script.specs.declared.fault.LineFault.{LineFault}
-use Rattle.order_abstract.specs.Load.{Load}
+use Rattle.one_order.specs.Load.{Load}
 use Rattle.machine_asked.specs.Asked.{Asked}
 use Rattle.machine_core.specs.Loading.{IsLoadFault}
 use Rattle.torusmem_c.specs.declared.outcome.Outcome.{Outcome}

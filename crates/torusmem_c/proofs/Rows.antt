@@ -7,9 +7,9 @@ use Rattle.std.proofs.lemmas.List.{length-set}
 use Rattle.torus.specs.Shape.{Shape, dims_of, tiles_of}
 use Rattle.torus.specs.declared.step.Step.{Step}
 use Rattle.channel_number.specs.Order.{channel_count}
-use Rattle.core_row.specs.Row.{row_of}
+use Rattle.core_laws.specs.Row.{row_of}
 use Rattle.core_laws.specs.Core.{Load}
-use Rattle.core_machine.specs.Machine.{Core, IsAfter, built_to}
+use Rattle.core_laws.specs.Machine.{Core, IsAfter, built_to}
 use Rattle.machine_core.proofs.ShownRows.{shows_row}
 
 -- a row has at most as many words as 1792 channels of 8 places, 65536 addresses and the done word

@@ -2,10 +2,10 @@
 use Rattle.std.proofs.Common.{◌≡◌, ◌+◌, List, ◌∷◌, Option, Some, None, ◌∙◌, ap}
 use Rattle.std.specs.List.{cons_option}
 use Rattle.torus.specs.declared.step.Step.{Step}
-use Rattle.core_progress.specs.Rounds.{moves_in}
+use Rattle.core_laws.specs.Rounds.{moves_in}
 use Rattle.core_laws.specs.Core.{Load, step}
-use Rattle.core_machine.specs.Machine.{Core, IsAfter, built_to, core_after, core_next}
-use Rattle.core_machine.proofs.Moves.{left_after}
+use Rattle.core_laws.specs.Machine.{Core, IsAfter, built_to, core_after, core_next}
+use Rattle.core_laws.proofs.Moves.{left_after}
 use Rattle.torusmem_c.specs.declared.stepping.AttemptRecord.{AttemptRecord}
 use Rattle.torusmem_c.specs.Choices.{attempt_named}
 use Rattle.torusmem_c.specs.Steps.{steps_named}

@@ -6,15 +6,15 @@ use Rattle.std.specs.Bool.{MatchBool}
 use Rattle.torus.specs.declared.fault.Fault.{Fault}
 use Rattle.torus.specs.declared.fault.Fault.TheVariants as fault
 use Rattle.torus.specs.declared.step.Step.{Step}
-use Rattle.script.specs.declared.line.Line.{Line}
-use Rattle.script.specs.declared.line.Line.TheVariants as line
-use Rattle.script.specs.declared.line.Value.{Value}
-use Rattle.script.specs.declared.line.Value.TheVariants.{Number, Last}
-use Rattle.core_machine.specs.Machine.{IsAfter}
-use Rattle.machine_asked.specs.Asked.{Asked, IsNumbered, has_spin, is_behind_spin, spins_with}
+use Rattle.script_lines.specs.declared.line.Line.{Line}
+use Rattle.script_lines.specs.declared.line.Line.TheVariants as line
+use Rattle.script_lines.specs.declared.line.Value.{Value}
+use Rattle.script_lines.specs.declared.line.Value.TheVariants.{Number, Last}
+use Rattle.core_laws.specs.Machine.{IsAfter}
+use Rattle.machine_asked.specs.Asked.{Asked, IsNumberedLine, has_spin, is_behind_spin, spins_with}
 use Rattle.core_laws.specs.Core.{Load}
-use Rattle.core_growth.specs.Appended.{load_with}
-use Rattle.core_growth.specs.Handed.{handed, moves_kept, refused}
+use Rattle.core_laws.specs.Appended.{load_with}
+use Rattle.core_laws.specs.Handed.{handed, moves_kept, refused}
 use Rattle.torusmem_c.specs.declared.outcome.Outcome.{Outcome}
 use Rattle.torusmem_c.specs.declared.outcome.Code.{Code}
 use Rattle.torusmem_c.specs.declared.outcome.Code.TheVariants as code
@@ -75,11 +75,11 @@ pub record IsHanded (p : ℕ) (line : Line) (old new : Asked) : Type 0 where
   pub law : (l : Load) (steps : List Step) → IsAfter l old.core steps
       → IsAfter (load_with l p line) new.core (moves_kept l old.core p steps)
 
-abbrev pub TakesLine : ℕ → Line → Asked → Asked → Outcome → Type 0
-TakesLine p line old new r = IsHanded p line old new × (r ≡ c_outcome code.Done 0)
+abbrev pub AppendsLine : ℕ → Line → Asked → Asked → Outcome → Type 0
+AppendsLine p line old new r = IsHanded p line old new × (r ≡ c_outcome code.Done 0)
 
 -- it refuses the line for this reason, or there is no memory, and stays as it was
-pub record RefusesLine (p : ℕ) (line : Line) (old new : Asked) (r : Outcome) : Type 0 where
+pub record RefusesAppending (p : ℕ) (line : Line) (old new : Asked) (r : Outcome) : Type 0 where
   pub reason : Fault
   pub why : (refused old.core p line ≡ Some reason)
       ⊎ ((refused old.core p line ≡ None) × (reason ≡ fault.Memory))
@@ -89,7 +89,7 @@ pub record RefusesLine (p : ℕ) (line : Line) (old new : Asked) (r : Outcome) :
 -- it takes the line that is named, or refuses it; where none is, nothing changes
 abbrev pub Appends : ℕ → Option Line → Asked → Asked → Outcome → Type 0
 Appends p None old new r = (new ≡ old) × (r ≡ c_outcome code.NoSuch 0)
-Appends p (Some line) old new r = TakesLine p line old new r ⊎ RefusesLine p line old new r
+Appends p (Some line) old new r = AppendsLine p line old new r ⊎ RefusesAppending p line old new r
 
 -- the operation that has a number: no fence and no spin
 abbrev pub c_operation : ℕ → ℕ → ℕ → ℕ → ℕ → Option Line
@@ -104,7 +104,7 @@ pub record Numbers (p : ℕ) (line : Line) (old new : Asked) (r : Outcome) : Typ
   pub index : ℕ
   pub many : slice_get old.core.allowed p ≡ Some index
   pub numbered : (l : Load) (steps : List Step) → IsAfter l old.core steps
-      → old.spins ≡ map has_spin l.scripts → IsNumbered (load_with l p line) p line index
+      → old.spins ≡ map has_spin l.scripts → IsNumberedLine (load_with l p line) p line index
   pub answer : r ≡ c_outcome code.Done index
 
 -- nothing changes, and this is told
@@ -116,4 +116,4 @@ KeepsMachine why old new r = (new ≡ old) × (r ≡ c_outcome why 0)
 abbrev pub AsksAppend : ℕ → Option Line → Asked → Asked → Outcome → Type 0
 AsksAppend p None old new r = KeepsMachine code.NoSuch old new r
 AsksAppend p (Some line) old new r = MatchBool (is_behind_spin old p) (KeepsMachine code.BehindSpin old new r)
-    (Numbers p line old new r ⊎ RefusesLine p line old new r)
+    (Numbers p line old new r ⊎ RefusesAppending p line old new r)

@@ -10,7 +10,7 @@ use Rattle.dateline_route.specs.declared.channel.Kind.TheVariants.{Injection, Ho
 use Rattle.dateline_route.specs.Route.{route_of}
 use Rattle.channel_number.specs.Number.{number_of}
 use Rattle.channel_number.specs.Order.{bit_place, dir_place}
-use Rattle.core_machine.specs.Machine.{Core}
+use Rattle.core_laws.specs.Machine.{Core}
 use Rattle.torusmem_c.specs.declared.outcome.Outcome.{Outcome}
 use Rattle.torusmem_c.specs.declared.outcome.Code.TheVariants as code
 use Rattle.torusmem_c.specs.declared.routes.ChannelRecord.{ChannelRecord}

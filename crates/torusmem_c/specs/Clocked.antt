@@ -1,12 +1,12 @@
 -- Clocked rounds, as C sees them.
 use Rattle.std.specs.Prelude.{◌≡◌, ℕ, ◌+◌, ◌≤◌, ◌++◌, List, false, length}
 use Rattle.torus.specs.declared.step.Step.{Step}
-use Rattle.core_progress.specs.Rounds.{moves_in}
-use Rattle.core_progress.specs.Moves.{moves_left}
-use Rattle.order_abstract.specs.Scripts.{AreFinished}
+use Rattle.core_laws.specs.Rounds.{moves_in}
+use Rattle.core_laws.specs.ProgressMoves.{moves_left}
+use Rattle.one_order.specs.AbstractScripts.{AreFinished}
 use Rattle.core_laws.specs.Core.{Load, run_of, step}
-use Rattle.core_machine.specs.Machine.{Core, IsAfter, RunsOn, MakesMove, core_after, built_to}
-use Rattle.core_machine.specs.Machine.{all_finished}
+use Rattle.core_laws.specs.Machine.{Core, IsAfter, RunsOn, MakesMove, core_after, built_to}
+use Rattle.core_laws.specs.Machine.{all_finished}
 use Rattle.machine_core.specs.Clocked.{NeedsClocked, clocked_round, clocked_rounds}
 use Rattle.torusmem_c.specs.declared.outcome.Outcome.{Outcome}
 use Rattle.torusmem_c.specs.declared.outcome.Code.TheVariants as code

@@ -3,7 +3,7 @@ use Rattle.std.specs.Prelude.{◌≡◌, ◌⊎◌, ℕ, Bool, List, [], ◌∷�
 use Rattle.std.specs.List.{flat_map}
 use Rattle.std.specs.List.Sorted.{IsNonDecreasingBy, IsPermutation}
 use Rattle.one_order.specs.declared.ordered.Ordered.{Ordered}
-use Rattle.core_machine.specs.Machine.{Core}
+use Rattle.core_laws.specs.Machine.{Core}
 use Rattle.torusmem_c.specs.declared.events.HappenedRecord.{HappenedRecord}
 use Rattle.torusmem_c.specs.declared.outcome.Outcome.{Outcome}
 use Rattle.torusmem_c.specs.Orders.{ordered_record}

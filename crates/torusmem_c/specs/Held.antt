@@ -1,6 +1,6 @@
 -- What a call does to what a handle holds, and what it answers (this project's own format).
 use Rattle.std.specs.Prelude.{◌≡◌, Option, Some, None}
-use Rattle.core_machine.specs.Machine.{Core}
+use Rattle.core_laws.specs.Machine.{Core}
 use Rattle.machine_asked.specs.Asked.{Asked}
 use Rattle.torusmem_c.specs.declared.outcome.Outcome.{Outcome}
 use Rattle.torusmem_c.specs.declared.outcome.Code.TheVariants as code

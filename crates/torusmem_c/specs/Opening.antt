@@ -6,7 +6,7 @@ use Rattle.torus.specs.Shape.{Shape}
 use Rattle.torus.specs.Refusal.{mixed_of}
 use Rattle.torus.specs.declared.fault.Fault.{Fault}
 use Rattle.torus.specs.declared.fault.Fault.TheVariants as fault
-use Rattle.core_machine.specs.Machine.{shown}
+use Rattle.core_laws.specs.Machine.{shown}
 use Rattle.machine_asked.specs.Asked.{Asked}
 use Rattle.machine_asked.specs.Opened.{IsOpened}
 use Rattle.torusmem_c.specs.declared.outcome.Outcome.{Outcome}
@@ -43,9 +43,9 @@ opening_words words given = given ++ replicate (words - length given) 0
 
 -- what an empty handle holds in the end: a machine, and then this number is answered; or nothing,
 -- since memory was refused
-abbrev pub Keeps : Asked → ℕ → Option Asked → Outcome → Type 0
-Keeps machine value None r = r ≡ no_memory
-Keeps machine value (Some v) r = (v ≡ machine) × (r ≡ c_outcome code.Done value)
+abbrev pub KeepsHandle : Asked → ℕ → Option Asked → Outcome → Type 0
+KeepsHandle machine value None r = r ≡ no_memory
+KeepsHandle machine value (Some v) r = (v ≡ machine) × (r ≡ c_outcome code.Done value)
 
 -- what it holds after it was opened: nothing, and the fault of the numbers is told, or that memory
 -- was refused; or the machine of the numbers
@@ -69,8 +69,8 @@ HandsOn v rounds (Some u) r =
 
 -- the machine makes the least number of rounds after which every script is finished, and the other
 -- one opens with its words
-abbrev pub GoesOn : Asked → Asked → Option Asked → Outcome → Type 0
-GoesOn old new after r =
+abbrev pub GoesOnRunning : Asked → Asked → Option Asked → Outcome → Type 0
+GoesOnRunning old new after r =
     (rounds : Outcome) × OnCore SaysFinished old new rounds × HandsOn new rounds after r
 
 -- the same of two handles; where the other one holds a machine, or this one none, nothing changes
@@ -78,4 +78,4 @@ abbrev pub Reopens : Option Asked → Option Asked → Option Asked → Option A
 Reopens old new (Some u) after r =
     (new ≡ old) × (after ≡ Some u) × (r ≡ c_outcome code.Full 0)
 Reopens None new None after r = (new ≡ None) × (after ≡ None) × (r ≡ c_outcome code.Empty 0)
-Reopens (Some v) new None after r = (w : Asked) × (new ≡ Some w) × GoesOn v w after r
+Reopens (Some v) new None after r = (w : Asked) × (new ≡ Some w) × GoesOnRunning v w after r

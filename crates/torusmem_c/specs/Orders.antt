@@ -2,7 +2,7 @@
 use Rattle.std.specs.Prelude.{◌≡◌, ◌⊎◌, ℕ, List, drop, map}
 use Rattle.std.specs.Option.{unwrap_or}
 use Rattle.one_order.specs.declared.ordered.Ordered.{Ordered}
-use Rattle.core_machine.specs.Machine.{Core}
+use Rattle.core_laws.specs.Machine.{Core}
 use Rattle.torusmem_c.specs.declared.outcome.Outcome.{Outcome}
 use Rattle.torusmem_c.specs.declared.order.OrderedRecord.{OrderedRecord}
 use Rattle.torusmem_c.specs.Room.{LacksMemory, put_over, put_outcome}

@@ -3,8 +3,8 @@
 use Rattle.std.specs.Prelude.{◌≡◌, ◌⊎◌, ℕ, List, Option, Some, None}
 use Rattle.machine_record.specs.Bytes.{record_bytes}
 use Rattle.machine_record.specs.Recording.{Recording, fresh_record}
-use Rattle.machine_record.specs.Calls.{IsFresh, IsRestored, IsUnrestored}
-use Rattle.machine_record.specs.Machine.{AreAlike, Recorded}
+use Rattle.machine_record.specs.Calls.{IsFreshCall, IsRestored, IsUnrestored}
+use Rattle.machine_record.specs.Machine.{AreAlikeMachines, Recorded}
 use Rattle.machine_record.specs.declared.restoring.Unrestored.{Unrestored}
 use Rattle.machine_record.specs.declared.restoring.Unrestored.TheVariants as why
 use Rattle.torusmem_c.specs.declared.outcome.Outcome.{Outcome}
@@ -22,7 +22,7 @@ KeepsFresh machine scripts None (Some v) = v.kept ≡ Some (fresh_record machine
 abbrev pub KeepsOpened : Option Recorded → Option Recorded → Type 0
 KeepsOpened (Some v) new = Unit {0}
 KeepsOpened None None = Unit {0}
-KeepsOpened None (Some v) = IsFresh v
+KeepsOpened None (Some v) = IsFreshCall v
 
 -- the bytes of a record are put into a buffer, and make the machine again
 pub record PutsRecord (v : Recorded) (kept : Recording) (before after : List ℕ) (r : Outcome)
@@ -68,7 +68,7 @@ Restores bs (Some v) new r = (new ≡ Some v) × (r ≡ c_outcome code.Full 0)
 -- another handle holds the same machine with the same record; or none, where there is no record, or
 -- memory was refused
 abbrev pub ClonesTo : Recorded → Option Recorded → Outcome → Type 0
-ClonesTo v (Some u) r = AreAlike u v × (r ≡ c_outcome code.Done 0)
+ClonesTo v (Some u) r = AreAlikeMachines u v × (r ≡ c_outcome code.Done 0)
 ClonesTo v None r = ((v.kept ≡ None) × (r ≡ c_outcome code.NoRecord 0)) ⊎ (r ≡ no_memory)
 
 -- the same of two handles; the first stays as it is, and so does the other where it holds a machine, or

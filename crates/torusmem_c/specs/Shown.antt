@@ -2,8 +2,8 @@
 use Rattle.std.specs.Prelude.{◌≡◌, ℕ, List, length, Option, Some, None, nat_lt, option_and_then}
 use Rattle.std.specs.Prelude.{slice_get, if◌then◌else◌}
 use Rattle.torus.specs.Shape.{tiles_of}
-use Rattle.core_machine.specs.Machine.{Core, built_to, shown}
-use Rattle.core_row.specs.Row.{row_of}
+use Rattle.core_laws.specs.Machine.{Core, built_to, shown}
+use Rattle.core_laws.specs.Row.{row_of}
 use Rattle.torusmem_c.specs.declared.outcome.Outcome.{Outcome}
 use Rattle.torusmem_c.specs.declared.outcome.Code.TheVariants as code
 use Rattle.torusmem_c.specs.declared.records.AnswerRecord.{AnswerRecord}

@@ -1,9 +1,9 @@
 -- The spins that ran out of loads, as C sees them (this project's own format).
 use Rattle.std.specs.Prelude.{◌≡◌, ◌⊎◌, ℕ, List, map, Result, Ok, Err}
 use Rattle.script.specs.declared.fault.LineFault.{LineFault}
-use Rattle.script.specs.declared.line.Line.{Line}
-use Rattle.script.specs.Scripts.{ScriptsSpec}
-use Rattle.core_machine.specs.Machine.{Core, shown}
+use Rattle.script_lines.specs.declared.line.Line.{Line}
+use Rattle.script_lines.specs.Lines.{ScriptsSpec}
+use Rattle.core_laws.specs.Machine.{Core, shown}
 use Rattle.sentences.specs.declared.scripts.EndedSpin.{EndedSpin}
 use Rattle.sentences.specs.Ended.{spins_from}
 use Rattle.sentences.specs.Told.{scripts_read}

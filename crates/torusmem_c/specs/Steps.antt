@@ -6,14 +6,14 @@ use Rattle.torus.specs.Shape.{Shape}
 use Rattle.torus.specs.declared.step.Step.{Step}
 use Rattle.torus.specs.declared.step.Stepped.{Stepped}
 use Rattle.torus.specs.declared.step.Stepped.TheVariants.{Moved, Idle}
-use Rattle.core_progress.specs.Rounds.{moves_in}
-use Rattle.order_abstract.specs.Scripts.{AreFinished}
+use Rattle.core_laws.specs.Rounds.{moves_in}
+use Rattle.one_order.specs.AbstractScripts.{AreFinished}
 use Rattle.core_laws.specs.Core.{Load, run_of, step, round}
-use Rattle.core_machine.specs.Machine.{Core, IsAfter, RunsOn, MakesMove, Steps}
-use Rattle.core_machine.specs.Machine.{core_after, built_to}
-use Rattle.core_machine.specs.Machine.{all_finished}
+use Rattle.core_laws.specs.Machine.{Core, IsAfter, RunsOn, MakesMove, Steps}
+use Rattle.core_laws.specs.Machine.{core_after, built_to}
+use Rattle.core_laws.specs.Machine.{all_finished}
 use Rattle.machine_core.specs.Rounds.{rounds_of, NeedsRounds}
-use Rattle.core_progress.specs.Moves.{IsLive, moves_left}
+use Rattle.core_laws.specs.ProgressMoves.{IsLive, moves_left}
 use Rattle.torusmem_c.specs.declared.outcome.Outcome.{Outcome}
 use Rattle.torusmem_c.specs.declared.outcome.Code.TheVariants as code
 use Rattle.torusmem_c.specs.declared.stepping.AttemptRecord.{AttemptRecord}
@@ -77,8 +77,8 @@ abbrev pub MakesUnless : Option ℕ → List Step → Core → Core → Outcome 
 MakesUnless None steps old new r = MakesSteps steps old new r
 MakesUnless (Some at) steps old new r = (new ≡ old) × (r ≡ c_outcome code.NoSuch at)
 
-abbrev pub MakesAll : List AttemptRecord → Core → Core → Outcome → Type 0
-MakesAll attempts old = MakesUnless (first_unnamed old.shape attempts) (steps_named attempts) old
+abbrev pub MakesAllSteps : List AttemptRecord → Core → Core → Outcome → Type 0
+MakesAllSteps attempts old = MakesUnless (first_unnamed old.shape attempts) (steps_named attempts) old
 
 -- the machine makes one round; where some script isn't finished, the round makes a move
 pub record MakesRound (old new : Core) (r : Outcome) : Type 0 where

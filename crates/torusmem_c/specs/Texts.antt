@@ -1,8 +1,8 @@
 -- Loads, reports and their check, as C sees them (this project's own format).
 use Rattle.std.specs.Prelude.{◌≡◌, ◌⊎◌, ℕ, List, map, Result, Ok, Option, Some, None}
 use Rattle.script.specs.declared.fault.LineFault.{LineFault}
-use Rattle.order_abstract.specs.Load.{Load}
-use Rattle.core_machine.specs.Machine.{Core}
+use Rattle.one_order.specs.Load.{Load}
+use Rattle.core_laws.specs.Machine.{Core}
 use Rattle.machine_asked.specs.Asked.{Asked, has_spin}
 use Rattle.report_lines.specs.Line.{text_of}
 use Rattle.report_check.specs.Good.{GoodReport, HasFault}

@@ -8,7 +8,7 @@ use Rattle.trace_judge.specs.declared.judge.Verdict.TheVariants.{Linearizable, N
 use Rattle.trace_judge.specs.declared.undecided.Undecided.{Undecided}
 use Rattle.trace_judge.specs.declared.undecided.Undecided.TheVariants as undecided
 use Rattle.trace_judge.specs.Stops.{IsUndecided, TellsMany}
-use Rattle.trace_judge.specs.Verdicts.{Tells}
+use Rattle.trace_judge.specs.Verdicts.{TellsTraceVerdict}
 use Rattle.torusmem_c.specs.declared.outcome.Outcome.{Outcome}
 use Rattle.torusmem_c.specs.declared.outcome.Code.TheVariants as code
 use Rattle.torusmem_c.specs.Outcome.{fault_outcome, no_memory, c_outcome}
@@ -36,7 +36,7 @@ undecided_outcome (undecided.Operations event) = c_outcome code.TooOpen event
 -- the answer on a trace that is judged: a verdict that holds of it
 abbrev pub TellsVerdict : Type 0 → List ℕ → List Event → List ℕ → List ℕ → Outcome → Type 0
 TellsVerdict A opening trace before after r =
-    (v : Verdict A) × Tells opening trace v × PutsOrder v before after r
+    (v : Verdict A) × TellsTraceVerdict opening trace v × PutsOrder v before after r
 
 -- the answer on one that isn't: a reason that holds of it; on too many configurations, that a
 -- word has more than so many

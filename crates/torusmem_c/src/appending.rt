@@ -3,7 +3,7 @@
 ghost use Rattle.std.specs.Prelude.{◌≡◌, ◌⊎◌, IfSome, false, true, unwrap_or};
 ghost use Rattle.c_handles.specs.HeldMachine.{held};
 ghost use Rattle.machine_asked.specs.Asked.{is_behind_spin, is_operation};
-ghost use Rattle.torusmem_c.specs.Appending.{Appends, AsksAppend, Numbers, RefusesLine, is_first_last};
+ghost use Rattle.torusmem_c.specs.Appending.{Appends, AsksAppend, Numbers, RefusesAppending, is_first_last};
 ghost use Rattle.torusmem_c.specs.Appending.{is_second_last, line_named, line_said, numbered_line};
 ghost use Rattle.torusmem_c.specs.Appending.{c_operation, c_value};
 ghost use Rattle.torusmem_c.specs.Held.{OfAsked};
@@ -154,7 +154,7 @@ fn numbered(machine: &mut RecordedMachine, processor: u32, line: Line) -> Outcom
     requires operation { is_operation line ≡ true }
     requires plain { is_behind_spin machine.old.asked processor ≡ false }
     ensures { Numbers processor line machine.old.asked machine.new.asked result
-        ⊎ RefusesLine processor line machine.old.asked machine.new.asked result }
+        ⊎ RefusesAppending processor line machine.old.asked machine.new.asked result }
 {
     match machine.ask(processor, line) {
         Ok(index) => Outcome::done(index_number(index)),

@@ -3,8 +3,8 @@
 ghost use Rattle.std.specs.Prelude.{◌≡◌, IfOk, IfSome, None, length};
 ghost use Rattle.c_handles.specs.HeldMachine.{held, held_whole};
 ghost use Rattle.machine_asked.specs.Opened.{IsOpened};
-ghost use Rattle.machine_record.specs.Calls.{IsFresh};
-ghost use Rattle.torusmem_c.specs.Opening.{GoesOn, Keeps, Opens, Reopens, opening_words, shape_asked, torus_asked};
+ghost use Rattle.machine_record.specs.Calls.{IsFreshCall};
+ghost use Rattle.torusmem_c.specs.Opening.{GoesOnRunning, KeepsHandle, Opens, Reopens, opening_words, shape_asked, torus_asked};
 ghost use Rattle.torusmem_c.specs.Saving.{KeepsOpened};
 
 use crate::outcome::{Code, Outcome, no_memory};
@@ -76,7 +76,7 @@ fn opened(
 /// Holds a machine in an empty handle, and answers this number.
 fn kept(handle: &mut MachineHandle, machine: AskedMachine, value: u64) -> Outcome
     requires { held handle.old ≡ None }
-    ensures { Keeps machine value (held handle.new) result }
+    ensures { KeepsHandle machine value (held handle.new) result }
 {
     match handle.hold(RecordedMachine::unrecorded(machine)) {
         Ok(()) => Outcome::done(value),
@@ -122,7 +122,7 @@ fn opened_recorded(
 ) -> Result<RecordedMachine, AllocError>
     ensures opened { IfOk result (λ m. IsOpened torus shape.now.depth shape.now.tags
         (opening_words shape.now.words words.now) m.asked) }
-    ensures kept { IfOk result IsFresh }
+    ensures kept { IfOk result IsFreshCall }
 {
     let opening = opening_words(alloc, shape.words, words)?;
     RecordedMachine::open(alloc, torus, shape.depth, shape.tags, opening.as_slice())
@@ -132,7 +132,7 @@ fn opened_recorded(
 fn kept_recorded(handle: &mut MachineHandle, machine: RecordedMachine) -> Outcome
     requires held { held handle.old ≡ None }
     requires whole { held_whole handle.old ≡ None }
-    ensures held { Keeps machine.asked 0 (held handle.new) result }
+    ensures held { KeepsHandle machine.asked 0 (held handle.new) result }
     ensures whole { IfSome (held_whole handle.new) (λ v. v ≡ machine) }
 {
     match handle.hold(machine) {
@@ -172,7 +172,7 @@ pub extern "C" fn torusmem_open_recorded(
 /// Finishes a machine, and holds one that goes on where it stands in an empty handle.
 fn gone_on(alloc: Global, machine: &mut RecordedMachine, fresh: &mut MachineHandle) -> Outcome
     requires { held fresh.old ≡ None }
-    ensures { GoesOn machine.old.asked machine.new.asked (held fresh.new) result }
+    ensures { GoesOnRunning machine.old.asked machine.new.asked (held fresh.new) result }
 {
     let rounds = machine.finish();
     match machine.asked().reopened(alloc) {

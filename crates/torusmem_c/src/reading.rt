@@ -1,9 +1,9 @@
 //! What there is to tell of the machine that a handle holds: nothing of it changes.
 
 ghost use Rattle.std.specs.Prelude.{◌≡◌, None, length};
-ghost use Rattle.core_row.specs.Row.{row_of};
+ghost use Rattle.core_laws.specs.Row.{row_of};
 ghost use Rattle.c_handles.specs.HeldMachine.{held};
-ghost use Rattle.core_machine.specs.Machine.{built_to};
+ghost use Rattle.core_laws.specs.Machine.{built_to};
 ghost use Rattle.torusmem_c.specs.Room.{put_over, put_outcome};
 ghost use Rattle.torusmem_c.specs.Held.{OfHeld, OnHeld, HandleTells};
 ghost use Rattle.torusmem_c.specs.Records.{no_answer, no_entry};

@@ -4,7 +4,7 @@ ghost use Rattle.std.specs.Prelude.{◌≡◌};
 ghost use Rattle.c_handles.specs.HeldMachine.{held};
 ghost use Rattle.torusmem_c.specs.Held.{HandleTells, OnCore, OnHeld};
 ghost use Rattle.torusmem_c.specs.Outcome.{c_outcome};
-ghost use Rattle.torusmem_c.specs.Steps.{MakesAll, MakesNamed, MakesRound, MakesSteps, SaysFinished, TellsFinished};
+ghost use Rattle.torusmem_c.specs.Steps.{MakesAllSteps, MakesNamed, MakesRound, MakesSteps, SaysFinished, TellsFinished};
 ghost use Rattle.torusmem_c.specs.Steps.{TellsMovesLeft, enabled_told, first_unnamed, moved_number, steps_named};
 
 use crate::choice::{attempt_named, step_named};
@@ -80,7 +80,7 @@ fn first_unnamed(torus: &Torus, attempts: &[AttemptRecord]) -> Option<usize>
 
 /// Makes attempts, if all of them name steps.
 fn made_if_named(machine: &mut RecordedMachine, attempts: &[AttemptRecord]) -> Outcome
-    ensures { OnCore (MakesAll attempts.now) machine.old.asked machine.new.asked result }
+    ensures { OnCore (MakesAllSteps attempts.now) machine.old.asked machine.new.asked result }
 {
     match first_unnamed(machine.machine().torus(), attempts) {
         Some(at) => Outcome::of(Code::NoSuch, at as u64),
@@ -93,7 +93,7 @@ fn made_if_named(machine: &mut RecordedMachine, attempts: &[AttemptRecord]) -> O
 /// Errors: one of them is no choice of an agent; the place of the first such is told, and none is made.
 #[unsafe(no_mangle)]
 pub extern "C" fn torusmem_run(handle: &mut MachineHandle, attempts: &[AttemptRecord]) -> Outcome
-    ensures { OnHeld (MakesAll attempts.now) (held handle.old) (held handle.new) result }
+    ensures { OnHeld (MakesAllSteps attempts.now) (held handle.old) (held handle.new) result }
 {
     match handle.machine() {
         Some(machine) => made_if_named(machine, attempts),

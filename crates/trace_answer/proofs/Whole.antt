@@ -5,7 +5,7 @@ use Rattle.std.proofs.lemmas.Bool.Decides.{nat_tests}
 use Rattle.std.proofs.lemmas.Option.{same_Some}
 use Rattle.trace_text.specs.Findings.{trace_read}
 use Rattle.trace_text.specs.IssueNumbers.{numbers_of}
-use Rattle.trace_text.specs.Kept.{IsKept}
+use Rattle.trace_text.specs.Kept.{IsKeptIssue}
 use Rattle.trace_text.specs.Traced.{TraceReading, TraceSpec, trace_of}
 use Rattle.trace_text.proofs.Read.{text_read}
 use Rattle.trace_answer.specs.Whole.{IsWholeTrace}
@@ -13,7 +13,7 @@ use Rattle.trace_answer.specs.Whole.{IsWholeTrace}
 not_zero : (n : ℕ) → (n == 0) ≡ false → 1 ≤ n
 not_zero n h = grind (arith, nat_tests, h)
 
-read_whole : (r : TraceReading) → IsKept r → (r.head.words == 0) ≡ false → IsWholeTrace (trace_read r)
+read_whole : (r : TraceReading) → IsKeptIssue r → (r.head.words == 0) ≡ false → IsWholeTrace (trace_read r)
 read_whole r k some = record {
   words = not_zero r.head.words some;
   trace = k.trace;

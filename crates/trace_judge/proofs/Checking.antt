@@ -5,7 +5,7 @@ use Rattle.packet.specs.declared.kinds.Reply.{Reply}
 use Rattle.trace_laws.specs.declared.event.Call.{Call}
 use Rattle.trace_laws.specs.declared.event.Event.{Event}
 use Rattle.trace_laws.specs.declared.event.Event.TheVariants.{Issue, Answer}
-use Rattle.trace_laws.specs.Traces.{IsTrace, TraceIssuesAt, TraceAnswersAt, WasIssued}
+use Rattle.trace_laws.specs.Traces.{IsTrace, TraceIssuesAt, TraceAnswersAt, WasIssuedBefore}
 use Rattle.trace_laws.proofs.Lists.{get_within}
 use Rattle.trace_judge.specs.Opened.{WasLeftOpen}
 
@@ -25,7 +25,7 @@ IsLast trace k (Some n) = ((i : ℕ) (call : Call) → i < k → TraceIssuesAt t
 pub record IsChecked (words : ℕ) (trace : List Event) (k : ℕ) (last : Option ℕ) : Type 0 where
   pub rising : (i j : ℕ) (a b : Call) → i < j → j < k → TraceIssuesAt trace i a → TraceIssuesAt trace j b
       → a.id < b.id
-  pub issued : (j id : ℕ) (reply : Reply) → j < k → TraceAnswersAt trace j id reply → WasIssued trace j id
+  pub issued : (j id : ℕ) (reply : Reply) → j < k → TraceAnswersAt trace j id reply → WasIssuedBefore trace j id
   pub once : (i j id : ℕ) (r s : Reply) → i < j → j < k → TraceAnswersAt trace i id r → TraceAnswersAt trace j id s
       → ⊥
   pub inside : (i : ℕ) (call : Call) → i < k → TraceIssuesAt trace i call → call.operation.address < words
@@ -104,7 +104,7 @@ checked_answer words trace k last id reply now left was =
     let at : slice_get trace k ≡ Some (Answer other r) = ap (λ (n : ℕ). slice_get trace n) (sym e) ∙ h in cc in
     record {
       rising = λ i j a b l m h g. was.rising i j a b l (let ne : j ≢ k = λ e. never j e b g in omega arith) h g;
-      issued = λ j other r l h. ⊎_elim {C = WasIssued trace j other}
+      issued = λ j other r l h. ⊎_elim {C = WasIssuedBefore trace j other}
           (λ (e : j ≡ k).
           let early = left.early in
           (left.at, left.call, omega arith, left.number ∙ here j e other r h, left.issue))
@@ -161,7 +161,7 @@ not_rising words trace k last n call e now low was t =
     omega arith
 
 pub not_open : (words : ℕ) (trace : List Event) (k id : ℕ) (reply : Reply) → TraceAnswersAt trace k id reply
-    → (WasIssued trace k id → ⊥) ⊎ ((j : ℕ) × (told : Reply) × (j < k) × TraceAnswersAt trace j id told)
+    → (WasIssuedBefore trace k id → ⊥) ⊎ ((j : ℕ) × (told : Reply) × (j < k) × TraceAnswersAt trace j id told)
     → IsTrace words trace → ⊥
 not_open words trace k id reply now why t = ⊎_elim {C = ⊥}
     (λ none. none (t.issued k id reply now))

@@ -11,7 +11,7 @@ use Rattle.trace_laws.proofs.Lists.{take_get}
 use Rattle.trace_laws.specs.declared.opened.Open.{Open}
 use Rattle.trace_laws.specs.Searches.{IsAt, IsIndexTable}
 use Rattle.trace_judge.specs.Stops.{IsBeginning, IsCrowded}
-use Rattle.trace_judge.specs.Slots.{IsFilled, IsFull, IsFirst, IsParted}
+use Rattle.trace_judge.specs.Slots.{IsFilled, IsFullWord, IsFirstSlot, IsParted}
 use Rattle.trace_judge.proofs.Parting.{answer_back}
 
 abbrev calls_of : List (Option Open) → List Call
@@ -67,7 +67,7 @@ crowd_at first table filled s c h =
     (r.0, o.0, r.1, r.2, r.3, o.2)
 
 -- the operations of these slots are as one of them
-alike_later : (whole : List Event) (id other first j : ℕ) → IsFirst whole id first → IsParted whole j other
+alike_later : (whole : List Event) (id other first j : ℕ) → IsFirstSlot whole id first → IsParted whole j other
     → first ≤ j → j < first + 64 → IsAnswered whole id → IsAnswered whole other
 alike_later whole id other first j is parted low high answered = ⊎_elim {C = IsAnswered whole other}
     (λ (p : (j < 64) × IsAnswered whole other). p.1)
@@ -77,7 +77,7 @@ alike_later whole id other first j is parted low high answered = ⊎_elim {C = I
     is)
     parted
 
-alike_never : (whole : List Event) (id other first j : ℕ) → IsFirst whole id first → IsParted whole j other
+alike_never : (whole : List Event) (id other first j : ℕ) → IsFirstSlot whole id first → IsParted whole j other
     → first ≤ j → j < first + 64 → IsAnswered whole other → IsAnswered whole id
 alike_never whole id other first j is parted low high answered = ⊎_elim {C = IsAnswered whole id}
     (λ (r : (first ≡ 0) × IsAnswered whole id). r.1)
@@ -94,9 +94,9 @@ issue_on events whole i c is h = (take_get is.0 whole i (Issue c)
 
 -- so an issue finds 64 operations open on its word
 pub crowded : (trace whole : List Event) (k first : ℕ) (table : List (Option Open)) (call : Call)
-    → IsBeginning trace whole → k < length trace → IsFirst whole call.id first
+    → IsBeginning trace whole → k < length trace → IsFirstSlot whole call.id first
     → ((s : ℕ) (o : Open) → IsAt table s o → IsParted whole s o.call.id)
-    → IsIndexTable trace k call.operation.address table → IsFull first table → TraceIssuesAt trace k call
+    → IsIndexTable trace k call.operation.address table → IsFullWord first table → TraceIssuesAt trace k call
     → IsCrowded whole k
 crowded trace whole k first table call begun inside begins parted t is now =
     let enough : 64 ≤ length (drop first table) =

@@ -10,7 +10,7 @@ use Rattle.trace_laws.specs.Unanswered.{IssuesUnanswered, IsResponse, IsWithout}
 use Rattle.trace_laws.proofs.Lists.{take_push}
 use Rattle.trace_laws.proofs.Unanswered.{to_long, to_fewer_answers}
 use Rattle.trace_laws.proofs.Without.{without_kept, without_left}
-use Rattle.trace_judge.specs.Guesses.{IsLikely, IsKeptOrLeft, HasAnswer}
+use Rattle.trace_judge.specs.Guesses.{IsLikely, IsKeptOrLeft, HasGuessedAnswer}
 
 likely_kept : (trace old new : List Event) (k : ℕ) (event : Event) → slice_get trace k ≡ Some event
     → IsKeptOrLeft trace k old new → IsLikely trace (take k trace) old → IsLikely trace (take (k + 1) trace) new
@@ -31,7 +31,7 @@ likely_kept trace old new k event at is was =
     ))
     (is event at)))
 
-pub likely_answer : (trace events old new : List Event) → HasAnswer old new → IsLikely trace events old
+pub likely_answer : (trace events old new : List Event) → HasGuessedAnswer old new → IsLikely trace events old
     → IsLikely trace events new
 likely_answer trace events old new is was = ⊎_elim {C = IsLikely trace events new}
     (λ (e : new ≡ old). subst (λ (es : List Event). IsLikely trace events es) (sym e) was)
@@ -44,7 +44,7 @@ likely_answer trace events old new is was = ⊎_elim {C = IsLikely trace events 
     is
 
 pub likely_more : (trace old middle new : List Event) (k : ℕ) (event : Event) → slice_get trace k ≡ Some event
-    → IsKeptOrLeft trace k old middle → HasAnswer middle new → IsLikely trace (take k trace) old
+    → IsKeptOrLeft trace k old middle → HasGuessedAnswer middle new → IsLikely trace (take k trace) old
     → IsLikely trace (take (k + 1) trace) new
 likely_more trace old middle new k event at kept answer was =
     likely_answer trace (take (k + 1) trace) middle new answer (likely_kept trace old middle k event at kept was)

@@ -11,7 +11,7 @@ use Rattle.trace_laws.proofs.Picking.{grown, node_of}
 use Rattle.trace_laws.proofs.Lists.{get_push_cases}
 use Rattle.trace_judge.specs.declared.idles.Idle.{Idle}
 use Rattle.trace_judge.specs.Idles.{AreListed, AreLow, settled}
-use Rattle.trace_judge.specs.Sets.{StaysSound, WaitsFor, Replaces, Joins, Takes}
+use Rattle.trace_judge.specs.Sets.{StaysSound, WaitsForEvent, Replaces, Joins, Takes}
 use Rattle.trace_judge.proofs.Branches.{pushed_in, stays_same, stays_more, stays_fewer, stays_added}
 use Rattle.trace_judge.proofs.Calm.{settled_good}
 
@@ -31,7 +31,7 @@ settled_pushed table w idles c found more b low are e is =
 
 -- the configuration without an operation that is never answered is there
 pub waiting_has : (table : List (Option Open)) (w s : ℕ) (place : Option Open) (c less : Config) (configs : List Config)
-    → s < 128 → slice_get table s ≡ Some place → WaitsFor place w → less ≡ release c s → IsIn configs less
+    → s < 128 → slice_get table s ≡ Some place → WaitsForEvent place w → less ≡ release c s → IsIn configs less
     → HasAsGood table w configs c
 waiting_has table w s place c less configs low at waits e there = (
   less,

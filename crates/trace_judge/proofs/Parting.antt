@@ -15,7 +15,7 @@ use Rattle.trace_laws.proofs.Lists.{take_get, within_length, get_set_same, get_s
 use Rattle.trace_laws.specs.declared.opened.Open.{Open}
 use Rattle.trace_laws.specs.Searches.{IsAt}
 use Rattle.trace_judge.specs.Stops.{IsBeginning}
-use Rattle.trace_judge.specs.Slots.{IsPut, IsBegun, IsFirst, IsParted}
+use Rattle.trace_judge.specs.Slots.{IsPut, IsBegunSlot, IsFirstSlot, IsParted}
 
 -- slots with nothing in them
 pub pads_none : (table : List (Option Open)) → table ≡ table ++ replicate 0 None
@@ -71,8 +71,8 @@ pub begun_first : (words : ℕ) (events whole : List Event) (k : ℕ) (call : Ca
     → IsTrace words events → IsBeginning events whole → TraceIssuesAt events k call
     → MatchOption promise ((i : ℕ) (reply : Reply) → k + 1 ≤ i → TraceAnswersAt events i call.id reply → ⊥)
     (λ reply. (i : ℕ) × (k + 1 ≤ i) × TraceAnswersAt events i call.id reply)
-    → IsBegun whole (length events) call.id promise first → IsFirst whole call.id first
-begun_first words events whole k call promise first t is now tells begun = ⊎_elim {C = IsFirst whole call.id first}
+    → IsBegunSlot whole (length events) call.id promise first → IsFirstSlot whole call.id first
+begun_first words events whole k call promise first t is now tells begun = ⊎_elim {C = IsFirstSlot whole call.id first}
     (λ (r : (first ≡ 0) × (IsSome promise ⊎ IsAnswered whole call.id)). inl (
       r.0,
       ⊎_elim {C = IsAnswered whole call.id}
@@ -111,13 +111,13 @@ begun_first words events whole k call promise first t is now tells begun = ⊎_e
         (cases_lt i (k + 1))
 
 -- a first slot is one of two
-pub first_low : (whole : List Event) (id first : ℕ) → IsFirst whole id first → first ≤ 64
+pub first_low : (whole : List Event) (id first : ℕ) → IsFirstSlot whole id first → first ≤ 64
 first_low whole id first is = ⊎_elim {C = first ≤ 64}
     (λ (r : (first ≡ 0) × IsAnswered whole id). let e = r.0 in omega arith)
     (λ (r : (first ≡ 64) × (IsAnswered whole id → ⊥)). let e = r.0 in omega arith)
     is
 
-parted_first : (whole : List Event) (id first s : ℕ) → IsFirst whole id first → first ≤ s → s < first + 64 → IsParted whole s id
+parted_first : (whole : List Event) (id first s : ℕ) → IsFirstSlot whole id first → first ≤ s → s < first + 64 → IsParted whole s id
 parted_first whole id first s is low high = ⊎_elim {C = IsParted whole s id}
     (λ (r : (first ≡ 0) × IsAnswered whole id). let e = r.0 in inl (omega arith, r.1))
     (λ (r : (first ≡ 64) × (IsAnswered whole id → ⊥)). let e = r.0 in inr (omega arith, r.1))
@@ -125,7 +125,7 @@ parted_first whole id first s is low high = ⊎_elim {C = IsParted whole s id}
 
 -- operations are in their slots still, with one that is put
 pub parted_put : (whole : List Event) (old new : List (Option Open)) (first : ℕ) (b : Open)
-    → IsFirst whole b.call.id first → IsPut old first b new
+    → IsFirstSlot whole b.call.id first → IsPut old first b new
     → ((s : ℕ) (o : Open) → IsAt old s o → IsParted whole s o.call.id)
     → (s : ℕ) (o : Open) → IsAt new s o → IsParted whole s o.call.id
 parted_put whole old new first b is put parted s o h = ⊎_elim {C = IsParted whole s o.call.id}

@@ -24,7 +24,7 @@ use Rattle.trace_judge.specs.declared.search.Search.{Search}
 use Rattle.trace_judge.specs.declared.index.Index.{Index}
 use Rattle.trace_judge.specs.Sets.{lists_of}
 use Rattle.trace_judge.specs.Searched.{HasSearched}
-use Rattle.trace_judge.specs.Slots.{IsPut, IsBegun, IsFirst, IsParted}
+use Rattle.trace_judge.specs.Slots.{IsPut, IsBegunSlot, IsFirstSlot, IsParted}
 use Rattle.trace_judge.specs.Stops.{IsBeginning}
 use Rattle.trace_judge.specs.Elders.{IsKeptUp, IsSearchedInTurn}
 use Rattle.trace_judge.proofs.Parting.{begun_first, first_low, parted_put}
@@ -190,7 +190,7 @@ pub holds_issue : {A : Type 0} (opening : List ℕ) (trace whole : List Event) (
     → old ≡ get_or s.tables.items call.operation.address old
     → tables.items ≡ set s.tables.items call.operation.address table
     → IsTrace (length opening) trace → TraceIssuesAt trace k call
-    → IsBeginning trace whole → IsBegun whole (length trace) call.id promise first
+    → IsBeginning trace whole → IsBegunSlot whole (length trace) call.id promise first
     → IsPut old.items first (record { call = call; promise = promise }) table.items
     → MatchOption promise ((i : ℕ) (reply : Reply) → k + 1 ≤ i → TraceAnswersAt trace i call.id reply → ⊥)
     (λ reply. (i : ℕ) × (k + 1 ≤ i) × TraceAnswersAt trace i call.id reply)
@@ -204,7 +204,7 @@ holds_issue {A} opening trace whole k s tables old table first call promise seen
     let here : lists_of tables.items w ≡ table.items = ap (λ (vs : List (Vec (Option Open) A)). lists_of vs w) written
     ∙ set_same s.tables.items w table inside in
     let was : old.items ≡ lists_of s.tables.items w = read_set s.tables.items w old inside seen in
-    let begins : IsFirst whole call.id first = begun_first (length opening) trace whole k call promise first t is now tells begun in
+    let begins : IsFirstSlot whole call.id first = begun_first (length opening) trace whole k call promise first t is now tells begun in
     let placed : IsPut (lists_of s.tables.items w) first o (lists_of tables.items w) =
     subst (λ (ts : List (Option Open)). IsPut ts first o (lists_of tables.items w)) was
     (subst (λ (ts : List (Option Open)). IsPut old.items first o ts) (sym here) put_in) in

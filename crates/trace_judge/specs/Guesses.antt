@@ -17,5 +17,5 @@ IsKeptOrLeft events k old new = (event : Event) → slice_get events k ≡ Some 
     → (new ≡ old ++ event ∷ []) ⊎ ((new ≡ old) × IssuesUnanswered events event)
 
 -- an answer comes at the end, or nothing
-abbrev pub HasAnswer : List Event → List Event → Type 0
-HasAnswer old new = (new ≡ old) ⊎ ((id : ℕ) × (reply : Reply) × (new ≡ old ++ Answer id reply ∷ []))
+abbrev pub HasGuessedAnswer : List Event → List Event → Type 0
+HasGuessedAnswer old new = (new ≡ old) ⊎ ((id : ℕ) × (reply : Reply) × (new ≡ old ++ Answer id reply ∷ []))

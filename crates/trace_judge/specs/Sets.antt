@@ -19,8 +19,8 @@ pub record TakesEffect (place : Option Open) (word : ℕ) (c : Config) (s : ℕ)
     pub agrees : AgreesWithValue o c.word
 
 -- what a place of the table holds is on this word, and never answered
-abbrev pub WaitsFor : Option Open → ℕ → Type 0
-WaitsFor place word = (o : Open) × (place ≡ Some o) × (o.call.operation.address ≡ word)
+abbrev pub WaitsForEvent : Option Open → ℕ → Type 0
+WaitsForEvent place word = (o : Open) × (place ≡ Some o) × (o.call.operation.address ≡ word)
     × (o.promise ≡ None)
 
 -- what there is of each word

@@ -12,7 +12,7 @@ abbrev pub IsFilled : ℕ → List (Option Open) → Type 0
 IsFilled first table = (s : ℕ) → first ≤ s → s < first + 64 → slice_get table s ≡ Some None → ⊥
 
 -- of 64 slots from this one on none is free, and all of them are there
-pub record IsFull (first : ℕ) (table : List (Option Open)) : Type 0 where
+pub record IsFullWord (first : ℕ) (table : List (Option Open)) : Type 0 where
   pub many : first + 64 ≤ length table
   pub filled : IsFilled first table
 
@@ -26,16 +26,16 @@ IsPut old first o new =
 
 -- an operation begins at slot 0 if it has a promise, or the whole trace answers it; at slot 64 if it
 -- has none, and the trace doesn't answer it from this event on
-abbrev pub IsBegun : List Event → ℕ → ℕ → Option Reply → ℕ → Type 0
-IsBegun whole from id promise first =
+abbrev pub IsBegunSlot : List Event → ℕ → ℕ → Option Reply → ℕ → Type 0
+IsBegunSlot whole from id promise first =
     ((first ≡ 0) × (IsSome promise ⊎ IsAnswered whole id))
     ⊎ ((first ≡ 64) × (promise ≡ None)
     × ((i : ℕ) (reply : Reply) → from ≤ i → TraceAnswersAt whole i id reply → ⊥))
 
 -- the first slot for an operation of this number: the slots from 0 on are of operations that the
 -- trace answers, those from 64 on of those that it never does
-abbrev pub IsFirst : List Event → ℕ → ℕ → Type 0
-IsFirst trace id first =
+abbrev pub IsFirstSlot : List Event → ℕ → ℕ → Type 0
+IsFirstSlot trace id first =
     ((first ≡ 0) × IsAnswered trace id) ⊎ ((first ≡ 64) × (IsAnswered trace id → ⊥))
 
 -- a slot is one for an operation of this number

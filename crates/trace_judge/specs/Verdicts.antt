@@ -6,9 +6,9 @@ use Rattle.trace_judge.specs.declared.judge.Verdict.{Verdict}
 use Rattle.trace_judge.specs.declared.judge.Verdict.TheVariants.{Linearizable, No}
 
 -- an order that explains the trace; or the first event up to which none does
-abbrev pub Tells : {A : Type 0} → List ℕ → List Event → Verdict A → Type 0
-Tells opening trace (Linearizable order) = IsOrder opening trace order.items
-Tells opening trace (No event) = (event < length trace) × IsLinearizable opening (take event trace)
+abbrev pub TellsTraceVerdict : {A : Type 0} → List ℕ → List Event → Verdict A → Type 0
+TellsTraceVerdict opening trace (Linearizable order) = IsOrder opening trace order.items
+TellsTraceVerdict opening trace (No event) = (event < length trace) × IsLinearizable opening (take event trace)
     × (IsLinearizable opening (take (event + 1) trace) → ⊥)
 
 -- what comes before this event is linearizable

@@ -5,7 +5,7 @@ ghost use Rattle.trace_laws.specs.declared.opened.Open.{Open};
 ghost use Rattle.trace_laws.specs.Configs.{AgreesWithValue, HasAsGood, effect, release, GoesOn};
 ghost use Rattle.trace_laws.specs.Searches.{configs_of};
 ghost use Rattle.trace_judge.specs.Idles.{AreListed, AreLow};
-ghost use Rattle.trace_judge.specs.Sets.{TakesEffect, WaitsFor, Joins, Takes};
+ghost use Rattle.trace_judge.specs.Sets.{TakesEffect, WaitsForEvent, Joins, Takes};
 
 use crate::bits::{has, with, without};
 use crate::idles::{Idle, follow, settle};
@@ -63,7 +63,7 @@ pub fn after(
 fn waiting(config: Config, place: Option<Open>, address: u32, slot: usize) -> Option<Config>
     requires { slot < 128 }
     ensures { MatchOption result (Unit {0})
-        (λ less. (less ≡ release config slot) × WaitsFor place address) }
+        (λ less. (less ≡ release config slot) × WaitsForEvent place address) }
 {
     let opened = place?;
     if opened.promise.is_some()

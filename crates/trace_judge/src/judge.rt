@@ -7,7 +7,7 @@ ghost use Rattle.trace_laws.specs.Orders.{IsOrder, IsLinearizable};
 ghost use Rattle.trace_laws.specs.Searches.{IsTrail, order_of};
 ghost use Rattle.trace_judge.specs.Searched.{HasSearched};
 ghost use Rattle.trace_judge.specs.Stops.{IsBeginning, IsUndecided, TellsMany};
-ghost use Rattle.trace_judge.specs.Verdicts.{IsGoodUntil, Tells};
+ghost use Rattle.trace_judge.specs.Verdicts.{IsGoodUntil, TellsTraceVerdict};
 ghost use Rattle.trace_judge.specs.Marks.{AreNodes, IsBelow, AreMarked, ArePicked};
 ghost use Rattle.trace_judge.specs.Sets.{lists_of};
 
@@ -268,7 +268,7 @@ pub fn judge<A: Allocator + Copy>(
     requires { IsTrace (length opening.now) events.now }
     ensures unjudged { IfErr result (IsUndecided events.now) }
     ensures full { IfErr result (TellsMany opening.now events.now bound) }
-    ensures judged { IfOk result (λ verdict. Tells opening.now events.now verdict) }
+    ensures judged { IfOk result (λ verdict. TellsTraceVerdict opening.now events.now verdict) }
 {
     let mut ended = Ended::default();
     if let Some(order) = explain(alloc, opening, events, bound, &mut ended)? {

@@ -7,7 +7,7 @@ ghost use Rattle.trace_laws.specs.declared.event.Event.{Event};
 ghost use Rattle.trace_laws.specs.Orders.{IsOrder};
 ghost use Rattle.trace_laws.specs.Traces.{IsTrace, TraceAnswersAt};
 ghost use Rattle.trace_laws.specs.Unanswered.{IssuesUnanswered};
-ghost use Rattle.trace_judge.specs.Guesses.{IsLikely, IsKeptOrLeft, HasAnswer};
+ghost use Rattle.trace_judge.specs.Guesses.{IsLikely, IsKeptOrLeft, HasGuessedAnswer};
 
 use crate::reading::promise_of;
 use crate::sights::{Guess, guess_of};
@@ -77,7 +77,7 @@ fn answer<A: Allocator>(
     likely: &mut Vec<Event, A>,
     behind: Option<(u64, Reply)>,
 ) -> Result<(), AllocError>
-    ensures { OnOk result (HasAnswer likely.old.items likely.new.items) }
+    ensures { OnOk result (HasGuessedAnswer likely.old.items likely.new.items) }
 {
     if let Some((id, reply)) = behind {
         likely.push(Event::Answer(id, reply))?;

@@ -5,7 +5,7 @@ ghost use Rattle.packet.specs.declared.kinds.Op.TheVariants.{Load};
 ghost use Rattle.packet.specs.declared.kinds.Reply.{Reply};
 ghost use Rattle.trace_laws.specs.declared.event.Call.{Call};
 ghost use Rattle.trace_laws.specs.Traces.{TraceAnswersAt, TraceIssuesAt};
-ghost use Rattle.trace_judge.specs.Slots.{IsBegun};
+ghost use Rattle.trace_judge.specs.Slots.{IsBegunSlot};
 
 use packet::{Op, Reply};
 use trace_laws::{Call, Event};
@@ -61,7 +61,7 @@ const NEVER: usize = 64;
 /// The first slot for an operation with this promise: 0 if it has one, or the whole trace answers it
 /// from this event on.
 pub fn first_slot(whole: &[Event], from: usize, id: u64, promise: Option<Reply>) -> usize
-    ensures { IsBegun whole.now from id promise result }
+    ensures { IsBegunSlot whole.now from id promise result }
 {
     if promise.is_some() {
         return 0;

@@ -5,7 +5,7 @@ ghost use Rattle.std.specs.Prelude.{IfOk, OnOk, MatchOption, length};
 ghost use Rattle.std.specs.Prelude.{slice_get, set, replicate};
 ghost use Rattle.trace_laws.specs.declared.opened.Open.{Open};
 ghost use Rattle.trace_laws.specs.Searches.{IsAt};
-ghost use Rattle.trace_judge.specs.Slots.{IsFilled, IsFull, IsPut};
+ghost use Rattle.trace_judge.specs.Slots.{IsFilled, IsFullWord, IsPut};
 
 use std::alloc::{AllocError, Allocator};
 use trace_laws::Open;
@@ -76,7 +76,7 @@ pub fn put<A: Allocator>(
 ) -> Result<bool, AllocError>
     requires { first ≤ 64 }
     ensures put { IfOk result (λ b. b ≡ true → IsPut table.old.items first opened table.new.items) }
-    ensures full { IfOk result (λ b. b ≡ false → IsFull first table.old.items) }
+    ensures full { IfOk result (λ b. b ≡ false → IsFullWord first table.old.items) }
 {
     if let Some(slot) = free_slot(table, first) {
         table[slot] = Some(opened);

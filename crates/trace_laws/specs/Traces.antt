@@ -18,8 +18,8 @@ abbrev pub IsAnswered : List Event → ℕ → Type 0
 IsAnswered trace id = (i : ℕ) × (reply : Reply) × TraceAnswersAt trace i id reply
 
 -- an operation of this number is issued before event j
-abbrev pub WasIssued : List Event → ℕ → ℕ → Type 0
-WasIssued trace j id = (i : ℕ) × (call : Call) × (i < j) × (call.id ≡ id) × TraceIssuesAt trace i call
+abbrev pub WasIssuedBefore : List Event → ℕ → ℕ → Type 0
+WasIssuedBefore trace j id = (i : ℕ) × (call : Call) × (i < j) × (call.id ≡ id) × TraceIssuesAt trace i call
 
 -- no answer to this number before event k: it is pending there, if it was issued (Herlihy and Wing)
 abbrev pub IsUnanswered : List Event → ℕ → ℕ → Type 0
@@ -30,7 +30,7 @@ IsUnanswered trace k id = (i : ℕ) (reply : Reply) → TraceAnswersAt trace i i
 -- the memory.
 pub record IsTrace (words : ℕ) (trace : List Event) : Type 0 where
   pub rising : (i j : ℕ) (a b : Call) → i < j → TraceIssuesAt trace i a → TraceIssuesAt trace j b → a.id < b.id
-  pub issued : (j id : ℕ) (reply : Reply) → TraceAnswersAt trace j id reply → WasIssued trace j id
+  pub issued : (j id : ℕ) (reply : Reply) → TraceAnswersAt trace j id reply → WasIssuedBefore trace j id
   pub once : (i j id : ℕ) (r s : Reply) → TraceAnswersAt trace i id r → TraceAnswersAt trace j id s
       → i ≡ j
   pub inside : (i : ℕ) (call : Call) → TraceIssuesAt trace i call → call.operation.address < words

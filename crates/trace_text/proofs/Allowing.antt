@@ -16,7 +16,7 @@ use Rattle.trace_judge.specs.declared.undecided.Undecided.TheVariants as undecid
 use Rattle.trace_text.specs.declared.linearize.Unfound.{Unfound}
 use Rattle.trace_text.specs.Allowed.{answered_so, trace_answered_so, IsAllowed}
 use Rattle.trace_text.specs.Findings.{place_of_address, placed_address, trace_read, unfound_at, IsUnfound}
-use Rattle.trace_text.specs.Kept.{IsKept}
+use Rattle.trace_text.specs.Kept.{IsKeptIssue}
 use Rattle.trace_text.specs.Renumbered.{moved_call, moved_event, IsRenumbering}
 use Rattle.trace_text.specs.Traced.{TraceReading, opening_of}
 use Rattle.trace_text.proofs.Found.{others, renumbering, line_is, crowd_in}
@@ -138,7 +138,7 @@ given_is r n id reply begun es b e =
     e ∙ (ap (λ (xs : List Event). xs ++ Answer id reply ∷ []) b
     ∙ sym (map_push (moved_event (place_of_address r.places)) (take n r.events) (Answer id reply)))
 
-pub answered_given : (r : TraceReading) → IsKept r → (n id : ℕ) (reply told : Reply) → TraceAnswersAt r.events n id told → (ws : List ℕ) (es : List Event)
+pub answered_given : (r : TraceReading) → IsKeptIssue r → (n id : ℕ) (reply told : Reply) → TraceAnswersAt r.events n id told → (ws : List ℕ) (es : List Event)
     → ws ≡ others r → es ≡ map (moved_event (place_of_address r.places)) (answered_so r.events n id reply) → IsTrace (length ws) es
 answered_given r k n id reply told at ws es w e = rw (w, e)
     (trace_placed (place_of_address r.places) (placed_address r.addresses) (opening_of (trace_read r)) (others r) (answered_so r.events n id reply) r.head.words
@@ -146,7 +146,7 @@ answered_given r k n id reply told at ws es w e = rw (w, e)
     (renumbering_answered (place_of_address r.places) (placed_address r.addresses) (opening_of (trace_read r)) (others r) r.events n id reply (renumbering r k)))
 
 -- it is linearizable where it is with places
-pub allowed_given : (r : TraceReading) → IsKept r → (n id : ℕ) (reply : Reply) (ws : List ℕ) (es : List Event)
+pub allowed_given : (r : TraceReading) → IsKeptIssue r → (n id : ℕ) (reply : Reply) (ws : List ℕ) (es : List Event)
     → ws ≡ others r → es ≡ map (moved_event (place_of_address r.places)) (answered_so r.events n id reply) → IsLinearizable ws es
     → IsAllowed (opening_of (trace_read r)) r.events n id reply
 allowed_given r k n id reply ws es w e is =
@@ -159,7 +159,7 @@ allowed_given r k n id reply ws es w e is =
           there.0 there.1,
     )
 
-pub given_allowed : (r : TraceReading) → IsKept r → (n id : ℕ) (reply : Reply) (ws : List ℕ) (es : List Event)
+pub given_allowed : (r : TraceReading) → IsKeptIssue r → (n id : ℕ) (reply : Reply) (ws : List ℕ) (es : List Event)
     → ws ≡ others r → es ≡ map (moved_event (place_of_address r.places)) (answered_so r.events n id reply)
     → IsAllowed (opening_of (trace_read r)) r.events n id reply → IsLinearizable ws es
 given_allowed r k n id reply ws es w e is = rw (w, e) (
@@ -170,7 +170,7 @@ given_allowed r k n id reply ws es w e is = rw (w, e) (
 )
 
 -- why it isn't decided, of the trace as it is written
-not_decided : (r : TraceReading) → IsKept r → (n id : ℕ) (reply told : Reply) → TraceAnswersAt r.events n id told → (bound : ℕ) (why : Undecided)
+not_decided : (r : TraceReading) → IsKeptIssue r → (n id : ℕ) (reply told : Reply) → TraceAnswersAt r.events n id told → (bound : ℕ) (why : Undecided)
     → IsUndecided (map (moved_event (place_of_address r.places)) (answered_so r.events n id reply)) why
     → TellsMany (others r) (map (moved_event (place_of_address r.places)) (answered_so r.events n id reply)) bound why
     → IsUnfound (trace_answered_so (trace_read r) n id reply) bound (unfound_at r.lines why)
@@ -197,7 +197,7 @@ not_decided r k n id reply told at bound (undecided.Operations event) u many =
     let low = get_within r.events n (Answer id told) at in
     (event, line_is r k event (omega arith), w)
 
-pub undecided_given : (r : TraceReading) → IsKept r → (n id : ℕ) (reply told : Reply) → TraceAnswersAt r.events n id told → (ws : List ℕ) (es : List Event)
+pub undecided_given : (r : TraceReading) → IsKeptIssue r → (n id : ℕ) (reply told : Reply) → TraceAnswersAt r.events n id told → (ws : List ℕ) (es : List Event)
     → ws ≡ others r → es ≡ map (moved_event (place_of_address r.places)) (answered_so r.events n id reply) → (bound : ℕ) (why : Undecided)
     (tells : Unfound) → IsUndecided es why → TellsMany ws es bound why → tells ≡ unfound_at r.lines why
     → IsUnfound (trace_answered_so (trace_read r) n id reply) bound tells

@@ -17,10 +17,10 @@ use Rattle.trace_judge.specs.declared.undecided.Undecided.TheVariants as undecid
 use Rattle.std.specs.Prelude.{Vec}
 use Rattle.trace_judge.specs.declared.judge.Verdict.{Verdict}
 use Rattle.trace_judge.specs.declared.judge.Verdict.TheVariants.{Linearizable, No}
-use Rattle.trace_judge.specs.Verdicts.{Tells}
+use Rattle.trace_judge.specs.Verdicts.{TellsTraceVerdict}
 use Rattle.trace_text.specs.declared.linearize.Unfound.{Unfound}
 use Rattle.trace_text.specs.Findings.{place_of_address, placed_address, opening_words_at, trace_read, unfound_at, IsUnfound}
-use Rattle.trace_text.specs.Kept.{IsKept}
+use Rattle.trace_text.specs.Kept.{IsKeptIssue}
 use Rattle.trace_text.specs.Renumbered.{moved_call, moved_event, IsRenumbering}
 use Rattle.trace_lines.specs.Head.{value_in}
 use Rattle.trace_text.specs.Traced.{TraceReading, opening_of}
@@ -48,7 +48,7 @@ place_is : (r : TraceReading) (a p : ℕ) → value_in r.places a ≡ Some p →
 place_is r a p h = ap (λ o. unwrap_or o 0) h
 
 -- places are numbers of their own
-pub renumbering : (r : TraceReading) → IsKept r
+pub renumbering : (r : TraceReading) → IsKeptIssue r
     → IsRenumbering (place_of_address r.places) (placed_address r.addresses) (opening_of (trace_read r)) (others r) r.events
 renumbering r k = record {
   inside = λ i c h.
@@ -74,7 +74,7 @@ renumbering r k = record {
 }
 
 -- the events with places are a trace
-pub trace_moved : (r : TraceReading) → IsKept r → IsTrace (length (others r)) (moved r)
+pub trace_moved : (r : TraceReading) → IsKeptIssue r → IsTrace (length (others r)) (moved r)
 trace_moved r k = record {
   rising = λ i j a b l h m.
       let c = issue_back (place_of_address r.places) r.events i a h in
@@ -95,13 +95,13 @@ trace_moved r k = record {
 }
 
 -- a yes
-pub found_yes : (r : TraceReading) → IsKept r → (order : List Call) → IsOrder (others r) (moved r) order
+pub found_yes : (r : TraceReading) → IsKeptIssue r → (order : List Call) → IsOrder (others r) (moved r) order
     → IsOrder (opening_of (trace_read r)) r.events (map (moved_call (placed_address r.addresses)) order)
 found_yes r k order o =
     order_back (place_of_address r.places) (placed_address r.addresses) (opening_of (trace_read r)) (others r) r.events (renumbering r k) order o
 
 -- beginnings are linearizable together
-beginning_back : (r : TraceReading) → IsKept r → (n : ℕ) → IsLinearizable (others r) (take n (moved r))
+beginning_back : (r : TraceReading) → IsKeptIssue r → (n : ℕ) → IsLinearizable (others r) (take n (moved r))
     → IsLinearizable (opening_of (trace_read r)) (take n r.events)
 beginning_back r k n is =
     let place = place_of_address r.places in
@@ -113,7 +113,7 @@ beginning_back r k n is =
           (renumbering_take place back (opening_of (trace_read r)) (others r) r.events n (renumbering r k)) is.0 o,
     )
 
-beginning_there : (r : TraceReading) → IsKept r → (n : ℕ) → IsLinearizable (opening_of (trace_read r)) (take n r.events)
+beginning_there : (r : TraceReading) → IsKeptIssue r → (n : ℕ) → IsLinearizable (opening_of (trace_read r)) (take n r.events)
     → IsLinearizable (others r) (take n (moved r))
 beginning_there r k n is =
     let place = place_of_address r.places in
@@ -126,14 +126,14 @@ beginning_there r k n is =
     )
 
 -- the line of an event
-pub line_is : (r : TraceReading) → IsKept r → (event : ℕ) → event < length r.events → slice_get r.lines event ≡ Some (get_or r.lines event 0)
+pub line_is : (r : TraceReading) → IsKeptIssue r → (event : ℕ) → event < length r.events → slice_get r.lines event ≡ Some (get_or r.lines event 0)
 line_is r k event low =
     let sized = k.lines in
     let at = within_length r.lines event (omega arith) in
     at.1 ∙ ap (λ (n : ℕ). Some n) (sym (read_is r.lines event at.0 0 at.1))
 
 -- a no
-pub found_no : (r : TraceReading) → IsKept r → (event : ℕ) → event < length (moved r) → IsLinearizable (others r) (take event (moved r))
+pub found_no : (r : TraceReading) → IsKeptIssue r → (event : ℕ) → event < length (moved r) → IsLinearizable (others r) (take event (moved r))
     → (IsLinearizable (others r) (take (event + 1) (moved r)) → ⊥)
     → (e : ℕ) × (slice_get r.lines e ≡ Some (get_or r.lines event 0))
     × IsLinearizable (opening_of (trace_read r)) (take e r.events)
@@ -194,7 +194,7 @@ crowd_in place back opening words trace n event w =
     }
 
 -- why it is not judged
-pub unfound : (r : TraceReading) → IsKept r → (bound : ℕ) (why : Undecided) → IsUndecided (moved r) why → TellsMany (others r) (moved r) bound why
+pub unfound : (r : TraceReading) → IsKeptIssue r → (bound : ℕ) (why : Undecided) → IsUndecided (moved r) why → TellsMany (others r) (moved r) bound why
     → IsUnfound (trace_read r) bound (unfound_at r.lines why)
 unfound r k bound undecided.Memory u many = tt
 unfound r k bound (undecided.Configurations event) u many =
@@ -212,17 +212,17 @@ unfound r k bound (undecided.Operations event) u many =
     (event, line_is r k event (get_within r.events event (Issue w.another) w.issue), w)
 
 -- the same, of the words and the events that the judge was given
-pub trace_given : (r : TraceReading) → IsKept r → (ws : List ℕ) (es : List Event) → ws ≡ others r → es ≡ moved r → IsTrace (length ws) es
+pub trace_given : (r : TraceReading) → IsKeptIssue r → (ws : List ℕ) (es : List Event) → ws ≡ others r → es ≡ moved r → IsTrace (length ws) es
 trace_given r k ws es w e = rw (w, e) (trace_moved r k)
 
-pub yes_given : (r : TraceReading) → IsKept r → (ws : List ℕ) (es : List Event) → ws ≡ others r → es ≡ moved r → (order named : List Call)
+pub yes_given : (r : TraceReading) → IsKeptIssue r → (ws : List ℕ) (es : List Event) → ws ≡ others r → es ≡ moved r → (order named : List Call)
     → IsOrder ws es order → named ≡ map (moved_call (placed_address r.addresses)) order → IsOrder (opening_of (trace_read r)) r.events named
 yes_given r k ws es w e order named o n =
     subst (λ (cs : List Call). IsOrder (opening_of (trace_read r)) r.events cs) (sym n)
     (found_yes r k order
     (subst (λ (v : List ℕ). IsOrder v (moved r) order) w (subst (λ (f : List Event). IsOrder ws f order) e o)))
 
-pub no_given : (r : TraceReading) → IsKept r → (ws : List ℕ) (es : List Event) → ws ≡ others r → es ≡ moved r → (event line : ℕ)
+pub no_given : (r : TraceReading) → IsKeptIssue r → (ws : List ℕ) (es : List Event) → ws ≡ others r → es ≡ moved r → (event line : ℕ)
     → (event < length es) × IsLinearizable ws (take event es) × (IsLinearizable ws (take (event + 1) es) → ⊥) → line ≡ get_or r.lines event 0
     → (n : ℕ) × (slice_get r.lines n ≡ Some line)
     × IsLinearizable (opening_of (trace_read r)) (take n r.events)
@@ -235,7 +235,7 @@ no_given r k ws es w e event line tells l =
     let found = found_no r k event moved_tells.0 moved_tells.1 moved_tells.2 in
     (found.0, found.1 ∙ ap (λ (n : ℕ). Some n) (sym l), found.2, found.3)
 
-pub unfound_given : (r : TraceReading) → IsKept r → (ws : List ℕ) (es : List Event) → ws ≡ others r → es ≡ moved r → (bound : ℕ) (why : Undecided)
+pub unfound_given : (r : TraceReading) → IsKeptIssue r → (ws : List ℕ) (es : List Event) → ws ≡ others r → es ≡ moved r → (bound : ℕ) (why : Undecided)
     (told : Unfound) → IsUndecided es why → TellsMany ws es bound why → told ≡ unfound_at r.lines why → IsUnfound (trace_read r) bound told
 unfound_given r k ws es w e bound why told u many is =
     subst (λ (x : Unfound). IsUnfound (trace_read r) bound x) (sym is)
@@ -244,10 +244,10 @@ unfound_given r k ws es w e bound why told u many is =
 
 -- what a verdict tells, by its kind
 pub yes_told : {A : Type 0} (ws : List ℕ) (es : List Event) (verdict : Verdict A) (order : Vec Call A) → verdict ≡ Linearizable order
-    → Tells ws es verdict → IsOrder ws es order.items
-yes_told {A} ws es verdict order is tells = subst (λ (v : Verdict A). Tells ws es v) is tells
+    → TellsTraceVerdict ws es verdict → IsOrder ws es order.items
+yes_told {A} ws es verdict order is tells = subst (λ (v : Verdict A). TellsTraceVerdict ws es v) is tells
 
 pub no_told : {A : Type 0} (ws : List ℕ) (es : List Event) (verdict : Verdict A) (event : ℕ) → verdict ≡ No event
-    → Tells ws es verdict
+    → TellsTraceVerdict ws es verdict
     → (event < length es) × IsLinearizable ws (take event es) × (IsLinearizable ws (take (event + 1) es) → ⊥)
-no_told {A} ws es verdict event is tells = subst (λ (v : Verdict A). Tells ws es v) is tells
+no_told {A} ws es verdict event is tells = subst (λ (v : Verdict A). TellsTraceVerdict ws es v) is tells

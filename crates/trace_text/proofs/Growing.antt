@@ -5,7 +5,7 @@ use Rattle.packet.specs.declared.kinds.Reply.{Reply}
 use Rattle.trace_laws.specs.declared.event.Call.{Call}
 use Rattle.trace_laws.specs.declared.event.Event.{Event}
 use Rattle.trace_laws.specs.declared.event.Event.TheVariants.{Issue, Answer}
-use Rattle.trace_laws.specs.Traces.{IsTrace, TraceIssuesAt, TraceAnswersAt, WasIssued}
+use Rattle.trace_laws.specs.Traces.{IsTrace, TraceIssuesAt, TraceAnswersAt, WasIssuedBefore}
 use Rattle.trace_laws.proofs.Lists.{get_push_cases, get_append_left, get_within}
 
 pub longer : {A : Type 0} (xs : List A) (x : A) → length (xs ++ x ∷ []) ≡ length xs + 1
@@ -57,10 +57,10 @@ answered_with trace n reply i id told h = ⊎_elim
     (get_push_cases trace (Answer n reply) i (Answer id told) h)
 
 -- what was issued was so once more has happened
-pub was_issued : (trace : List Event) (e : Event) (j n : ℕ) → WasIssued trace j n → WasIssued (trace ++ e ∷ []) j n
+pub was_issued : (trace : List Event) (e : Event) (j n : ℕ) → WasIssuedBefore trace j n → WasIssuedBefore (trace ++ e ∷ []) j n
 was_issued trace e j n w = (w.0, w.1, w.2, w.3, get_append_left trace (e ∷ []) w.0 (Issue w.1) w.4)
 
-pub issued_later : (trace : List Event) (j m n : ℕ) → j ≤ m → WasIssued trace j n → WasIssued trace m n
+pub issued_later : (trace : List Event) (j m n : ℕ) → j ≤ m → WasIssuedBefore trace j n → WasIssuedBefore trace m n
 issued_later trace j m n l w = let before = w.2 in (w.0, w.1, omega arith, w.3, w.4)
 
 -- an issue more, of a greater number than those before
@@ -86,7 +86,7 @@ issue_grows words trace new t above low = record {
 }
 
 -- an answer more, to an operation that was issued and has none
-pub answer_grows : (words : ℕ) (trace : List Event) (n : ℕ) (reply : Reply) → IsTrace words trace → WasIssued trace (length trace) n
+pub answer_grows : (words : ℕ) (trace : List Event) (n : ℕ) (reply : Reply) → IsTrace words trace → WasIssuedBefore trace (length trace) n
     → ((i : ℕ) (told : Reply) → TraceAnswersAt trace i n told → ⊥) → IsTrace words (trace ++ Answer n reply ∷ [])
 answer_grows words trace n reply t was none =
     let other : (i id : ℕ) (told : Reply) → TraceAnswersAt trace i id told → n ≢ id =
@@ -96,8 +96,8 @@ answer_grows words trace n reply t was none =
       issued = λ j id told h. ⊎_elim
           (λ (old : TraceAnswersAt trace j id told). was_issued trace (Answer n reply) j id (t.issued j id told old))
           (λ (last : (j ≡ length trace) × (n ≡ id) × (reply ≡ told)).
-          subst (λ (m : ℕ). WasIssued (trace ++ Answer n reply ∷ []) j m) last.1
-          (subst (λ (m : ℕ). WasIssued (trace ++ Answer n reply ∷ []) m n) (sym last.0)
+          subst (λ (m : ℕ). WasIssuedBefore (trace ++ Answer n reply ∷ []) j m) last.1
+          (subst (λ (m : ℕ). WasIssuedBefore (trace ++ Answer n reply ∷ []) m n) (sym last.0)
           (was_issued trace (Answer n reply) (length trace) n was)))
           (answered_with trace n reply j id told h);
       once = λ i j id r s h m. ⊎_elim

@@ -4,15 +4,15 @@ use Rattle.std.specs.Prelude.{not, Ok, codes}
 use Rattle.std.specs.Str.{bytes_eq}
 use Rattle.lexer.specs.Words.{begins_comment}
 use Rattle.trace_lines.specs.Head.{after_words_line}
-use Rattle.trace_text.specs.Kept.{IsKept}
+use Rattle.trace_text.specs.Kept.{IsKeptIssue}
 use Rattle.trace_text.specs.Traced.{TraceReading, with_head, after_keyword, after_line_words}
 use Rattle.trace_text.proofs.KeptAnswers.{answer_line_kept}
 use Rattle.trace_text.proofs.KeptIssues.{issue_line_kept}
 use Rattle.trace_text.proofs.KeptSettings.{init_line_kept, words_line_kept, title_kept}
 use Rattle.trace_text.proofs.Outcomes.{one_ok, then_ok, if_ok}
 
-keyword_kept : (r next : TraceReading) → IsKept r → (line : ℕ) (keyword : List ℕ) (values : List (List ℕ))
-    → after_keyword r line keyword values ≡ Ok next → IsKept next
+keyword_kept : (r next : TraceReading) → IsKeptIssue r → (line : ℕ) (keyword : List ℕ) (values : List (List ℕ))
+    → after_keyword r line keyword values ≡ Ok next → IsKeptIssue next
 keyword_kept r next k line keyword values h = ⊎_elim
     (λ m. title_kept r next k keyword values m.1)
     (λ m. ⊎_elim
@@ -29,9 +29,9 @@ keyword_kept r next k line keyword values h = ⊎_elim
     (if_ok (not r.head.begun) _ _ next h)
 
 -- each line keeps it
-pub words_kept : (r next : TraceReading) → IsKept r → (line : ℕ) (words : List (List ℕ)) → after_line_words r line words ≡ Ok next → IsKept next
-words_kept r next k line [] h = subst IsKept (one_ok r next h) k
+pub words_kept : (r next : TraceReading) → IsKeptIssue r → (line : ℕ) (words : List (List ℕ)) → after_line_words r line words ≡ Ok next → IsKeptIssue next
+words_kept r next k line [] h = subst IsKeptIssue (one_ok r next h) k
 words_kept r next k line (keyword ∷ values) h = ⊎_elim
-    (λ m. subst IsKept (one_ok r next m.1) k)
+    (λ m. subst IsKeptIssue (one_ok r next m.1) k)
     (λ m. keyword_kept r next k line keyword values m.1)
     (if_ok (begins_comment keyword) (Ok r) (after_keyword r line keyword values) next h)

@@ -15,7 +15,7 @@ use Rattle.trace_lines.specs.Reasons.{map_err}
 use Rattle.trace_text.specs.declared.issued.Issued.{Issued}
 use Rattle.trace_text.specs.declared.reason.TraceReason.TheVariants as reason
 use Rattle.trace_text.specs.IssueNumbers.{numbers_of}
-use Rattle.trace_text.specs.Kept.{IsKept, IsKnownAs, AreIndexed}
+use Rattle.trace_text.specs.Kept.{IsKeptIssue, IsKnownAs, AreIndexed}
 use Rattle.trace_text.specs.Traced.{TraceReading, with_event, if_issued, after_answer_line}
 use Rattle.trace_text.proofs.Growing.{longer, issued_before, answered_with, was_issued, issued_later, answer_grows}
 use Rattle.trace_text.proofs.Outcomes.{one_ok, bind_ok, else_ok, unless_ok, or_ok}
@@ -33,8 +33,8 @@ answer_indexed numbers issued found n i at reply m j h =
     (cases_eq m n)
 
 -- a new answer
-answer_kept : (r : TraceReading) → IsKept r → (line n : ℕ) (i : Issued) → slice_get r.issued n ≡ Some i → i.reply ≡ None → (reply : Reply)
-    → IsKept (with_event (record r { issued = slice_set r.issued n (record i { reply = Some reply }) }) line (Answer n reply))
+answer_kept : (r : TraceReading) → IsKeptIssue r → (line n : ℕ) (i : Issued) → slice_get r.issued n ≡ Some i → i.reply ≡ None → (reply : Reply)
+    → IsKeptIssue (with_event (record r { issued = slice_set r.issued n (record i { reply = Some reply }) }) line (Answer n reply))
 answer_kept r k line n i at none reply =
     let told : Issued = record i { reply = Some reply } in
     let other : (m : ℕ) → m ≢ n → slice_get (slice_set r.issued n told) m ≡ slice_get r.issued m =
@@ -80,7 +80,7 @@ none_is : (o : Option Reply) → is_some o ≡ false → o ≡ None
 none_is (Some q) h = absurd (cc)
 none_is None h = refl
 
-pub answer_line_kept : (r next : TraceReading) → IsKept r → (line : ℕ) (values : List (List ℕ)) → after_answer_line r line values ≡ Ok next → IsKept next
+pub answer_line_kept : (r next : TraceReading) → IsKeptIssue r → (line : ℕ) (values : List (List ℕ)) → after_answer_line r line values ≡ Ok next → IsKeptIssue next
 answer_line_kept r next k line [] h = absurd (cc)
 answer_line_kept r next k line (a ∷ []) h = absurd (cc)
 answer_line_kept r next k line (a ∷ b ∷ []) h = absurd (cc)
@@ -96,5 +96,5 @@ answer_line_kept r next k line (processor ∷ index ∷ reply ∷ []) h =
     let new = else_ok (is_some i.0.reply) _ _ next fits.1 in
     let s = bind_ok (map_err reason.Line (reply_read told.0)) _ next new.1 in
     let same : with_event (record r { issued = slice_set r.issued n.0 (record i.0 { reply = Some s.0 }) }) line (Answer n.0 s.0) ≡ next = one_ok _ next s.2 in
-    subst IsKept same
+    subst IsKeptIssue same
     (answer_kept r k line n.0 i.0 (or_ok (slice_get r.issued n.0) _ i.0 i.1) (none_is i.0.reply new.0) s.0)

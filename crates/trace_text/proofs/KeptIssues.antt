@@ -17,7 +17,7 @@ use Rattle.trace_lines.proofs.Refused.{unmapped}
 use Rattle.trace_text.specs.declared.issued.Issued.{Issued}
 use Rattle.trace_text.specs.declared.reason.TraceReason.TheVariants as reason
 use Rattle.trace_text.specs.IssueNumbers.{numbers_of, with_number}
-use Rattle.trace_text.specs.Kept.{IsKept, IsKnownAs, AreIndexed}
+use Rattle.trace_text.specs.Kept.{IsKeptIssue, IsKnownAs, AreIndexed}
 use Rattle.trace_text.specs.Traced.{TraceReading, with_issue, placed, after_issue_line}
 use Rattle.trace_text.proofs.Entries.{value_new, value_old}
 use Rattle.trace_text.proofs.Growing.{longer, issued_with, answered_before, was_issued, issued_later, issue_grows}
@@ -49,8 +49,8 @@ issue_indexed numbers issued count found p low one processor index n i h =
     (get_push_cases issued one n i h)
 
 -- a new issue
-issue_kept : (r : TraceReading) → IsKept r → (line p : ℕ) (o : Operation) → p < 4096 → o.address < r.head.words
-    → (q : ℕ) → value_in r.places o.address ≡ Some q → IsKept (with_issue r line p o)
+issue_kept : (r : TraceReading) → IsKeptIssue r → (line p : ℕ) (o : Operation) → p < 4096 → o.address < r.head.words
+    → (q : ℕ) → value_in r.places o.address ≡ Some q → IsKeptIssue (with_issue r line p o)
 issue_kept r k line p o small low q place =
     let new : Call = record { id = length r.issued; operation = o } in
     let one : Issued = record { processor = p; index = length (numbers_of r.numbers p); operation = o; reply = None } in
@@ -87,8 +87,8 @@ issue_kept r k line p o small low q place =
     }
 
 -- a new place
-new_place : (r : TraceReading) → IsKept r → (a : ℕ) → a < r.head.words
-    → IsKept (record r { places = with_value r.places a (length r.addresses); addresses = r.addresses ++ a ∷ [] })
+new_place : (r : TraceReading) → IsKeptIssue r → (a : ℕ) → a < r.head.words
+    → IsKeptIssue (record r { places = with_value r.places a (length r.addresses); addresses = r.addresses ++ a ∷ [] })
 new_place r k a low = record {
   words = k.words;
   processors = k.processors;
@@ -125,12 +125,12 @@ some_is None h = absurd (cc)
 
 -- what placing leaves: the same, and a place
 record IsPlaced (r next : TraceReading) (a : ℕ) : Type 0 where
-  pub kept : IsKept next
+  pub kept : IsKeptIssue next
   pub words : next.head.words ≡ r.head.words
   pub place : ℕ
   pub there : value_in next.places a ≡ Some place
 
-placed_kept : (r next : TraceReading) → IsKept r → (a : ℕ) → a < r.head.words → placed r a ≡ Ok next → IsPlaced r next a
+placed_kept : (r next : TraceReading) → IsKeptIssue r → (a : ℕ) → a < r.head.words → placed r a ≡ Ok next → IsPlaced r next a
 placed_kept r next k a low h = ⊎_elim
     (λ old.
     let same : r ≡ next = one_ok r next old.1 in
@@ -155,7 +155,7 @@ inside_of words form o h =
     let same : record { address = form.address; op = op_with form.code first.0 second.0 } ≡ o = one_ok _ o second.2 in
     subst (λ (p : Operation). p.address < words) same (lt_true form.address words low.0)
 
-pub issue_line_kept : (r next : TraceReading) → IsKept r → (line : ℕ) (values : List (List ℕ)) → after_issue_line r line values ≡ Ok next → IsKept next
+pub issue_line_kept : (r next : TraceReading) → IsKeptIssue r → (line : ℕ) (values : List (List ℕ)) → after_issue_line r line values ≡ Ok next → IsKeptIssue next
 issue_line_kept r next k line [] h = absurd (cc)
 issue_line_kept r next k line (processor ∷ []) h = absurd (cc)
 issue_line_kept r next k line (processor ∷ word ∷ operands) h =
@@ -168,6 +168,6 @@ issue_line_kept r next k line (processor ∷ word ∷ operands) h =
     let inside = inside_of r.head.words form.0 o.0 (unmapped reason.Line _ o.0 o.1) in
     let there = placed_kept r place.0 k o.0.address inside place.1 in
     let same : with_issue place.0 line q.0 o.0 ≡ next = one_ok _ next place.2 in
-    subst IsKept same
+    subst IsKeptIssue same
     (issue_kept place.0 there.kept line q.0 o.0 (low_processor r.head p.0 q.0 (unmapped reason.Line _ q.0 q.1))
     (subst (λ (n : ℕ). o.0.address < n) (sym there.words) inside) there.place there.there)

@@ -12,13 +12,13 @@ use Rattle.trace_lines.specs.Head.{HeadSpec, value_in, with_value, opening_wrong
 use Rattle.trace_lines.specs.Reasons.{map_err}
 use Rattle.trace_lines.proofs.Refused.{unmapped}
 use Rattle.trace_text.specs.declared.reason.TraceReason.TheVariants as reason
-use Rattle.trace_text.specs.Kept.{IsKept}
+use Rattle.trace_text.specs.Kept.{IsKeptIssue}
 use Rattle.trace_text.specs.Traced.{TraceReading, no_trace_read, with_head}
 use Rattle.trace_text.proofs.Entries.{value_old}
 use Rattle.trace_text.proofs.Growing.{none_issued, none_answered, none_trace}
 use Rattle.trace_text.proofs.Outcomes.{one_ok, bind_ok, else_ok, then_ok, unless_ok, passed, not_true, lt_true}
 
-pub kept_none : IsKept no_trace_read
+pub kept_none : IsKeptIssue no_trace_read
 kept_none = record {
   words = omega arith;
   processors = length-replicate {A = List ℕ} 4096 [];
@@ -43,9 +43,9 @@ opened_more entries words a v low before b w h = ⊎_elim
     (cases_eq b a)
 
 -- a reading with another head: what was below the number of words still is
-head_kept : (r : TraceReading) → IsKept r → (head : HeadSpec) → head.words ≤ 2 ^ 32
+head_kept : (r : TraceReading) → IsKeptIssue r → (head : HeadSpec) → head.words ≤ 2 ^ 32
     → ((a w : ℕ) → value_in head.inits a ≡ Some w → a < head.words) → ((n : ℕ) → n < r.head.words → n < head.words)
-    → IsKept (record r { head = head })
+    → IsKeptIssue (record r { head = head })
 head_kept r k head most opened low = record {
   words = most;
   processors = k.processors;
@@ -74,14 +74,14 @@ head_taken r next made h =
     (w.0, unmapped reason.Line made w.0 w.1, one_ok _ next w.2)
 
 taken_kept : (r next : TraceReading) (made : Result HeadSpec LineReason) → with_head r made ≡ Ok next
-    → ((head : HeadSpec) → made ≡ Ok head → IsKept (record r { head = head })) → IsKept next
+    → ((head : HeadSpec) → made ≡ Ok head → IsKeptIssue (record r { head = head })) → IsKeptIssue next
 taken_kept r next made h kept =
     let t = head_taken r next made h in
-    subst IsKept t.2 (kept t.0 t.1)
+    subst IsKeptIssue t.2 (kept t.0 t.1)
 
 -- an opening word
-init_kept : (r : TraceReading) → IsKept r → (late : Bool) (values : List (List ℕ)) (head : HeadSpec)
-    → after_init_line r.head late values ≡ Ok head → IsKept (record r { head = head })
+init_kept : (r : TraceReading) → IsKeptIssue r → (late : Bool) (values : List (List ℕ)) (head : HeadSpec)
+    → after_init_line r.head late values ≡ Ok head → IsKeptIssue (record r { head = head })
 init_kept r k late [] head h = absurd (cc)
 init_kept r k late (a ∷ []) head h = absurd (cc)
 init_kept r k late (a ∷ b ∷ c ∷ more) head h = absurd (cc)
@@ -93,13 +93,13 @@ init_kept r k late (address ∷ value ∷ []) head h =
     let early = passed late _ _ given.1 in
     let low = passed (not (nat_lt a.0 r.head.words)) _ _ early.1 in
     let same : record (r.head) { inits = with_value r.head.inits a.0 v.0 } ≡ head = one_ok _ head good.1 in
-    subst (λ (n : HeadSpec). IsKept (record r { head = n })) same
+    subst (λ (n : HeadSpec). IsKeptIssue (record r { head = n })) same
     (head_kept r k (record (r.head) { inits = with_value r.head.inits a.0 v.0 }) k.words
     (opened_more r.head.inits r.head.words a.0 v.0 (lt_true a.0 r.head.words (not_true (nat_lt a.0 r.head.words) low.0)) k.opened)
     (λ n l. l))
 
-pub init_line_kept : (r next : TraceReading) → IsKept r → (late : Bool) (values : List (List ℕ))
-    → with_head r (after_init_line r.head late values) ≡ Ok next → IsKept next
+pub init_line_kept : (r next : TraceReading) → IsKeptIssue r → (late : Bool) (values : List (List ℕ))
+    → with_head r (after_init_line r.head late values) ≡ Ok next → IsKeptIssue next
 init_line_kept r next k late values h = taken_kept r next _ h (init_kept r k late values)
 
 zero_is : (n : ℕ) → (n == 0) ≡ true → n ≡ 0
@@ -112,8 +112,8 @@ both : (a b : Bool) → (a && b) ≡ true → b ≡ true
 both true b h = h
 both false b h = absurd (cc)
 
-words_kept : (r : TraceReading) → IsKept r → (values : List (List ℕ)) (head : HeadSpec)
-    → after_words_line r.head values ≡ Ok head → IsKept (record r { head = head })
+words_kept : (r : TraceReading) → IsKeptIssue r → (values : List (List ℕ)) (head : HeadSpec)
+    → after_words_line r.head values ≡ Ok head → IsKeptIssue (record r { head = head })
 words_kept r k [] head h = absurd (cc)
 words_kept r k (a ∷ b ∷ more) head h = absurd (cc)
 words_kept r k (count ∷ []) head h =
@@ -122,24 +122,24 @@ words_kept r k (count ∷ []) head h =
     let small = then_ok (nat_le 1 w.0 && nat_le w.0 (2 ^ 32)) _ _ head new.1 in
     let same : record (r.head) { words = w.0 } ≡ head = one_ok _ head small.1 in
     let none : r.head.words ≡ 0 = zero_is r.head.words (not_true (r.head.words == 0) new.0) in
-    subst (λ (n : HeadSpec). IsKept (record r { head = n })) same
+    subst (λ (n : HeadSpec). IsKeptIssue (record r { head = n })) same
     (head_kept r k (record (r.head) { words = w.0 }) (le_true w.0 (2 ^ 32) (both (nat_le 1 w.0) (nat_le w.0 (2 ^ 32)) small.0))
     (λ a v at. absurd (let l = k.opened a v at in omega arith)) (λ n l. absurd (omega arith)))
 
-pub words_line_kept : (r next : TraceReading) → IsKept r → (values : List (List ℕ))
-    → with_head r (after_words_line r.head values) ≡ Ok next → IsKept next
+pub words_line_kept : (r next : TraceReading) → IsKeptIssue r → (values : List (List ℕ))
+    → with_head r (after_words_line r.head values) ≡ Ok next → IsKeptIssue next
 words_line_kept r next k values h = taken_kept r next _ h (words_kept r k values)
 
-titled : (r : TraceReading) → IsKept r → (keyword : List ℕ) (values : List (List ℕ)) (head : HeadSpec)
-    → after_title r.head (codes "trace") keyword values ≡ Ok head → IsKept (record r { head = head })
+titled : (r : TraceReading) → IsKeptIssue r → (keyword : List ℕ) (values : List (List ℕ)) (head : HeadSpec)
+    → after_title r.head (codes "trace") keyword values ≡ Ok head → IsKeptIssue (record r { head = head })
 titled r k keyword [] head h = absurd (cc)
 titled r k keyword (a ∷ b ∷ more) head h = absurd (cc)
 titled r k keyword (version ∷ []) head h =
     let known = then_ok (bytes_eq keyword (codes "trace") && bytes_eq version (codes "1")) _ _ head h in
     let same : record (r.head) { begun = true } ≡ head = one_ok _ head known.1 in
-    subst (λ (n : HeadSpec). IsKept (record r { head = n })) same
+    subst (λ (n : HeadSpec). IsKeptIssue (record r { head = n })) same
     (head_kept r k (record (r.head) { begun = true }) k.words k.opened (λ n l. l))
 
-pub title_kept : (r next : TraceReading) → IsKept r → (keyword : List ℕ) (values : List (List ℕ))
-    → with_head r (after_title r.head (codes "trace") keyword values) ≡ Ok next → IsKept next
+pub title_kept : (r next : TraceReading) → IsKeptIssue r → (keyword : List ℕ) (values : List (List ℕ))
+    → with_head r (after_title r.head (codes "trace") keyword values) ≡ Ok next → IsKeptIssue next
 title_kept r next k keyword values h = taken_kept r next _ h (titled r k keyword values)

@@ -7,7 +7,7 @@ use Rattle.lexer.specs.declared.refusal.Refusal.{Refusal}
 use Rattle.trace_lines.specs.Head.{head_missing}
 use Rattle.trace_text.specs.declared.reason.TraceReason.TheVariants as reason
 use Rattle.trace_text.specs.Findings.{trace_read}
-use Rattle.trace_text.specs.Kept.{IsKept}
+use Rattle.trace_text.specs.Kept.{IsKeptIssue}
 use Rattle.trace_text.specs.Traced.{TraceReading, TraceSpec, no_trace_read, after_line_words, trace_with, trace_from, trace_or_why, trace_of}
 use Rattle.trace_text.proofs.Kept.{words_kept}
 use Rattle.trace_text.proofs.KeptSettings.{kept_none}
@@ -22,11 +22,11 @@ fine number (Err e) f y h = absurd (cc)
 -- a trace is what its lines gave, and they keep it
 pub record IsRead (t : TraceSpec) : Type 0 where
   pub reading : TraceReading
-  pub kept : IsKept reading
+  pub kept : IsKeptIssue reading
   pub some : (reading.head.words == 0) ≡ false
   pub is : trace_read reading ≡ t
 
-lines_read : (r : TraceReading) → IsKept r → (number : ℕ) (lines : List (List ℕ)) (t : TraceSpec) → trace_from r number lines ≡ Ok t → IsRead t
+lines_read : (r : TraceReading) → IsKeptIssue r → (number : ℕ) (lines : List (List ℕ)) (t : TraceSpec) → trace_from r number lines ≡ Ok t → IsRead t
 lines_read r k number [] t h =
     let w = fine number (trace_with r) Ok t h in
     let whole = unless_ok (option_map reason.Line (head_missing r.head)) (Ok (trace_read r)) w.0 w.1 in

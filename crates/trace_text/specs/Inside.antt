@@ -1,7 +1,7 @@
 -- How a `TraceText` keeps its trace.
 use Rattle.trace_text.specs.declared.text.TraceText.TheInside.{Inside}
 use Rattle.trace_text.specs.Traced.{TraceSpec}
-use Rattle.trace_text.specs.Kept.{IsKept}
+use Rattle.trace_text.specs.Kept.{IsKeptIssue}
 use Rattle.trace_text.specs.Views.{trace_so_far}
 
 abbrev pub trace_of_fields : {A : Type 0} → Inside A → TraceSpec
@@ -14,4 +14,4 @@ trace_of_fields t = record {
 }
 
 abbrev pub IsTraceText : {A : Type 0} → Inside A → Type 0
-IsTraceText t = IsKept (trace_so_far t.reading)
+IsTraceText t = IsKeptIssue (trace_so_far t.reading)

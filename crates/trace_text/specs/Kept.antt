@@ -2,7 +2,7 @@
 use Rattle.std.specs.Prelude.{◌≡◌, ◌<◌, ◌≤◌, ◌^◌, ℕ, List, Some, length, slice_get}
 use Rattle.packet.specs.declared.kinds.Reply.{Reply}
 use Rattle.trace_laws.specs.declared.event.Call.{Call}
-use Rattle.trace_laws.specs.Traces.{IsTrace, TraceIssuesAt, TraceAnswersAt, WasIssued}
+use Rattle.trace_laws.specs.Traces.{IsTrace, TraceIssuesAt, TraceAnswersAt, WasIssuedBefore}
 use Rattle.trace_lines.specs.Head.{value_in}
 use Rattle.trace_text.specs.declared.issued.Issued.{Issued}
 use Rattle.trace_text.specs.IssueNumbers.{numbers_of}
@@ -24,14 +24,14 @@ AreIndexed numbers issued = (n : ℕ) (k : Issued) → slice_get issued n ≡ So
 
 -- opening words are words of the memory, events make a trace, each has its line, what is issued is
 -- known with its reply, and has an index and a place of its own
-pub record IsKept (r : TraceReading) : Type 0 where
+pub record IsKeptIssue (r : TraceReading) : Type 0 where
   pub words : r.head.words ≤ 2 ^ 32
   pub processors : length r.numbers ≡ 4096
   pub opened : (a w : ℕ) → value_in r.head.inits a ≡ Some w → a < r.head.words
   pub trace : IsTrace r.head.words r.events
   pub lines : length r.lines ≡ length r.events
   pub known : (i : ℕ) (call : Call) → TraceIssuesAt r.events i call → IsKnownAs r.issued call
-  pub issued : (n : ℕ) → n < length r.issued → WasIssued r.events (length r.events) n
+  pub issued : (n : ℕ) → n < length r.issued → WasIssuedBefore r.events (length r.events) n
   pub replied : (i id : ℕ) (reply : Reply) → TraceAnswersAt r.events i id reply
       → IsRepliedTo r.issued id reply
   pub indexed : AreIndexed r.numbers r.issued

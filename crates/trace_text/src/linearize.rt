@@ -7,7 +7,7 @@ ghost use Rattle.trace_laws.specs.Traces.{TraceAnswersAt};
 ghost use Rattle.trace_text.specs.Allowed.{IsAllowed, trace_answered_so};
 ghost use Rattle.trace_text.specs.Findings.{TellsFinding, IsUnfound, trace_read, place_of_address};
 ghost use Rattle.trace_text.specs.Findings.{placed_address, opening_words_at, unfound_at};
-ghost use Rattle.trace_text.specs.Kept.{IsKept};
+ghost use Rattle.trace_text.specs.Kept.{IsKeptIssue};
 ghost use Rattle.trace_text.specs.Renumbered.{moved_call, moved_event};
 ghost use Rattle.trace_text.specs.Traced.{opening_of};
 ghost use Rattle.trace_text.specs.Views.{trace_so_far};
@@ -166,7 +166,7 @@ fn at_line(lines: &[u64], why: Undecided) -> Unfound
 impl<A: Allocator + Copy> Reading<A> {
     /// Judges the trace, with at most so many configurations of a word at once.
     pub(crate) fn linearize(&self, alloc: A, bound: usize) -> Result<Finding<A>, Unfound>
-        requires { IsKept (trace_so_far self.now) }
+        requires { IsKeptIssue (trace_so_far self.now) }
         ensures unfound { IfErr result (IsUnfound (trace_read (trace_so_far self.now)) bound) }
         ensures found { IfOk result
             (λ finding. TellsFinding (trace_read (trace_so_far self.now)) finding) }
@@ -195,7 +195,7 @@ impl<A: Allocator + Copy> Reading<A> {
         reply: Reply,
         bound: usize,
     ) -> Result<bool, Unfound>
-        requires kept { IsKept (trace_so_far self.now) }
+        requires kept { IsKeptIssue (trace_so_far self.now) }
         requires answered { (told : Reply) × TraceAnswersAt self.now.events.items event id told }
         ensures yes { IfOk result (λ b. b ≡ true → IsAllowed
             (opening_of (trace_read (trace_so_far self.now))) self.now.events.items event id

@@ -17,10 +17,10 @@ use Rattle.trace_laws.proofs.Lists.{get_push, take_get}
 use Rattle.trace_laws.specs.Configs.{IsIn}
 use Rattle.trace_watch.specs.declared.state.Effect.{Effect}
 use Rattle.trace_watch.specs.States.{Config, IsAmong, after, less_one}
-use Rattle.trace_watch.specs.Matchings.{AreDistinct, Fits, Matches, MayBe, Other}
+use Rattle.trace_watch.specs.Matchings.{AreDistinctPartners, FitsPartner, Matches, MayBe, Other}
 use Rattle.trace_watch.specs.Named.{NamedConfig, NamedEffect, named, named_config}
-use Rattle.trace_watch.specs.Known.{Explains, IsExplained, IsOpenOn, LeadsTo, ArePendingOn}
-use Rattle.trace_watch.specs.Closed.{IsClaimed, IsTaken}
+use Rattle.trace_watch.specs.Known.{Explains, IsExplainedWatch, IsOpenOn, LeadsToConfig, ArePendingOn}
+use Rattle.trace_watch.specs.Closed.{IsClaimed, IsTakenConfig}
 use Rattle.trace_watch.proofs.Events.{answer_cases, answered_up, issue_down, issue_up, same_number}
 use Rattle.trace_watch.proofs.Matched.{IsPlaced, fits_weaken, insert_back, match_insert, match_place, remove_from, weaken}
 use Rattle.trace_watch.proofs.Covering.{covered_match, covers_named}
@@ -85,7 +85,7 @@ module _ {words : ℕ} {opening : List ℕ} {t : List Event} {w : ℕ} {b : Call
         o.1,
       )
 
-  pub distinct : AreDistinct others
+  pub distinct : AreDistinctPartners others
   distinct c d on also e = one_open words t w c d a.well (other_open c on) (other_open d also) e
 
   -- what is open after the answer
@@ -121,8 +121,8 @@ module _ {words : ℕ} {opening : List ℕ} {t : List Event} {w : ℕ} {b : Call
   other_later c on = later_up c (other_open c on, ((a.rest c).0 on).1)
 
   -- sound: what is kept is explained
-  pub taken_sound : (c d : Config) → IsExplained opening t w c → IsTaken others b reply c d → IsExplained opening more w d
-  taken_sound c d x takes = subst (λ (f : Config). IsExplained opening more w f) (sym takes.2) (record {
+  pub taken_sound : (c d : Config) → IsExplainedWatch opening t w c → IsTakenConfig others b reply c d → IsExplainedWatch opening more w d
+  taken_sound c d x takes = subst (λ (f : Config). IsExplainedWatch opening more w f) (sym takes.2) (record {
     fits = fits_weaken (IsIn others) (IsOpenOn more w) other_later c.effects takes.1;
     explained = λ cs m.
         let less = weaken (IsOpenOn more w) (Other (IsOpenOn t w) b.id) later_down c.effects cs m in
@@ -134,12 +134,12 @@ module _ {words : ℕ} {opening : List ℕ} {t : List Event} {w : ℕ} {b : Call
         let q = x.issued e on in (q.0, q.1, issue_up t (Answer b.id reply) q.0 q.1 q.2, q.3);
   })
 
-  pub claimed_sound : (c d : Config) → IsExplained opening t w c → IsClaimed others b reply c d → IsExplained opening more w d
+  pub claimed_sound : (c d : Config) → IsExplainedWatch opening t w c → IsClaimed others b reply c d → IsExplainedWatch opening more w d
   claimed_sound c d x claims =
       let k = claims.0 in
       let e = claims.1.0 in
       let back = insert_back c.effects k e claims.1.1 in
-      subst (λ (f : Config). IsExplained opening more w f) (sym claims.1.5) (record {
+      subst (λ (f : Config). IsExplainedWatch opening more w f) (sym claims.1.5) (record {
         fits = fits_weaken (IsIn others) (IsOpenOn more w) other_later (remove c.effects k) claims.1.4;
         explained = λ cs m.
             let less = weaken (IsOpenOn more w) (Other (IsOpenOn t w) b.id) later_down (remove c.effects k) cs m in
@@ -158,7 +158,7 @@ module _ {words : ℕ} {opening : List ℕ} {t : List Event} {w : ℕ} {b : Call
   -- one that tells of as much is led to too
   pub leads_among : (order : List Call) (new : List Config) (d : Config) (cs : List Call) → IsAmong new d
       → Matches (IsOpenOn more w) d.effects cs → Explains opening more w order (named_config d cs)
-      → LeadsTo opening more w order new
+      → LeadsToConfig opening more w order new
   leads_among order new d cs among m x = record {
     config = among.0;
     on = among.1;
@@ -176,10 +176,10 @@ module _ {words : ℕ} {opening : List ℕ} {t : List Event} {w : ℕ} {b : Call
 
   -- the answered operation has taken effect in a configuration that an order leads to
   pub claim_leads : (order : List Call) (n : ℕ) (old new : List Config) (found : List Config)
-      → IsOrderOn w opening more order → IsOrderOn w opening t order → (l : LeadsTo opening t w (take n order) old)
+      → IsOrderOn w opening more order → IsOrderOn w opening t order → (l : LeadsToConfig opening t w (take n order) old)
       → ((d : Config) → (c : Config) × IsIn old c × IsClaimed others b reply c d → IsAmong new d)
       → (x : NamedEffect) → IsIn (named l.config.effects l.calls) x → x.id ≡ b.id
-      → LeadsTo opening more w (take n order) new
+      → LeadsToConfig opening more w (take n order) new
   claim_leads order n old new found o back l claimed x on number =
       let c = l.config in
       let r : IsPlaced (IsOpenOn t w) c.effects l.calls on.0 x =
@@ -198,7 +198,7 @@ module _ {words : ℕ} {opening : List ℕ} {t : List Event} {w : ℕ} {b : Call
       let placed : l.calls ≡ insert (remove l.calls k) k b = insert_back l.calls k b
       (r.at ∙ ap (λ (g : Call). Some g) one) in
       let d = less_one c k in
-      let fit : Fits (IsIn others) (remove c.effects k) =
+      let fit : FitsPartner (IsIn others) (remove c.effects k) =
       (remove l.calls k, weaken (Other (IsOpenOn t w) b.id) (IsIn others) open_other (remove c.effects k) (remove l.calls k) rest) in
       let among = claimed d (
         c,

@@ -9,7 +9,7 @@ use Rattle.trace_laws.specs.Configs.{IsIn}
 use Rattle.trace_watch.specs.declared.state.State.{State}
 use Rattle.trace_watch.specs.States.{Config, configs_of}
 use Rattle.trace_watch.specs.Named.{named_config}
-use Rattle.trace_watch.specs.Known.{Explains, IsExplained, Knows, ArePending}
+use Rattle.trace_watch.specs.Known.{Explains, IsExplainedWatch, Knows, ArePending}
 use Rattle.trace_watch.specs.Follows.{Tracks, states_of}
 use Rattle.trace_watch.proofs.Events.{trace_none}
 
@@ -37,7 +37,7 @@ nothing_explained opening w = record {
   all = λ x c h never. absurd (let e : None ≡ Some c = h in cc);
 }
 
-first_explained : (opening : List ℕ) (w : ℕ) → IsExplained opening [] w (first_config (get_or opening w 0))
+first_explained : (opening : List ℕ) (w : ℕ) → IsExplainedWatch opening [] w (first_config (get_or opening w 0))
 first_explained opening w = record {
   fits = ([], tt);
   explained = λ calls m. ([], nothing_explained opening w);
@@ -46,7 +46,7 @@ first_explained opening w = record {
 
 knows_none : (opening : List ℕ) (w : ℕ) → Knows opening [] w (first_config (get_or opening w 0) ∷ [])
 knows_none opening w = record {
-  sound = λ c on. subst (λ (d : Config). IsExplained opening [] w d) (one c on.0 on.1) (first_explained opening w);
+  sound = λ c on. subst (λ (d : Config). IsExplainedWatch opening [] w d) (one c on.0 on.1) (first_explained opening w);
   complete = λ order o. (
     0,
     record {

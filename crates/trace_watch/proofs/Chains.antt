@@ -5,7 +5,7 @@ use Rattle.std.proofs.lemmas.Bool.{cases_eq}
 use Rattle.trace_laws.proofs.Lists.{get_push_cases, get_append_left, get_push, get_within, get_set_same, get_set_other}
 use Rattle.trace_watch.specs.declared.index.Index.{Index}
 use Rattle.trace_watch.specs.States.{Config, Covers, IsAmong, config_of, configs_of}
-use Rattle.trace_watch.specs.Crowds.{AreUnlike, IsCrowd}
+use Rattle.trace_watch.specs.Crowds.{AreUnlike, IsOpenCrowd}
 use Rattle.trace_watch.specs.Chains.{IsMask, IsChain, AreChained, IsIndexed, place_of}
 use Rattle.trace_watch.specs.declared.state.State.{State}
 use Rattle.trace_watch.proofs.Grown.{goes_back, goes_push, configs_push, long_configs}
@@ -196,7 +196,7 @@ push_indexed {A} index later old new found s read none places long chained pushe
 
 -- more than so many that are found are too many
 pub crowd_indexed : {A : Type 0} (index : Index A) (found : List (State A)) (bound : ℕ) → bound < length found
-    → IsIndexed index (configs_of found) → IsCrowd bound (configs_of found)
+    → IsIndexed index (configs_of found) → IsOpenCrowd bound (configs_of found)
 crowd_indexed index found bound more is = record {
   many = let e = long_configs found in omega arith;
   unlike = is.unlike;

@@ -9,7 +9,7 @@ use Rattle.trace_laws.specs.declared.event.Call.{Call}
 use Rattle.trace_laws.specs.Configs.{IsIn}
 use Rattle.trace_watch.specs.declared.state.Effect.{Effect}
 use Rattle.trace_watch.specs.States.{AreCovered, Config, Covers, IsAmong, after, effect_of, is_before, is_op_before, spot, told_word}
-use Rattle.trace_watch.specs.Matchings.{Fits, Matches}
+use Rattle.trace_watch.specs.Matchings.{FitsPartner, Matches}
 use Rattle.trace_watch.proofs.Sifting.{drop_at, drop_end}
 use Rattle.trace_watch.specs.Named.{NamedConfig, NamedEffect, named, named_config}
 
@@ -50,7 +50,7 @@ covered_match P (e ∷ es) (f ∷ fs) (c ∷ cs) a m =
       covered_match (λ d. P d × (d.id ≡ c.id → ⊥)) es fs cs a.3 m.2,
     )
 
-pub covered_fits : (P : Call → Type 0) (c d : Config) → Covers c d → Fits P d.effects → Fits P c.effects
+pub covered_fits : (P : Call → Type 0) (c d : Config) → Covers c d → FitsPartner P d.effects → FitsPartner P c.effects
 covered_fits P c d cov fit = (fit.0, covered_match P c.effects d.effects fit.0 cov.effects fit.1)
 
 pub covered_named : (es fs : List Effect) (calls : List Call) → AreCovered es fs → named es calls ≡ named fs calls

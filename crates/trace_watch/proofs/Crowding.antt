@@ -16,7 +16,7 @@ use Rattle.trace_watch.specs.States.{Config, config_of, configs_of}
 use Rattle.trace_watch.specs.Matchings.{IsPart}
 use Rattle.trace_watch.specs.Known.{ArePendingOn}
 use Rattle.trace_watch.specs.Closed.{IsOneMore, Expands}
-use Rattle.trace_watch.specs.Crowds.{IsCrowd, GivesUp, IsOverfull}
+use Rattle.trace_watch.specs.Crowds.{IsOpenCrowd, GivesUp, IsOverfullCrowd}
 use Rattle.trace_watch.specs.Follows.{Tracks, AnswersMany, TellsFull, states_of}
 use Rattle.trace_watch.proofs.Grown.{get_config}
 use Rattle.trace_watch.proofs.Growth.{one_in, Expanding, Catching, Closing, added_sound}
@@ -24,7 +24,7 @@ use Rattle.trace_watch.proofs.Watching.{states_read}
 
 -- an operation takes effect, and there are too many
 pub one_gives_up : (at : ℕ) (calls : List Call) (call : Call) (bound : ℕ) (old new : List Config)
-    → Expands at calls (call ∷ []) old new → IsCrowd bound new → GivesUp calls (call ∷ []) bound old new
+    → Expands at calls (call ∷ []) old new → IsOpenCrowd bound new → GivesUp calls (call ∷ []) bound old new
 one_gives_up at calls call bound old new expands crowd = record { sound = expands.sound; crowd = crowd }
 
 pub more_give_up : (at : ℕ) (calls newest : List Call) (bound : ℕ) (old : List Config) (i : ℕ) (new later : List Config)
@@ -50,9 +50,9 @@ catching_gives_up from calls newest bound begun next found later up was = record
 -- with one more of the configurations there are too many
 pub add_overfull : {A : Type 0} (calls newest : List Call) (bound : ℕ) (states : List (State A)) (i : ℕ)
     (found more : List (State A)) (s copy : State A) → slice_get states i ≡ Some s → config_of copy ≡ config_of s
-    → IsOneMore (configs_of found) (config_of copy) (configs_of more) → IsCrowd bound (configs_of more)
+    → IsOneMore (configs_of found) (config_of copy) (configs_of more) → IsOpenCrowd bound (configs_of more)
     → Closing calls newest (configs_of states) i (configs_of found)
-    → (all : List Call) → IsPart calls all → IsPart newest all → IsOverfull all bound (configs_of states)
+    → (all : List Call) → IsPart calls all → IsPart newest all → IsOverfullCrowd all bound (configs_of states)
 add_overfull calls newest bound states i found more s copy there same one crowd was all among also = record {
   found = configs_of more;
   sound = added_sound calls newest (configs_of states) i (configs_of found) (configs_of more) (config_of copy)
@@ -66,7 +66,7 @@ pub close_overfull : {A : Type 0} (calls newest : List Call) (bound : ℕ) (stat
     → IsOneMore (configs_of found) (config_of copy) (configs_of more)
     → GivesUp calls newest bound (configs_of more) (configs_of later)
     → Closing calls newest (configs_of states) i (configs_of found)
-    → (all : List Call) → IsPart calls all → IsPart newest all → IsOverfull all bound (configs_of states)
+    → (all : List Call) → IsPart calls all → IsPart newest all → IsOverfullCrowd all bound (configs_of states)
 close_overfull calls newest bound states i found more later s copy there same one up was all among also = record {
   found = configs_of later;
   sound = λ opening trace w inside pending explained.
@@ -94,7 +94,7 @@ pending_here opening t watch call calls here f = record {
 pub answers_many : {A : Type 0} (opening : List ℕ) (t : List Event) (watch : Watch A) (call : Call) (id : ℕ)
     (reply : Reply) (bound : ℕ) (calls : List Call) → IsIn watch.pending.items call → call.id ≡ id
     → ((c : Call) → IsIn calls c ↔ (IsIn watch.pending.items c × (c.operation.address ≡ call.operation.address)))
-    → IsOverfull calls bound (states_of watch.words.items call.operation.address)
+    → IsOverfullCrowd calls bound (states_of watch.words.items call.operation.address)
     → Tracks opening t watch → AnswersMany opening t (Answer id reply) bound
 answers_many opening t watch call id reply bound calls on number here over f =
     let p = f.pending.each call on in
@@ -124,11 +124,11 @@ calls_read watch call q calls same here = subst
 pub over_read : {A : Type 0} (watch : Watch A) (call : Call) (bound : ℕ) (calls cs : List Call)
     (v : Vec (State A) A) (ss : List (State A)) → cs ≡ calls → ss ≡ v.items
     → v ≡ get_or watch.words.items call.operation.address v → call.operation.address < length watch.words.items
-    → IsOverfull cs bound (configs_of ss) → IsOverfull calls bound (states_of watch.words.items call.operation.address)
+    → IsOverfullCrowd cs bound (configs_of ss) → IsOverfullCrowd calls bound (states_of watch.words.items call.operation.address)
 over_read {A} watch call bound calls cs v ss listed items read inside over =
-    subst (λ (xs : List Config). IsOverfull calls bound xs)
+    subst (λ (xs : List Config). IsOverfullCrowd calls bound xs)
     (ap (λ (xs : List (State A)). configs_of xs) items ∙ states_read watch.words.items call.operation.address v inside read)
-    (subst (λ (xs : List Call). IsOverfull xs bound (configs_of ss)) listed over)
+    (subst (λ (xs : List Call). IsOverfullCrowd xs bound (configs_of ss)) listed over)
 
 -- an answer isn't decided for one of two reasons
 pub full_told : (opening : List ℕ) (t : List Event) (id : ℕ) (reply : Reply) (bound : ℕ) (full : Full)

@@ -13,8 +13,8 @@ use Rattle.trace_laws.specs.Locality.{IsOrderOn}
 use Rattle.trace_laws.proofs.Lists.{get_push_cases, get_append_left, get_push, get_within}
 use Rattle.trace_laws.proofs.Memory.{word_changed}
 use Rattle.trace_laws.specs.Configs.{IsIn}
-use Rattle.trace_watch.specs.Named.{NamedConfig, NamedEffect, HasEffect, IsLike, IsWithout, named_after}
-use Rattle.trace_watch.specs.Known.{IsReplied, Explains, IsPending}
+use Rattle.trace_watch.specs.Named.{NamedConfig, NamedEffect, HasEffect, IsLike, IsWithoutCall, named_after}
+use Rattle.trace_watch.specs.Known.{IsReplied, Explains, IsPendingCall}
 use Rattle.trace_watch.proofs.Events.{issue_up, answered_up, answer_cases, same_number, issue_down}
 
 -- what says the same is explained by the same order
@@ -44,7 +44,7 @@ replied_later opening order b e r =
 
 -- an open operation takes effect
 pub explains_after : (opening : List ℕ) (t : List Event) (w : ℕ) (order : List Call) (c : NamedConfig) (b : Call)
-    → w < length opening → IsPending t b → b.operation.address ≡ w → (HasEffect c b.id → ⊥)
+    → w < length opening → IsPendingCall t b → b.operation.address ≡ w → (HasEffect c b.id → ⊥)
     → Explains opening t w order c → Explains opening t w (order ++ b ∷ []) (named_after c b)
 explains_after opening t w order c b inside waits here none x =
     let o = x.legal in
@@ -131,7 +131,7 @@ explains_after opening t w order c b inside waits here none x =
 pub explains_answer : (words : ℕ) (opening : List ℕ) (t : List Event) (w : ℕ) (order : List Call) (c d : NamedConfig)
     (e : NamedEffect) (id : ℕ) (reply : Reply)
     → IsTrace words (t ++ Answer id reply ∷ []) → IsIn c.effects e → e.id ≡ id → e.reply ≡ reply
-    → IsWithout id c d → Explains opening t w order c → Explains opening (t ++ Answer id reply ∷ []) w order d
+    → IsWithoutCall id c d → Explains opening t w order c → Explains opening (t ++ Answer id reply ∷ []) w order d
 explains_answer words opening t w order c d e id reply is on number told less x =
     let o = x.legal in
     let more = t ++ Answer id reply ∷ [] in

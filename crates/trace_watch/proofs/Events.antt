@@ -5,11 +5,11 @@ use Rattle.packet.specs.declared.kinds.Reply.{Reply}
 use Rattle.trace_laws.specs.declared.event.Call.{Call}
 use Rattle.trace_laws.specs.declared.event.Event.{Event}
 use Rattle.trace_laws.specs.declared.event.Event.TheVariants.{Issue, Answer}
-use Rattle.trace_laws.specs.Traces.{IsTrace, TraceIssuesAt, TraceAnswersAt, WasIssued, IsAnswered}
+use Rattle.trace_laws.specs.Traces.{IsTrace, TraceIssuesAt, TraceAnswersAt, WasIssuedBefore, IsAnswered}
 use Rattle.trace_laws.proofs.Issues.{one_issue}
 use Rattle.trace_laws.proofs.Lists.{get_push_cases, get_append_left, get_push, get_within}
 use Rattle.trace_laws.specs.Configs.{IsIn}
-use Rattle.trace_watch.specs.Known.{IsPending, ArePending, IsNewest}
+use Rattle.trace_watch.specs.Known.{IsPendingCall, ArePending, IsNewest}
 
 pub issue_up : (t : List Event) (e : Event) (i : ℕ) (c : Call) → TraceIssuesAt t i c → TraceIssuesAt (t ++ e ∷ []) i c
 issue_up t e i c h = get_append_left t (e ∷ []) i (Issue c) h
@@ -95,7 +95,7 @@ pub trace_answer : (words : ℕ) (t : List Event) (id : ℕ) (reply : Reply) (at
     → TraceIssuesAt t at b → b.id ≡ id → (IsAnswered t id → ⊥) → IsTrace words (t ++ Answer id reply ∷ [])
 trace_answer words t id reply at b is issue number never = record {
   rising = λ i j a c l h k. is.rising i j a c l (issue_down t id reply i a h) (issue_down t id reply j c k);
-  issued = λ j other r h. ⊎_elim {C = WasIssued (t ++ Answer id reply ∷ []) j other}
+  issued = λ j other r h. ⊎_elim {C = WasIssuedBefore (t ++ Answer id reply ∷ []) j other}
       (λ old. let w = is.issued j other r old in
       (w.0, w.1, w.2, w.3, issue_up t (Answer id reply) w.0 w.1 w.4))
       (λ (new : (j ≡ length t) × (Answer id reply ≡ Answer other r)).
@@ -167,7 +167,7 @@ pub pending_issue : (words : ℕ) (t : List Event) (b : Call) (calls : List Call
     → IsTrace words (t ++ Issue b ∷ []) → ArePending t calls
     → ArePending (t ++ Issue b ∷ []) (calls ++ b ∷ [])
 pending_issue words t b calls is p = record {
-  each = λ c on. ⊎_elim {C = IsPending (t ++ Issue b ∷ []) c}
+  each = λ c on. ⊎_elim {C = IsPendingCall (t ++ Issue b ∷ []) c}
       (λ (old : slice_get calls on.0 ≡ Some c).
       let q = p.each c (on.0, old) in
       record {
@@ -175,7 +175,7 @@ pending_issue words t b calls is p = record {
         unanswered = λ a. q.unanswered (answered_down t b c.id a);
       })
       (λ (new : (on.0 ≡ length calls) × (b ≡ c)).
-      subst (λ (d : Call). IsPending (t ++ Issue b ∷ []) d) new.1 (record {
+      subst (λ (d : Call). IsPendingCall (t ++ Issue b ∷ []) d) new.1 (record {
         issued = (length t, get_push t (Issue b));
         unanswered = λ a. not_yet words t b is (answered_down t b b.id a);
       }))

@@ -10,10 +10,10 @@ use Rattle.trace_laws.specs.Configs.{IsIn}
 use Rattle.trace_watch.specs.declared.state.State.{State}
 use Rattle.trace_watch.specs.declared.watch.Watch.{Watch}
 use Rattle.trace_watch.specs.States.{Config, Covers, IsAmong, after, configs_of}
-use Rattle.trace_watch.specs.Matchings.{AreDistinct, HasNewest, Other}
-use Rattle.trace_watch.specs.Known.{ArePendingOn, IsPending}
-use Rattle.trace_watch.specs.Closed.{Closes, IsExpanded}
-use Rattle.trace_watch.specs.Crowds.{Explains, AreFew}
+use Rattle.trace_watch.specs.Matchings.{AreDistinctPartners, HasNewest, Other}
+use Rattle.trace_watch.specs.Known.{ArePendingOn, IsPendingCall}
+use Rattle.trace_watch.specs.Closed.{Closes, IsExpandedState}
+use Rattle.trace_watch.specs.Crowds.{ExplainsCrowd, AreFew}
 use Rattle.trace_watch.specs.Follows.{Tracks, AnswersFew, states_of}
 use Rattle.trace_watch.proofs.Events.{same_number, same_call}
 use Rattle.trace_watch.proofs.Matched.{fits_weaken}
@@ -23,9 +23,9 @@ use Rattle.trace_watch.proofs.Watching.{pending_inside, states_read}
 
 -- whatever operations lead to is among the configurations that are closed under them
 reached : (id : ℕ) (calls others newest : List Call) (found : List Config)
-    → ((c : Call) → IsIn others c ↔ (IsIn calls c × (c.id ≡ id → ⊥))) → AreDistinct others → HasNewest others newest
-    → ((f : Config) → IsIn found f → IsExpanded others newest found f)
-    → (path : List Call) (c d f : Config) → IsIn found f → Covers f c → Explains id calls c path d → IsAmong found d
+    → ((c : Call) → IsIn others c ↔ (IsIn calls c × (c.id ≡ id → ⊥))) → AreDistinctPartners others → HasNewest others newest
+    → ((f : Config) → IsIn found f → IsExpandedState others newest found f)
+    → (path : List Call) (c d f : Config) → IsIn found f → Covers f c → ExplainsCrowd id calls c path d → IsAmong found d
 reached id calls others newest found rest apart latest closed [] c d f on cov leads =
     (f, on, subst (λ (x : Config). Covers f x) leads cov)
 reached id calls others newest found rest apart latest closed (call ∷ path) c d f on cov leads =
@@ -40,7 +40,7 @@ reached id calls others newest found rest apart latest closed (call ∷ path) c 
 
 pub few_found : (id : ℕ) (calls others newest : List Call) (bound : ℕ) (old found : List Config)
     → ((c : Call) → IsIn others c ↔ (IsIn calls c × (c.id ≡ id → ⊥))) → HasNewest others newest
-    → length found ≤ bound → Closes others newest old found → AreDistinct calls → AreFew id calls bound old
+    → length found ≤ bound → Closes others newest old found → AreDistinctPartners calls → AreFew id calls bound old
 few_found id calls others newest bound old found rest latest short closes apart = record {
   found = found;
   short = short;
@@ -55,7 +55,7 @@ few_found id calls others newest bound old found rest latest short closes apart 
 pub few_read_found : {A : Type 0} (id : ℕ) (calls others newest first second also : List Call) (bound : ℕ)
     (states found : List (State A)) → first ≡ others → second ≡ others → also ≡ newest
     → ((c : Call) → IsIn others c ↔ (IsIn calls c × (c.id ≡ id → ⊥))) → HasNewest first newest
-    → length found ≤ bound → Closes second also (configs_of states) (configs_of found) → AreDistinct calls
+    → length found ≤ bound → Closes second also (configs_of states) (configs_of found) → AreDistinctPartners calls
     → AreFew id calls bound (configs_of states)
 few_read_found id calls others newest first second also bound states found a b n rest latest short closes apart =
     few_found id calls others newest bound (configs_of states) (configs_of found) rest
@@ -65,7 +65,7 @@ few_read_found id calls others newest first second also bound states found a b n
 
 -- fewer operations lead to no more
 leads_more : (id : ℕ) (calls more : List Call) → ((c : Call) → IsIn calls c → IsIn more c)
-    → (path : List Call) (c d : Config) → Explains id calls c path d → Explains id more c path d
+    → (path : List Call) (c d : Config) → ExplainsCrowd id calls c path d → ExplainsCrowd id more c path d
 leads_more id calls more among [] c d leads = leads
 leads_more id calls more among (call ∷ path) c d leads = (
   among call leads.0,
@@ -84,7 +84,7 @@ few_fewer id calls more bound old among few = record {
 
 -- an operation that is open is one of those that a watch holds
 held : {A : Type 0} (opening : List ℕ) (t : List Event) (watch : Watch A) (call : Call) → Tracks opening t watch
-    → IsPending t call → IsIn watch.pending.items call
+    → IsPendingCall t call → IsIn watch.pending.items call
 held opening t watch call f p = ⊎_elim {C = IsIn watch.pending.items call}
     (λ (a : IsAnswered t call.id). absurd (p.unanswered a))
     (λ (on : IsIn watch.pending.items call). on)
@@ -109,11 +109,11 @@ far_few opening t watch call id reply bound on far f =
 pub answers_few : {A : Type 0} (opening : List ℕ) (t : List Event) (watch : Watch A) (call : Call) (id : ℕ)
     (reply : Reply) (bound : ℕ) (calls : List Call) → IsIn watch.pending.items call → call.id ≡ id
     → ((c : Call) → IsIn calls c ↔ (IsIn watch.pending.items c × (c.operation.address ≡ call.operation.address)))
-    → (AreDistinct calls → AreFew call.id calls bound (states_of watch.words.items call.operation.address))
+    → (AreDistinctPartners calls → AreFew call.id calls bound (states_of watch.words.items call.operation.address))
     → Tracks opening t watch → AnswersFew t (Answer id reply) bound watch
 answers_few opening t watch call id reply bound calls on number here few f = λ other r also p e are.
     let q = f.pending.each call on in
-    let apart : AreDistinct calls = λ c d in_c in_d same.
+    let apart : AreDistinctPartners calls = λ c d in_c in_d same.
     let x = f.pending.each c ((here c).0 in_c).0 in
     let y = f.pending.each d ((here d).0 in_d).0 in
     one_call (length opening) t f.well x.issued.0 y.issued.0 c d x.issued.1 y.issued.1 same in
@@ -133,10 +133,10 @@ answers_few opening t watch call id reply bound calls on number here few f = λ 
 pub few_read : {A : Type 0} (watch : Watch A) (call : Call) (id bound : ℕ) (calls cs : List Call)
     (v : Vec (State A) A) (ss : List (State A)) → cs ≡ calls → ss ≡ v.items
     → v ≡ get_or watch.words.items call.operation.address v → call.operation.address < length watch.words.items
-    → (AreDistinct cs → AreFew id cs bound (configs_of ss))
-    → AreDistinct calls → AreFew id calls bound (states_of watch.words.items call.operation.address)
+    → (AreDistinctPartners cs → AreFew id cs bound (configs_of ss))
+    → AreDistinctPartners calls → AreFew id calls bound (states_of watch.words.items call.operation.address)
 few_read {A} watch call id bound calls cs v ss listed items read inside few apart =
     subst (λ (xs : List Config). AreFew id calls bound xs)
     (ap (λ (xs : List (State A)). configs_of xs) items ∙ states_read watch.words.items call.operation.address v inside read)
     (subst (λ (xs : List Call). AreFew id xs bound (configs_of ss)) listed
-    (few (subst (λ (xs : List Call). AreDistinct xs) (sym listed) apart)))
+    (few (subst (λ (xs : List Call). AreDistinctPartners xs) (sym listed) apart)))

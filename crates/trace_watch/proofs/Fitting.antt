@@ -6,21 +6,21 @@ use Rattle.trace_laws.specs.declared.event.Call.{Call}
 use Rattle.trace_laws.proofs.Lists.{get_append_left, get_push, get_push_cases, get_within}
 use Rattle.trace_laws.specs.Configs.{IsIn}
 use Rattle.trace_watch.specs.declared.state.Effect.{Effect}
-use Rattle.trace_watch.specs.Matchings.{AreDistinct, Fits, HasAsNew, HasNewest, IsNewer, IsNewestOf, IsPart, MayBe, Other}
+use Rattle.trace_watch.specs.Matchings.{AreDistinctPartners, FitsPartner, HasAsNew, HasNewest, IsNewer, IsNewestOf, IsPart, MayBe, Other}
 use Rattle.trace_watch.proofs.Matched.{fits_weaken, newest_back, newest_first}
 use Rattle.trace_watch.proofs.Sifting.{drop_at, drop_end}
 
 -- what is left for the effects from place i on
 pub record Fitting (calls : List Call) (effects : List Effect) (i : ℕ) (left : List Call) : Type 0 where
   pub part : IsPart left calls
-  pub up : Fits (IsIn left) (drop i effects) → Fits (IsIn calls) effects
-  pub down : AreDistinct calls → Fits (IsIn calls) effects → Fits (IsIn left) (drop i effects)
+  pub up : FitsPartner (IsIn left) (drop i effects) → FitsPartner (IsIn calls) effects
+  pub down : AreDistinctPartners calls → FitsPartner (IsIn calls) effects → FitsPartner (IsIn left) (drop i effects)
 
 pub fitting_none : (calls left : List Call) (effects : List Effect) → left ≡ calls → Fitting calls effects 0 left
 fitting_none calls left effects same = record {
   part = λ c on. subst (λ (cs : List Call). IsIn cs c) same on;
-  up = λ fit. subst (λ (cs : List Call). Fits (IsIn cs) effects) same fit;
-  down = λ apart fit. subst (λ (cs : List Call). Fits (IsIn cs) effects) (sym same) fit;
+  up = λ fit. subst (λ (cs : List Call). FitsPartner (IsIn cs) effects) same fit;
+  down = λ apart fit. subst (λ (cs : List Call). FitsPartner (IsIn cs) effects) (sym same) fit;
 }
 
 -- the newest operation is taken
@@ -30,11 +30,11 @@ pub fitting_more : (calls : List Call) (effects : List Effect) (i : ℕ) (left l
     → Fitting calls effects i left → Fitting calls effects (i + 1) later
 fitting_more calls effects i left later e p here best less was = record {
   part = λ c on. was.part c ((less c).0 on).0;
-  up = λ fit. was.up (subst (λ (es : List Effect). Fits (IsIn left) es) (sym split)
+  up = λ fit. was.up (subst (λ (es : List Effect). FitsPartner (IsIn left) es) (sym split)
       (newest_back (IsIn left) e (drop (i + 1) effects) p best.on best.may
       (fits_weaken (IsIn later) (Other (IsIn left) p.id) (λ c on. (less c).0 on) (drop (i + 1) effects) fit)));
   down = λ apart fit.
-      let all = subst (λ (es : List Effect). Fits (IsIn left) es) split (was.down apart fit) in
+      let all = subst (λ (es : List Effect). FitsPartner (IsIn left) es) split (was.down apart fit) in
       fits_weaken (Other (IsIn left) p.id) (IsIn later) (λ c o. (less c).1 o) (drop (i + 1) effects)
       (newest_first (IsIn left) e (drop (i + 1) effects) p
       (λ c d in_c in_d same. apart c d (was.part c in_c) (was.part d in_d) same) best.on best.may
@@ -60,18 +60,18 @@ fitting_taken calls effects i left later first then e p here read also best less
 pub fitting_stuck : (calls : List Call) (effects : List Effect) (i : ℕ) (left : List Call) (e : Effect)
     → slice_get effects i ≡ Some e
     → ((k : ℕ) (c : Call) → slice_get left k ≡ Some c → MayBe e c → ⊥) → Fitting calls effects i left
-    → AreDistinct calls → Fits (IsIn calls) effects → ⊥
+    → AreDistinctPartners calls → FitsPartner (IsIn calls) effects → ⊥
 fitting_stuck calls effects i left e here none was apart fit =
-    stuck (subst (λ (es : List Effect). Fits (IsIn left) es) (drop_at effects i e here) (was.down apart fit))
+    stuck (subst (λ (es : List Effect). FitsPartner (IsIn left) es) (drop_at effects i e here) (was.down apart fit))
   where
-    stuck : Fits (IsIn left) (e ∷ drop (suc i) effects) → ⊥
+    stuck : FitsPartner (IsIn left) (e ∷ drop (suc i) effects) → ⊥
     stuck ([], m) = m
     stuck (c ∷ cs, m) = none m.0.0 c m.0.1 m.1
 
 pub fitting_all : (calls : List Call) (effects : List Effect) (i : ℕ) (left : List Call) → length effects ≤ i
-    → Fitting calls effects i left → Fits (IsIn calls) effects
+    → Fitting calls effects i left → FitsPartner (IsIn calls) effects
 fitting_all calls effects i left all was =
-    was.up (subst (λ (es : List Effect). Fits (IsIn left) es) (sym (drop_end effects i all)) ([], tt))
+    was.up (subst (λ (es : List Effect). FitsPartner (IsIn left) es) (sym (drop_end effects i all)) ([], tt))
 
 -- the newest of the operations before place i that an effect may be of
 pub record IsNewestBelow (calls : List Call) (e : Effect) (i : ℕ) (call : Call) : Type 0 where

@@ -9,15 +9,15 @@ use Rattle.trace_laws.specs.Configs.{IsIn, GoesOn}
 use Rattle.trace_watch.specs.declared.state.Effect.{Effect}
 use Rattle.trace_watch.specs.declared.state.State.{State}
 use Rattle.trace_watch.specs.States.{Config, IsAmong, config_of, configs_of, less_one}
-use Rattle.trace_watch.specs.Matchings.{AreDistinct, Fits, HasNewest, IsPart, MayBe}
-use Rattle.trace_watch.specs.Closed.{Closes, FromOne, Gathers, IsAnsweredBy, IsClaimed, IsClaimedAt, IsOneMore, IsTaken}
-use Rattle.trace_watch.specs.Crowds.{IsOverfull}
+use Rattle.trace_watch.specs.Matchings.{AreDistinctPartners, FitsPartner, HasNewest, IsPart, MayBe}
+use Rattle.trace_watch.specs.Closed.{Closes, FromOne, Gathers, IsAnsweredBy, IsClaimed, IsClaimedAt, IsOneMore, IsTakenConfig}
+use Rattle.trace_watch.specs.Crowds.{IsOverfullCrowd}
 use Rattle.trace_watch.proofs.Grown.{get_config, goes_among, goes_more, goes_same, long_configs, more_among, more_from, more_goes}
 use Rattle.trace_watch.proofs.Loops.{fits_back, fits_read}
 
 -- nothing is of a kind
 pub gathers_nothing : (others : List Call) (Kind : Config → Type 0) (old : List Config)
-    → (AreDistinct others → (d : Config) → Kind d → ⊥) → Gathers others Kind old old
+    → (AreDistinctPartners others → (d : Config) → Kind d → ⊥) → Gathers others Kind old old
 gathers_nothing others Kind old none = record {
   grows = goes_same old;
   from = λ d on. inl on;
@@ -47,7 +47,7 @@ claim_none others call reply s k e old there never =
 -- the others are not enough without it
 pub claim_stuck : {A : Type 0} (others : List Call) (call : Call) (reply : Reply) (s less : State A) (k : ℕ)
     (es : List Effect) (old : List Config) → config_of less ≡ less_one (config_of s) k → es ≡ less.effects.items
-    → (AreDistinct others → Fits (IsIn others) es → ⊥)
+    → (AreDistinctPartners others → FitsPartner (IsIn others) es → ⊥)
     → Gathers others (IsClaimedAt others call reply (config_of s) k) old old
 claim_stuck others call reply s less k es old is read never =
     gathers_nothing others (IsClaimedAt others call reply (config_of s) k) old (λ apart d claims.
@@ -56,7 +56,7 @@ claim_stuck others call reply s less k es old is read never =
 -- they are
 pub claim_one : {A : Type 0} (others : List Call) (call : Call) (reply : Reply) (s less : State A) (k : ℕ) (e : Effect)
     (es : List Effect) (old new : List Config) → slice_get s.effects.items k ≡ Some e → e.reply ≡ reply → MayBe e call
-    → config_of less ≡ less_one (config_of s) k → es ≡ less.effects.items → Fits (IsIn others) es
+    → config_of less ≡ less_one (config_of s) k → es ≡ less.effects.items → FitsPartner (IsIn others) es
     → IsOneMore old (config_of less) new
     → Gathers others (IsClaimedAt others call reply (config_of s) k) old new
 claim_one others call reply s less k e es old new there told may is read fit more =
@@ -67,31 +67,31 @@ claim_one others call reply s less k e es old new there told may is read fit mor
 -- the answered operation takes effect with another reply
 pub take_none : {A : Type 0} (others : List Call) (call : Call) (reply told : Reply) (s : State A) (old : List Config)
     → told ≡ reply_to call.operation.op s.word → (told ≡ reply → ⊥)
-    → Gathers others (IsTaken others call reply (config_of s)) old old
+    → Gathers others (IsTakenConfig others call reply (config_of s)) old old
 take_none others call reply told s old is never =
-    gathers_nothing others (IsTaken others call reply (config_of s)) old (λ apart d takes. never (is ∙ takes.0))
+    gathers_nothing others (IsTakenConfig others call reply (config_of s)) old (λ apart d takes. never (is ∙ takes.0))
 
 -- the others are not enough for the effects
 pub take_stuck : {A : Type 0} (others : List Call) (call : Call) (reply : Reply) (s : State A) (es : List Effect)
-    (old : List Config) → es ≡ s.effects.items → (AreDistinct others → Fits (IsIn others) es → ⊥)
-    → Gathers others (IsTaken others call reply (config_of s)) old old
+    (old : List Config) → es ≡ s.effects.items → (AreDistinctPartners others → FitsPartner (IsIn others) es → ⊥)
+    → Gathers others (IsTakenConfig others call reply (config_of s)) old old
 take_stuck others call reply s es old read never =
-    gathers_nothing others (IsTaken others call reply (config_of s)) old (λ apart d takes.
-    never apart (subst (λ (fs : List Effect). Fits (IsIn others) fs) (sym read) takes.1))
+    gathers_nothing others (IsTakenConfig others call reply (config_of s)) old (λ apart d takes.
+    never apart (subst (λ (fs : List Effect). FitsPartner (IsIn others) fs) (sym read) takes.1))
 
 -- they are
 pub take_one : {A : Type 0} (others : List Call) (call : Call) (reply told : Reply) (word : ℕ) (s next : State A)
     (es : List Effect) (old new : List Config) → word ≡ new_word call.operation.op s.word
     → told ≡ reply_to call.operation.op s.word → told ≡ reply
     → config_of next ≡ record { word = word; effects = s.effects.items } → es ≡ s.effects.items
-    → Fits (IsIn others) es → IsOneMore old (config_of next) new
-    → Gathers others (IsTaken others call reply (config_of s)) old new
+    → FitsPartner (IsIn others) es → IsOneMore old (config_of next) new
+    → Gathers others (IsTakenConfig others call reply (config_of s)) old new
 take_one others call reply told word s next es old new left is same made read fit more =
     let d : Config = record { word = new_word call.operation.op s.word; effects = s.effects.items } in
     let reached : config_of next ≡ d =
     made ∙ ap (λ (w : ℕ). let c : Config = record { word = w; effects = s.effects.items } in c) left in
-    gathers_one others (IsTaken others call reply (config_of s)) old new d
-    (sym is ∙ same, subst (λ (fs : List Effect). Fits (IsIn others) fs) read fit, refl)
+    gathers_one others (IsTakenConfig others call reply (config_of s)) old new d
+    (sym is ∙ same, subst (λ (fs : List Effect). FitsPartner (IsIn others) fs) read fit, refl)
     (λ c takes. sym takes.2) (subst (λ (c : Config). IsOneMore old c new) reached more)
 
 -- the kinds of each place below one
@@ -176,19 +176,19 @@ pub answered_by : {A : Type 0} (call : Call) (reply : Reply) (calls others newes
     → first ≡ others → second ≡ others → third ≡ others → fourth ≡ others → also ≡ newest → read ≡ found → none ≡ []
     → ((c : Call) → IsIn others c ↔ (IsIn calls c × (c.id ≡ call.id → ⊥))) → HasNewest first newest
     → Closes second also (configs_of states) (configs_of found)
-    → Gathers third (FromOne (configs_of read) (IsTaken third call reply)) (configs_of none) (configs_of taken)
+    → Gathers third (FromOne (configs_of read) (IsTakenConfig third call reply)) (configs_of none) (configs_of taken)
     → Gathers fourth (FromOne (configs_of states) (IsClaimed fourth call reply)) (configs_of taken) (configs_of kept)
     → IsAnsweredBy call reply calls (configs_of states) (configs_of kept)
 answered_by {A} call reply calls others newest first second third fourth also states found read none taken kept a b t f n r
     z rest latest closes takes claims =
-    let by_others : Gathers others (FromOne (configs_of read) (IsTaken others call reply)) (configs_of none)
-    (configs_of taken) = subst (λ (os : List Call). Gathers os (FromOne (configs_of read) (IsTaken os call reply))
+    let by_others : Gathers others (FromOne (configs_of read) (IsTakenConfig others call reply)) (configs_of none)
+    (configs_of taken) = subst (λ (os : List Call). Gathers os (FromOne (configs_of read) (IsTakenConfig os call reply))
     (configs_of none) (configs_of taken)) t takes in
-    let of_found : Gathers others (FromOne (configs_of found) (IsTaken others call reply)) (configs_of none)
+    let of_found : Gathers others (FromOne (configs_of found) (IsTakenConfig others call reply)) (configs_of none)
     (configs_of taken) = subst (λ (ss : List (State A)). Gathers others (FromOne (configs_of ss)
-    (IsTaken others call reply)) (configs_of none) (configs_of taken)) r by_others in
-    let took : Gathers others (FromOne (configs_of found) (IsTaken others call reply)) [] (configs_of taken) = subst
-    (λ (ss : List (State A)). Gathers others (FromOne (configs_of found) (IsTaken others call reply)) (configs_of ss)
+    (IsTakenConfig others call reply)) (configs_of none) (configs_of taken)) r by_others in
+    let took : Gathers others (FromOne (configs_of found) (IsTakenConfig others call reply)) [] (configs_of taken) = subst
+    (λ (ss : List (State A)). Gathers others (FromOne (configs_of found) (IsTakenConfig others call reply)) (configs_of ss)
     (configs_of taken)) z of_found in
     let claimed : Gathers others (FromOne (configs_of states) (IsClaimed others call reply)) (configs_of taken)
     (configs_of kept) = subst (λ (os : List Call). Gathers os (FromOne (configs_of states) (IsClaimed os call reply))
@@ -201,12 +201,12 @@ answered_by {A} call reply calls others newest first second third fourth also st
       latest = subst (λ (os : List Call). HasNewest os newest) a latest;
       closes = subst (λ (ns : List Call). Closes others ns (configs_of states) (configs_of found)) n
           (subst (λ (os : List Call). Closes os also (configs_of states) (configs_of found)) b closes);
-      from = λ d on. ⊎_elim {C = FromOne (configs_of found) (IsTaken others call reply) d
+      from = λ d on. ⊎_elim {C = FromOne (configs_of found) (IsTakenConfig others call reply) d
           ⊎ FromOne (configs_of states) (IsClaimed others call reply) d}
-          (λ (old : IsIn (configs_of taken) d). ⊎_elim {C = FromOne (configs_of found) (IsTaken others call reply) d
+          (λ (old : IsIn (configs_of taken) d). ⊎_elim {C = FromOne (configs_of found) (IsTakenConfig others call reply) d
           ⊎ FromOne (configs_of states) (IsClaimed others call reply) d}
           (λ (never : IsIn [] d). absurd (let h : None ≡ Some d = never.1 in cc))
-          (λ (k : FromOne (configs_of found) (IsTaken others call reply) d). inl k)
+          (λ (k : FromOne (configs_of found) (IsTakenConfig others call reply) d). inl k)
           (took.from d old))
           (λ (k : FromOne (configs_of states) (IsClaimed others call reply) d). inr k)
           (claimed.from d on);
@@ -218,8 +218,8 @@ answered_by {A} call reply calls others newest first second third fourth also st
 pub over_others : (call : Call) (calls others newest first second also : List Call) (bound : ℕ) (states : List Config)
     → first ≡ others → second ≡ others → also ≡ newest
     → ((c : Call) → IsIn others c ↔ (IsIn calls c × (c.id ≡ call.id → ⊥))) → HasNewest first newest
-    → ((all : List Call) → IsPart second all → IsPart also all → IsOverfull all bound states)
-    → IsOverfull calls bound states
+    → ((all : List Call) → IsPart second all → IsPart also all → IsOverfullCrowd all bound states)
+    → IsOverfullCrowd calls bound states
 over_others call calls others newest first second also bound states a b n rest latest over = over calls
     (λ c on. ((rest c).0 (subst (λ (cs : List Call). IsIn cs c) b on)).0)
     (λ c on.

@@ -9,10 +9,10 @@ use Rattle.trace_laws.specs.Configs.{IsIn, GoesOn}
 use Rattle.trace_laws.specs.Traces.{TraceIssuesAt}
 use Rattle.trace_watch.specs.declared.state.Effect.{Effect}
 use Rattle.trace_watch.specs.States.{Config, IsAmong, after, effect_of, spot}
-use Rattle.trace_watch.specs.Matchings.{AreDistinct, Fits, IsPart, Other}
+use Rattle.trace_watch.specs.Matchings.{AreDistinctPartners, FitsPartner, IsPart, Other}
 use Rattle.trace_watch.specs.Named.{named_config}
-use Rattle.trace_watch.specs.Known.{Explains, IsExplained, IsOpenOn, ArePendingOn, StaysExplained}
-use Rattle.trace_watch.specs.Closed.{IsOneMore, IsExpanded, Expands, CatchesUp, Closes}
+use Rattle.trace_watch.specs.Known.{Explains, IsExplainedWatch, IsOpenOn, ArePendingOn, StaysExplained}
+use Rattle.trace_watch.specs.Closed.{IsOneMore, IsExpandedState, Expands, CatchesUp, Closes}
 use Rattle.trace_watch.proofs.Matched.{fits_weaken, insert_from, match_take, weaken}
 use Rattle.trace_watch.proofs.Steps.{left_out, step_explains}
 use Rattle.trace_watch.proofs.Grown.{goes_same, goes_more, goes_at, goes_among, goes_back, more_goes, more_among, more_from}
@@ -29,8 +29,8 @@ open_on t w calls c pending on = record { pending = pending.each c on; here = pe
 
 -- whichever open operation an effect is of, an order leads to it
 pub explained_after : (opening : List ℕ) (t : List Event) (w : ℕ) (calls : List Call) (c : Config) (call : Call)
-    → w < length opening → ArePendingOn t w calls → IsIn calls call → Fits (IsIn calls) (after c call).effects
-    → IsExplained opening t w c → IsExplained opening t w (after c call)
+    → w < length opening → ArePendingOn t w calls → IsIn calls call → FitsPartner (IsIn calls) (after c call).effects
+    → IsExplainedWatch opening t w c → IsExplainedWatch opening t w (after c call)
 explained_after opening t w calls c call inside pending on fit x =
     let k = spot c.effects (effect_of c call) in
     record {
@@ -57,21 +57,21 @@ explained_after opening t w calls c call inside pending on fit x =
 
 -- an operation can't take effect
 pub expands_nothing : (at : ℕ) (calls : List Call) (call : Call) (old : List Config) (c : Config)
-    → slice_get old at ≡ Some c → (AreDistinct calls → Fits (IsIn calls) (after c call).effects → ⊥)
+    → slice_get old at ≡ Some c → (AreDistinctPartners calls → FitsPartner (IsIn calls) (after c call).effects → ⊥)
     → Expands at calls (call ∷ []) old old
 expands_nothing at calls call old c there never = record {
   expanded = λ d h apart other on fit.
       let same : c ≡ d = cc in
       let one : call ≡ other = one_in call other on in
-      absurd (never apart (subst (λ (f : Call). Fits (IsIn calls) (after c f).effects) (sym one)
-      (subst (λ (f : Config). Fits (IsIn calls) (after f other).effects) (sym same) fit)));
+      absurd (never apart (subst (λ (f : Call). FitsPartner (IsIn calls) (after c f).effects) (sym one)
+      (subst (λ (f : Config). FitsPartner (IsIn calls) (after f other).effects) (sym same) fit)));
   grows = goes_same old;
   sound = λ all among also opening trace w inside pending explained. explained;
 }
 
 -- it takes effect now
 pub expands_one : (at : ℕ) (calls : List Call) (call : Call) (old new : List Config) (c : Config)
-    → slice_get old at ≡ Some c → Fits (IsIn calls) (after c call).effects → IsOneMore old (after c call) new
+    → slice_get old at ≡ Some c → FitsPartner (IsIn calls) (after c call).effects → IsOneMore old (after c call) new
     → Expands at calls (call ∷ []) old new
 expands_one at calls call old new c there fit more = record {
   expanded = λ d h apart other on enough.
@@ -81,9 +81,9 @@ expands_one at calls call old new c there fit more = record {
       (subst (λ (f : Config). IsAmong new (after f call)) same (more_among old new (after c call) more));
   grows = more_goes old new (after c call) more;
   sound = λ all among also opening trace w inside pending explained d on.
-      ⊎_elim {C = IsExplained opening trace w d}
+      ⊎_elim {C = IsExplainedWatch opening trace w d}
       (λ (was : IsIn old d). explained d was)
-      (λ (e : after c call ≡ d). subst (λ (f : Config). IsExplained opening trace w f) e
+      (λ (e : after c call ≡ d). subst (λ (f : Config). IsExplainedWatch opening trace w f) e
       (explained_after opening trace w all c call inside pending (also call (0, refl))
       (fits_weaken (IsIn calls) (IsIn all) among (after c call).effects fit) (explained c (at, there))))
       (more_from old new (after c call) d more on);
@@ -91,8 +91,8 @@ expands_one at calls call old new c there fit more = record {
 
 -- of some operations those up to place i
 pub record Expanding (at : ℕ) (calls newest : List Call) (old : List Config) (i : ℕ) (new : List Config) : Type 0 where
-  pub expanded : (c : Config) → slice_get old at ≡ Some c → AreDistinct calls → (j : ℕ) (call : Call) → j < i
-      → slice_get newest j ≡ Some call → Fits (IsIn calls) (after c call).effects → IsAmong new (after c call)
+  pub expanded : (c : Config) → slice_get old at ≡ Some c → AreDistinctPartners calls → (j : ℕ) (call : Call) → j < i
+      → slice_get newest j ≡ Some call → FitsPartner (IsIn calls) (after c call).effects → IsAmong new (after c call)
   pub grows : GoesOn old new
   pub sound : (all : List Call) → IsPart calls all → IsPart newest all → StaysExplained all old new
 
@@ -139,7 +139,7 @@ goes_longer old new on =
     let l = longer old on.0 in let e = ap (λ (xs : List Config). length xs) on.1 in omega arith
 
 expanded_still : (calls newest : List Call) (old new : List Config) (c : Config) → GoesOn old new
-    → IsExpanded calls newest old c → IsExpanded calls newest new c
+    → IsExpandedState calls newest old c → IsExpandedState calls newest new c
 expanded_still calls newest old new c on was = λ apart call there fit.
     goes_among old new (after c call) on (was apart call there fit)
 
@@ -148,7 +148,7 @@ pub record Catching (from : ℕ) (calls newest : List Call) (begun : List Config
   where
     pub grows : GoesOn begun found
     pub closed : (j : ℕ) (c : Config) → from ≤ j → j < next → slice_get found j ≡ Some c
-        → IsExpanded calls newest found c
+        → IsExpandedState calls newest found c
     pub within : next ≤ length found
     pub sound : (all : List Call) → IsPart calls all → IsPart newest all → StaysExplained all begun found
 
@@ -166,7 +166,7 @@ pub catching_more : (from : ℕ) (calls newest : List Call) (begun : List Config
     → Catching from calls newest begun (next + 1) later
 catching_more from calls newest begun next found later low more was = record {
   grows = goes_more begun found later was.grows more.grows;
-  closed = λ j d g l h. ⊎_elim {C = IsExpanded calls newest later d}
+  closed = λ j d g l h. ⊎_elim {C = IsExpandedState calls newest later d}
       (λ (e : j ≡ next).
       let there : slice_get later next ≡ Some d = ap (λ (n : ℕ). slice_get later n) (sym e) ∙ h in
       more.expanded d (goes_back found later next d more.grows low there))
@@ -192,7 +192,7 @@ catching_all from calls newest begun next found all was = record {
 -- all that the configurations up to place i lead to
 pub record Closing (calls newest : List Call) (old : List Config) (i : ℕ) (found : List Config) : Type 0 where
   pub kept : (j : ℕ) (c : Config) → j < i → slice_get old j ≡ Some c → IsAmong found c
-  pub closed : (j : ℕ) (c : Config) → slice_get found j ≡ Some c → IsExpanded calls newest found c
+  pub closed : (j : ℕ) (c : Config) → slice_get found j ≡ Some c → IsExpandedState calls newest found c
   pub sound : (all : List Call) → IsPart calls all → IsPart newest all → StaysExplained all old found
 
 pub closing_none : (calls newest : List Call) (old : List Config) → Closing calls newest old 0 []
@@ -207,9 +207,9 @@ pub added_sound : (calls newest : List Call) (old : List Config) (i : ℕ) (foun
     → slice_get old i ≡ Some c → IsOneMore found c more → Closing calls newest old i found
     → (all : List Call) → IsPart calls all → IsPart newest all → StaysExplained all old more
 added_sound calls newest old i found more c here one was all among also opening trace w inside pending explained d on =
-    ⊎_elim {C = IsExplained opening trace w d}
+    ⊎_elim {C = IsExplainedWatch opening trace w d}
     (λ (l : IsIn found d). was.sound all among also opening trace w inside pending explained d l)
-    (λ (e : c ≡ d). subst (λ (f : Config). IsExplained opening trace w f) e (explained c (i, here)))
+    (λ (e : c ≡ d). subst (λ (f : Config). IsExplainedWatch opening trace w f) e (explained c (i, here)))
     (more_from found more c d one on)
 
 pub closing_more : (calls newest : List Call) (old : List Config) (i : ℕ) (found more later : List Config) (c : Config)
@@ -226,7 +226,7 @@ closing_more calls newest old i found more later c here one next was =
           (goes_among more later c next.grows (more_among found more c one)))
           (λ (ne : j ≢ i). goes_among found later d on (was.kept j d (omega arith) h))
           (cases_eq j i);
-      closed = λ j d h. ⊎_elim {C = IsExpanded calls newest later d}
+      closed = λ j d h. ⊎_elim {C = IsExpandedState calls newest later d}
           (λ (l : j < length found).
           expanded_still calls newest found later d on (was.closed j d (goes_back found later j d on l h)))
           (λ (g : length found ≤ j). next.closed j d g h)

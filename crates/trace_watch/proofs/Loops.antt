@@ -6,7 +6,7 @@ use Rattle.trace_laws.specs.Configs.{IsIn, GoesOn}
 use Rattle.trace_watch.specs.declared.state.Effect.{Effect}
 use Rattle.trace_watch.specs.declared.state.State.{State}
 use Rattle.trace_watch.specs.States.{Config, after, config_of, configs_of}
-use Rattle.trace_watch.specs.Matchings.{AreDistinct, Fits}
+use Rattle.trace_watch.specs.Matchings.{AreDistinctPartners, FitsPartner}
 use Rattle.trace_watch.specs.Closed.{CatchesUp, Closes, Expands, IsOneMore}
 use Rattle.trace_watch.proofs.Grown.{get_config, configs_push, long_configs}
 use Rattle.trace_watch.proofs.Growth.{goes_longer, expands_nothing, expands_one, Catching, catching_more, catching_all, Closing, closing_more, closing_all}
@@ -23,20 +23,20 @@ config_at states k s c there is = let e = get_config states k s there in cc
 
 -- the effects of a state, as the code reads them
 pub fits_read : (calls : List Call) (c d : Config) (es : List Effect) → es ≡ c.effects → c ≡ d
-    → Fits (IsIn calls) es → Fits (IsIn calls) d.effects
+    → FitsPartner (IsIn calls) es → FitsPartner (IsIn calls) d.effects
 fits_read calls c d es read same fit =
-    subst (λ (f : Config). Fits (IsIn calls) f.effects) same
-    (subst (λ (fs : List Effect). Fits (IsIn calls) fs) read fit)
+    subst (λ (f : Config). FitsPartner (IsIn calls) f.effects) same
+    (subst (λ (fs : List Effect). FitsPartner (IsIn calls) fs) read fit)
 
 pub fits_back : (calls : List Call) (c d : Config) (es : List Effect) → es ≡ c.effects → c ≡ d
-    → Fits (IsIn calls) d.effects → Fits (IsIn calls) es
+    → FitsPartner (IsIn calls) d.effects → FitsPartner (IsIn calls) es
 fits_back calls c d es read same fit =
-    subst (λ (fs : List Effect). Fits (IsIn calls) fs) (sym read)
-    (subst (λ (f : Config). Fits (IsIn calls) f.effects) (sym same) fit)
+    subst (λ (fs : List Effect). FitsPartner (IsIn calls) fs) (sym read)
+    (subst (λ (f : Config). FitsPartner (IsIn calls) f.effects) (sym same) fit)
 
 pub attempt_none : {A : Type 0} (at : ℕ) (calls : List Call) (call : Call) (found : List (State A)) (s next : State A)
     (es : List Effect) → slice_get found at ≡ Some s → config_of next ≡ after (config_of s) call
-    → es ≡ next.effects.items → (AreDistinct calls → Fits (IsIn calls) es → ⊥)
+    → es ≡ next.effects.items → (AreDistinctPartners calls → FitsPartner (IsIn calls) es → ⊥)
     → Expands at calls (call ∷ []) (configs_of found) (configs_of found)
 attempt_none at calls call found s next es there is read never =
     expands_nothing at calls call (configs_of found) (config_of s) (get_config found at s there)
@@ -44,7 +44,7 @@ attempt_none at calls call found s next es there is read never =
 
 pub attempt_new : {A : Type 0} (at : ℕ) (calls : List Call) (call : Call) (found later : List (State A))
     (s next : State A) (es : List Effect) → slice_get found at ≡ Some s → config_of next ≡ after (config_of s) call
-    → es ≡ next.effects.items → Fits (IsIn calls) es
+    → es ≡ next.effects.items → FitsPartner (IsIn calls) es
     → IsOneMore (configs_of found) (config_of next) (configs_of later)
     → Expands at calls (call ∷ []) (configs_of found) (configs_of later)
 attempt_new at calls call found later s next es there is read fit more =

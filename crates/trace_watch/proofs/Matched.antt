@@ -5,7 +5,7 @@ use Rattle.std.proofs.lemmas.Bool.{cases_eq}
 use Rattle.trace_laws.specs.declared.event.Call.{Call}
 use Rattle.trace_laws.specs.Configs.{IsIn}
 use Rattle.trace_watch.specs.declared.state.Effect.{Effect}
-use Rattle.trace_watch.specs.Matchings.{Fits, Matches, MayBe, Other}
+use Rattle.trace_watch.specs.Matchings.{FitsPartner, Matches, MayBe, Other}
 use Rattle.trace_watch.specs.Named.{NamedEffect, named}
 
 -- more operations
@@ -17,7 +17,7 @@ weaken P Q f (e ∷ es) [] m = absurd m
 weaken P Q f (e ∷ es) (c ∷ cs) m =
     (f c m.0, m.1, weaken (Other P c.id) (Other Q c.id) (λ d o. (f d o.0, o.1)) es cs m.2)
 
-pub fits_weaken : (P Q : Call → Type 0) → ((c : Call) → P c → Q c) → (es : List Effect) → Fits P es → Fits Q es
+pub fits_weaken : (P Q : Call → Type 0) → ((c : Call) → P c → Q c) → (es : List Effect) → FitsPartner P es → FitsPartner Q es
 fits_weaken P Q f es fit = (fit.0, weaken P Q f es fit.0 fit.1)
 
 -- two operations are left out in either order
@@ -180,11 +180,11 @@ match_others P (e ∷ es) (c ∷ cs) id m none = (
 pub given : (Q R : Call → Type 0) (p q : Call) (es : List Effect) (calls : List Call)
     → q.operation.op ≡ p.operation.op → q.id ≤ p.id → ((c : Call) → Q c → c.id ≡ p.id → c ≡ p)
     → ((c : Call) → Q c → (c.id ≡ p.id → ⊥) → R c) → R q → ((c : Call) → Q c → c.id ≡ q.id → ⊥)
-    → Matches Q es calls → Fits R es
+    → Matches Q es calls → FitsPartner R es
 given Q R p q [] [] asks low one rest on apart m = ([], tt)
 given Q R p q [] (g ∷ gs) asks low one rest on apart m = absurd m
 given Q R p q (f ∷ es) [] asks low one rest on apart m = absurd m
-given Q R p q (f ∷ es) (g ∷ gs) asks low one rest on apart m = ⊎_elim {C = Fits R (f ∷ es)}
+given Q R p q (f ∷ es) (g ∷ gs) asks low one rest on apart m = ⊎_elim {C = FitsPartner R (f ∷ es)}
     (λ (e : g.id ≡ p.id).
     let same = one g m.0 e in
     let early = m.1.early in (
@@ -208,9 +208,9 @@ given Q R p q (f ∷ es) (g ∷ gs) asks low one rest on apart m = ⊎_elim {C =
 -- the newest operation that the first effect may be of serves the others least
 pub newest_first : (P : Call → Type 0) (e : Effect) (es : List Effect) (p : Call)
     → ((c d : Call) → P c → P d → c.id ≡ d.id → c ≡ d) → P p → MayBe e p
-    → ((c : Call) → P c → MayBe e c → c.id ≤ p.id) → Fits P (e ∷ es) → Fits (Other P p.id) es
+    → ((c : Call) → P c → MayBe e c → c.id ≤ p.id) → FitsPartner P (e ∷ es) → FitsPartner (Other P p.id) es
 newest_first P e es p one on may newest ([], m) = absurd m
-newest_first P e es p one on may newest (q ∷ qs, m) = ⊎_elim {C = Fits (Other P p.id) es}
+newest_first P e es p one on may newest (q ∷ qs, m) = ⊎_elim {C = FitsPartner (Other P p.id) es}
     (λ (same : q.id ≡ p.id).
     (qs, weaken (Other P q.id) (Other P p.id) (λ d o. (o.0, λ s. o.1 (s ∙ sym same))) es qs m.2))
     (λ (ne : q.id ≢ p.id).
@@ -219,5 +219,5 @@ newest_first P e es p one on may newest (q ∷ qs, m) = ⊎_elim {C = Fits (Othe
     (cases_eq q.id p.id)
 
 pub newest_back : (P : Call → Type 0) (e : Effect) (es : List Effect) (p : Call) → P p → MayBe e p
-    → Fits (Other P p.id) es → Fits P (e ∷ es)
+    → FitsPartner (Other P p.id) es → FitsPartner P (e ∷ es)
 newest_back P e es p on may fit = (p ∷ fit.0, (on, may, fit.1))

@@ -16,9 +16,9 @@ use Rattle.trace_laws.proofs.Lists.{get_push, get_within, get_take, take_get}
 use Rattle.trace_laws.specs.Configs.{IsIn}
 use Rattle.trace_watch.specs.declared.state.Effect.{Effect}
 use Rattle.trace_watch.specs.States.{Config}
-use Rattle.trace_watch.specs.Matchings.{Fits, Matches, MayBe, Other}
+use Rattle.trace_watch.specs.Matchings.{FitsPartner, Matches, MayBe, Other}
 use Rattle.trace_watch.specs.Named.{NamedConfig, named_config}
-use Rattle.trace_watch.specs.Known.{Explains, IsExplained, IsOpenOn, IsPending, Knows, LeadsTo}
+use Rattle.trace_watch.specs.Known.{Explains, IsExplainedWatch, IsOpenOn, IsPendingCall, Knows, LeadsToConfig}
 use Rattle.trace_watch.proofs.Matched.{fits_weaken, weaken}
 use Rattle.trace_watch.proofs.Events.{issue_up, answer_up, answered_up, issue_cases, answer_cases, no_answer, same_call, issue_down}
 
@@ -243,7 +243,7 @@ open_down words t w e c n i a is issue low early waits =
     (issue_cases t e there.0 c there.1)
 
 explained_kept : (words : ℕ) (opening : List ℕ) (t : List Event) (w : ℕ) (e : Event) (c : Config)
-    → IsTrace words (t ++ e ∷ []) → IsQuiet t w e → IsExplained opening t w c → IsExplained opening (t ++ e ∷ []) w c
+    → IsTrace words (t ++ e ∷ []) → IsQuiet t w e → IsExplainedWatch opening t w c → IsExplainedWatch opening (t ++ e ∷ []) w c
 explained_kept words opening t w e c is quiet x =
     let more = t ++ e ∷ [] in
     record {
@@ -259,8 +259,8 @@ explained_kept words opening t w e c is quiet x =
     }
 
 leads_kept : (words : ℕ) (opening : List ℕ) (t : List Event) (w : ℕ) (e : Event) (order : List Call)
-    (configs : List Config) → IsTrace words (t ++ e ∷ []) → IsQuiet t w e → LeadsTo opening t w order configs
-    → LeadsTo opening (t ++ e ∷ []) w order configs
+    (configs : List Config) → IsTrace words (t ++ e ∷ []) → IsQuiet t w e → LeadsToConfig opening t w order configs
+    → LeadsToConfig opening (t ++ e ∷ []) w order configs
 leads_kept words opening t w e order configs is quiet l = record {
   config = l.config;
   on = l.on;
@@ -280,8 +280,8 @@ knows_issue words opening t w b configs is k = record {
       let p = cut.0 in
       let r = k.complete (take p order) cut.1 in
       let m = take_of_take r.0 p order in
-      let l : LeadsTo opening t w (take m.0 order) configs = subst
-      (λ (xs : List Call). LeadsTo opening t w xs configs) m.1 r.1 in
+      let l : LeadsToConfig opening t w (take m.0 order) configs = subst
+      (λ (xs : List Call). LeadsToConfig opening t w xs configs) m.1 r.1 in
       (m.0, leads_kept words opening t w (Issue b) (take m.0 order) configs is (quiet_issue t w b) l);
 }
 

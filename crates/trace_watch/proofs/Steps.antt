@@ -13,8 +13,8 @@ use Rattle.trace_laws.specs.Configs.{IsIn}
 use Rattle.trace_watch.specs.declared.state.Effect.{Effect}
 use Rattle.trace_watch.specs.States.{Config, after, effect_of, less_one, spot}
 use Rattle.trace_watch.specs.Matchings.{Matches, MayBe, Other}
-use Rattle.trace_watch.specs.Named.{NamedConfig, NamedEffect, HasEffect, IsLike, IsWithout, named, named_after, named_config}
-use Rattle.trace_watch.specs.Known.{Explains, IsOpenOn, IsPending}
+use Rattle.trace_watch.specs.Named.{NamedConfig, NamedEffect, HasEffect, IsLike, IsWithoutCall, named, named_after, named_config}
+use Rattle.trace_watch.specs.Known.{Explains, IsOpenOn, IsPendingCall}
 use Rattle.trace_watch.proofs.Matched.{insert_from, insert_new, insert_old, match_place, named_insert}
 use Rattle.trace_watch.proofs.Effects.{explains_after, explains_answer, explains_like}
 
@@ -84,7 +84,7 @@ taken_explains P words opening t w order c calls b reply inside is waits replies
     let e : NamedEffect = record { id = b.id; reply = reply_to b.operation.op c.word } in
     let later = explains_after opening t w order (named_config c calls) b inside waits.pending waits.here
     (λ has. none has.0 has.1 has.2) x in
-    let less : IsWithout b.id (named_after (named_config c calls) b)
+    let less : IsWithoutCall b.id (named_after (named_config c calls) b)
     (named_config (record { word = new_word b.operation.op c.word; effects = c.effects }) calls) = record {
       word = refl;
       effects = λ y. (
@@ -116,7 +116,7 @@ claimed_explains P words opening t w order c k e calls rest b reply is back plac
     ∙ named_insert (Other P b.id) (remove c.effects k) rest k e b m) in
     let on : IsIn (named c.effects calls) n =
     subst (λ (ys : List NamedEffect). IsIn ys n) (sym same) (insert_new xs k n) in
-    let less : IsWithout b.id (named_config c calls) (named_config (less_one c k) rest) = record {
+    let less : IsWithoutCall b.id (named_config c calls) (named_config (less_one c k) rest) = record {
       word = refl;
       effects = λ y. (
         (λ there. (

@@ -17,8 +17,8 @@ use Rattle.trace_laws.specs.Configs.{IsIn}
 use Rattle.trace_watch.specs.States.{Config, IsAmong, after, effect_of, spot}
 use Rattle.trace_watch.specs.Matchings.{HasNewest, Matches, MayBe, Other}
 use Rattle.trace_watch.specs.Named.{NamedConfig, NamedEffect, named, named_config}
-use Rattle.trace_watch.specs.Known.{Explains, IsExplained, IsOpenOn, Knows, LeadsTo, ArePendingOn}
-use Rattle.trace_watch.specs.Closed.{Closes, IsAnsweredBy, IsClaimed, IsTaken}
+use Rattle.trace_watch.specs.Known.{Explains, IsExplainedWatch, IsOpenOn, Knows, LeadsToConfig, ArePendingOn}
+use Rattle.trace_watch.specs.Closed.{Closes, IsAnsweredBy, IsClaimed, IsTakenConfig}
 use Rattle.trace_watch.proofs.Events.{issue_up}
 use Rattle.trace_watch.proofs.Quiet.{order_back}
 use Rattle.trace_watch.proofs.Matched.{match_insert, match_others, weaken}
@@ -55,8 +55,8 @@ module _ {words : ℕ} {opening : List ℕ} {t : List Event} {w : ℕ} {b : Call
   -- it takes effect now
   take_leads : (order : List Call) (n : ℕ) (found new : List Config) → IsOrderOn w opening (more a) order
       → slice_get order n ≡ Some b → IsBefore order n found
-      → ((d : Config) → (c : Config) × IsIn found c × IsTaken others b reply c d → IsAmong new d)
-      → LeadsTo opening (more a) w (take (suc n) order) new
+      → ((d : Config) → (c : Config) × IsIn found c × IsTakenConfig others b reply c d → IsAmong new d)
+      → LeadsToConfig opening (more a) w (take (suc n) order) new
   take_leads order n found new o at s taken =
       let c = s.config in
       let d : Config = record { word = new_word b.operation.op c.word; effects = c.effects } in
@@ -121,9 +121,9 @@ module _ {words : ℕ} {opening : List ℕ} {t : List Event} {w : ℕ} {b : Call
   walk : (newest : List Call) (order : List Call) (y : ℕ) (old found new : List Config)
       → HasNewest others newest → Closes others newest old found → IsOrderOn w opening (more a) order
       → IsOrderOn w opening t order → slice_get order y ≡ Some b
-      → ((d : Config) → (c : Config) × IsIn found c × IsTaken others b reply c d → IsAmong new d)
+      → ((d : Config) → (c : Config) × IsIn found c × IsTakenConfig others b reply c d → IsAmong new d)
       → (fuel n : ℕ) → length order ≤ n + fuel → IsBefore order n found
-      → (m : ℕ) × LeadsTo opening (more a) w (take m order) new
+      → (m : ℕ) × LeadsToConfig opening (more a) w (take m order) new
   walk newest order y old found new latest closed o back at taken zero n enough s =
       let far = further order y n found at s in
       let low = get_within order y b at in
@@ -132,7 +132,7 @@ module _ {words : ℕ} {opening : List ℕ} {t : List Event} {w : ℕ} {b : Call
       let far = further order y n found at s in
       let low = get_within order y b at in
       let d = within_length order n (omega arith) in
-      ⊎_elim {C = (m : ℕ) × LeadsTo opening (more a) w (take m order) new}
+      ⊎_elim {C = (m : ℕ) × LeadsToConfig opening (more a) w (take m order) new}
       (λ (e : d.0.id ≡ b.id).
       let waits : IsOpenOn t w d.0 = record {
         pending = record {
@@ -165,8 +165,8 @@ knows_answer words opening t w b reply calls old new inside well is waits pendin
     let explained = by.closes.sound calls (λ c on. ((by.rest c).0 on).0)
     (λ c on. ((by.rest c).0 (by.latest.from c on)).0) opening t w inside pending knows.sound in
     record {
-      sound = λ d on. ⊎_elim {C = IsExplained opening (t ++ Answer b.id reply ∷ []) w d}
-          (λ (x : (c : Config) × IsIn by.found c × IsTaken by.others b reply c d).
+      sound = λ d on. ⊎_elim {C = IsExplainedWatch opening (t ++ Answer b.id reply ∷ []) w d}
+          (λ (x : (c : Config) × IsIn by.found c × IsTakenConfig by.others b reply c d).
           taken_sound a x.0 d (explained x.0 x.1) x.2)
           (λ (x : (c : Config) × IsIn old c × IsClaimed by.others b reply c d).
           claimed_sound a x.0 d (knows.sound x.0 x.1) x.2)
@@ -182,7 +182,7 @@ knows_answer words opening t w b reply calls old new inside well is waits pendin
           let one : y.1 ≡ b =
           let i = back.issued y.0 y.1 y.2 in one_call words t well i.0 issue.0 y.1 b i.1 issue.1 y.3 in
           let at : slice_get order y.0 ≡ Some b = y.2 ∙ ap (λ (g : Call). Some g) one in
-          ⊎_elim {C = (m : ℕ) × LeadsTo opening (t ++ Answer b.id reply ∷ []) w (take m order) new}
+          ⊎_elim {C = (m : ℕ) × LeadsToConfig opening (t ++ Answer b.id reply ∷ []) w (take m order) new}
           (λ there.
           (n, claim_leads a order n old new by.found o back l (by.claimed (distinct a)) there.0 there.1 there.2))
           (λ none.

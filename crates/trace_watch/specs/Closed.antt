@@ -6,7 +6,7 @@ use Rattle.trace_laws.specs.declared.event.Call.{Call}
 use Rattle.trace_laws.specs.Configs.{GoesOn, IsIn}
 use Rattle.trace_watch.specs.declared.state.Effect.{Effect}
 use Rattle.trace_watch.specs.States.{Config, IsAmong, after, less_one}
-use Rattle.trace_watch.specs.Matchings.{AreDistinct, Fits, HasNewest, IsPart, MayBe, Other}
+use Rattle.trace_watch.specs.Matchings.{AreDistinctPartners, FitsPartner, HasNewest, IsPart, MayBe, Other}
 use Rattle.trace_watch.specs.Known.{StaysExplained}
 
 -- a configuration is added, unless one that tells of as much is there
@@ -15,40 +15,40 @@ IsOneMore old c new = ((new ≡ old) × IsAmong old c) ⊎ (new ≡ old ++ c ∷
 
 -- whichever of the newest operations takes effect in c, where these are enough for the effects, what
 -- this leads to is among the configurations
-abbrev pub IsExpanded : List Call → List Call → List Config → Config → Type 0
-IsExpanded calls newest configs c = AreDistinct calls → (call : Call) → IsIn newest call
-    → Fits (IsIn calls) (after c call).effects → IsAmong configs (after c call)
+abbrev pub IsExpandedState : List Call → List Call → List Config → Config → Type 0
+IsExpandedState calls newest configs c = AreDistinctPartners calls → (call : Call) → IsIn newest call
+    → FitsPartner (IsIn calls) (after c call).effects → IsAmong configs (after c call)
 
 -- whatever the newest operations lead to from one of the configurations is among more of them
 pub record Expands (at : ℕ) (calls newest : List Call) (old new : List Config) : Type 0 where
-  pub expanded : (c : Config) → slice_get old at ≡ Some c → IsExpanded calls newest new c
+  pub expanded : (c : Config) → slice_get old at ≡ Some c → IsExpandedState calls newest new c
   pub grows : GoesOn old new
   pub sound : (all : List Call) → IsPart calls all → IsPart newest all → StaysExplained all old new
 
 -- and from each of them from place `from` on, of the new ones too
 pub record CatchesUp (from : ℕ) (calls newest : List Call) (old new : List Config) : Type 0 where
   pub closed : (j : ℕ) (c : Config) → from ≤ j → slice_get new j ≡ Some c
-      → IsExpanded calls newest new c
+      → IsExpandedState calls newest new c
   pub grows : GoesOn old new
   pub sound : (all : List Call) → IsPart calls all → IsPart newest all → StaysExplained all old new
 
 -- the configurations before an answer, with all that other open operations lead to before it
 pub record Closes (calls newest : List Call) (old found : List Config) : Type 0 where
   pub kept : (c : Config) → IsIn old c → IsAmong found c
-  pub closed : (c : Config) → IsIn found c → IsExpanded calls newest found c
+  pub closed : (c : Config) → IsIn found c → IsExpandedState calls newest found c
   pub sound : (all : List Call) → IsPart calls all → IsPart newest all → StaysExplained all old found
 
 -- the answered operation takes effect last, and replies so; the others are enough for the effects
-abbrev pub IsTaken : List Call → Call → Reply → Config → Config → Type 0
-IsTaken others call reply c d =
-    (reply_to call.operation.op c.word ≡ reply) × Fits (IsIn others) c.effects
+abbrev pub IsTakenConfig : List Call → Call → Reply → Config → Config → Type 0
+IsTakenConfig others call reply c d =
+    (reply_to call.operation.op c.word ≡ reply) × FitsPartner (IsIn others) c.effects
     × (d ≡ record { word = new_word call.operation.op c.word; effects = c.effects })
 
 -- the effect at place k may be that of the answered operation, with this reply; the others are enough
 -- for the other effects
 abbrev pub IsClaimedAt : List Call → Call → Reply → Config → ℕ → Config → Type 0
 IsClaimedAt others call reply c k d = (e : Effect) × (slice_get c.effects k ≡ Some e)
-    × (e.reply ≡ reply) × MayBe e call × Fits (IsIn others) (less_one c k).effects
+    × (e.reply ≡ reply) × MayBe e call × FitsPartner (IsIn others) (less_one c k).effects
     × (d ≡ less_one c k)
 
 -- one of the effects may be
@@ -60,7 +60,7 @@ pub record Gathers (others : List Call) (Kind : Config → Type 0) (old new : Li
   where
     pub grows : GoesOn old new
     pub from : (d : Config) → IsIn new d → IsIn old d ⊎ Kind d
-    pub all : AreDistinct others → (d : Config) → Kind d → IsAmong new d
+    pub all : AreDistinctPartners others → (d : Config) → Kind d → IsAmong new d
 
 -- one of these is led to so
 abbrev pub FromOne : List Config → (Config → Config → Type 0) → Config → Type 0
@@ -75,9 +75,9 @@ pub record IsAnsweredBy (call : Call) (reply : Reply) (calls : List Call) (old n
   pub rest : (c : Call) → IsIn others c ↔ (IsIn calls c × (c.id ≡ call.id → ⊥))
   pub latest : HasNewest others newest
   pub closes : Closes others newest old found
-  pub from : (d : Config) → IsIn new d → FromOne found (IsTaken others call reply) d
+  pub from : (d : Config) → IsIn new d → FromOne found (IsTakenConfig others call reply) d
       ⊎ FromOne old (IsClaimed others call reply) d
-  pub taken : AreDistinct others → (d : Config) → FromOne found (IsTaken others call reply) d
+  pub taken : AreDistinctPartners others → (d : Config) → FromOne found (IsTakenConfig others call reply) d
       → IsAmong new d
-  pub claimed : AreDistinct others → (d : Config) → FromOne old (IsClaimed others call reply) d
+  pub claimed : AreDistinctPartners others → (d : Config) → FromOne old (IsClaimed others call reply) d
       → IsAmong new d

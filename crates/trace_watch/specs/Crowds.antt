@@ -3,7 +3,7 @@ use Rattle.std.specs.Prelude.{◌≡◌, ◌<◌, ◌≤◌, ℕ, List, [], ◌�
 use Rattle.trace_laws.specs.declared.event.Call.{Call}
 use Rattle.trace_laws.specs.Configs.{IsIn}
 use Rattle.trace_watch.specs.States.{Config, Covers, IsAmong, after}
-use Rattle.trace_watch.specs.Matchings.{Fits, IsPart, Other}
+use Rattle.trace_watch.specs.Matchings.{FitsPartner, IsPart, Other}
 use Rattle.trace_watch.specs.Known.{StaysExplained}
 
 -- of the first so many none tells of whatever a later one does
@@ -12,7 +12,7 @@ AreUnlike count configs = (i j : ℕ) (c d : Config) → i < j → j < count
     → slice_get configs i ≡ Some c → slice_get configs j ≡ Some d → Covers c d → ⊥
 
 -- there are more than so many, and none tells of whatever a later one does
-pub record IsCrowd (bound : ℕ) (configs : List Config) : Type 0 where
+pub record IsOpenCrowd (bound : ℕ) (configs : List Config) : Type 0 where
   pub many : bound < length configs
   pub unlike : AreUnlike (length configs) configs
 
@@ -20,24 +20,24 @@ pub record IsCrowd (bound : ℕ) (configs : List Config) : Type 0 where
 -- which are too many
 pub record GivesUp (calls newest : List Call) (bound : ℕ) (old new : List Config) : Type 0 where
   pub sound : (all : List Call) → IsPart calls all → IsPart newest all → StaysExplained all old new
-  pub crowd : IsCrowd bound new
+  pub crowd : IsOpenCrowd bound new
 
 -- these operations lead to too many from some configurations
-pub record IsOverfull (calls : List Call) (bound : ℕ) (old : List Config) : Type 0 where
+pub record IsOverfullCrowd (calls : List Call) (bound : ℕ) (old : List Config) : Type 0 where
   pub found : List Config
   pub sound : StaysExplained calls old found
-  pub crowd : IsCrowd bound found
+  pub crowd : IsOpenCrowd bound found
 
 -- other operations than the one of this number take effect one after the other, of which each effect
 -- may be (Lowe: just-in-time linearization)
-abbrev pub Explains : ℕ → List Call → Config → List Call → Config → Type 0
-Explains id calls c [] d = c ≡ d
-Explains id calls c (call ∷ path) d = IsIn calls call × (call.id ≡ id → ⊥)
-    × Fits (Other (IsIn calls) id) (after c call).effects × Explains id calls (after c call) path d
+abbrev pub ExplainsCrowd : ℕ → List Call → Config → List Call → Config → Type 0
+ExplainsCrowd id calls c [] d = c ≡ d
+ExplainsCrowd id calls c (call ∷ path) d = IsIn calls call × (call.id ≡ id → ⊥)
+    × FitsPartner (Other (IsIn calls) id) (after c call).effects × ExplainsCrowd id calls (after c call) path d
 
 -- of whatever these operations so lead to from some configurations, one of so many at most tells
 pub record AreFew (id : ℕ) (calls : List Call) (bound : ℕ) (old : List Config) : Type 0 where
   pub found : List Config
   pub short : length found ≤ bound
-  pub all : (c d : Config) (path : List Call) → IsIn old c → Explains id calls c path d
+  pub all : (c d : Config) (path : List Call) → IsIn old c → ExplainsCrowd id calls c path d
       → IsAmong found d

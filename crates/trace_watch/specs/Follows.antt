@@ -14,8 +14,8 @@ use Rattle.trace_watch.specs.declared.watch.Seen.TheVariants.{Linearizable, NotL
 use Rattle.trace_watch.specs.declared.watch.Full.{Full}
 use Rattle.trace_watch.specs.declared.watch.Full.TheVariants.{Memory, Configurations}
 use Rattle.trace_watch.specs.States.{Config, configs_of}
-use Rattle.trace_watch.specs.Known.{Knows, AreExplained, ArePending, ArePendingOn, IsNewest, IsPending}
-use Rattle.trace_watch.specs.Crowds.{AreFew, IsCrowd}
+use Rattle.trace_watch.specs.Known.{Knows, AreExplained, ArePending, ArePendingOn, IsNewest, IsPendingCall}
+use Rattle.trace_watch.specs.Crowds.{AreFew, IsOpenCrowd}
 
 -- what there is of each word
 abbrev pub states_of : {A : Type 0} → List (Vec (State A) A) → ℕ → List Config
@@ -46,20 +46,20 @@ TellsSeen opening trace event watch NoTrace = Tracks opening trace watch
 
 -- a word has more configurations than so many: orders lead to them, and none tells of whatever a
 -- later one does
-pub record HasMany (opening : List ℕ) (trace : List Event) (w bound : ℕ) : Type 0 where
+pub record HasManyConfigs (opening : List ℕ) (trace : List Event) (w bound : ℕ) : Type 0 where
   pub configs : List Config
   pub explained : AreExplained opening trace w configs
-  pub crowd : IsCrowd bound configs
+  pub crowd : IsOpenCrowd bound configs
 
 -- an event that isn't decided answers an open operation on a word that has too many configurations
 -- before the answer
 pub record AnswersMany (opening : List ℕ) (trace : List Event) (event : Event) (bound : ℕ) : Type 0
   where
     pub call : Call
-    pub pending : IsPending trace call
+    pub pending : IsPendingCall trace call
     pub reply : Reply
     pub answer : event ≡ Answer call.id reply
-    pub many : HasMany opening trace call.operation.address bound
+    pub many : HasManyConfigs opening trace call.operation.address bound
 
 -- it is such an answer, or memory was refused
 abbrev pub TellsFull : List ℕ → List Event → Event → ℕ → Full → Type 0
@@ -70,6 +70,6 @@ TellsFull opening trace event bound Configurations = AnswersMany opening trace e
 -- configurations from those that a watch holds of it
 abbrev pub AnswersFew : {A : Type 0} → List Event → Event → ℕ → Watch A → Type 0
 AnswersFew trace event bound watch = (call : Call) (reply : Reply) (calls : List Call)
-    → IsPending trace call → event ≡ Answer call.id reply
+    → IsPendingCall trace call → event ≡ Answer call.id reply
     → ArePendingOn trace call.operation.address calls
     → AreFew call.id calls bound (states_of watch.words.items call.operation.address)

@@ -10,7 +10,7 @@ use Rattle.trace_laws.specs.Locality.{IsOrderOn}
 use Rattle.trace_laws.specs.Configs.{IsIn}
 use Rattle.trace_watch.specs.declared.state.Effect.{Effect}
 use Rattle.trace_watch.specs.States.{Config}
-use Rattle.trace_watch.specs.Matchings.{Fits, Matches}
+use Rattle.trace_watch.specs.Matchings.{FitsPartner, Matches}
 use Rattle.trace_watch.specs.Named.{NamedEffect, NamedConfig, HasEffect, named_config}
 
 -- an operation stands in an order, and replies there what it took effect with
@@ -34,19 +34,19 @@ pub record Explains (opening : List ℕ) (trace : List Event) (w : ℕ) (order :
       → (IsAnswered trace call.id → ⊥) → HasEffect c call.id
 
 -- an operation was issued, and isn't answered
-pub record IsPending (trace : List Event) (call : Call) : Type 0 where
+pub record IsPendingCall (trace : List Event) (call : Call) : Type 0 where
   pub issued : (i : ℕ) × TraceIssuesAt trace i call
   pub unanswered : IsAnswered trace call.id → ⊥
 
 -- an open operation on word w
 pub record IsOpenOn (trace : List Event) (w : ℕ) (call : Call) : Type 0 where
-  pub pending : IsPending trace call
+  pub pending : IsPendingCall trace call
   pub here : call.operation.address ≡ w
 
 -- Orders lead to a configuration: its effects may be of open operations on word w, each of its own,
 -- and whichever they are of, an order explains it. No effect is of an operation yet to be issued.
-pub record IsExplained (opening : List ℕ) (trace : List Event) (w : ℕ) (c : Config) : Type 0 where
-  pub fits : Fits (IsOpenOn trace w) c.effects
+pub record IsExplainedWatch (opening : List ℕ) (trace : List Event) (w : ℕ) (c : Config) : Type 0 where
+  pub fits : FitsPartner (IsOpenOn trace w) c.effects
   pub explained : (calls : List Call) → Matches (IsOpenOn trace w) c.effects calls
       → (order : List Call) × Explains opening trace w order (named_config c calls)
   pub issued : (e : Effect) → IsIn c.effects e
@@ -55,10 +55,10 @@ pub record IsExplained (opening : List ℕ) (trace : List Event) (w : ℕ) (c : 
 -- orders lead to these configurations
 abbrev pub AreExplained : List ℕ → List Event → ℕ → List Config → Type 0
 AreExplained opening trace w configs =
-    (c : Config) → IsIn configs c → IsExplained opening trace w c
+    (c : Config) → IsIn configs c → IsExplainedWatch opening trace w c
 
 -- an order leads to one of these configurations, whose effects are of these operations
-pub record LeadsTo (opening : List ℕ) (trace : List Event) (w : ℕ) (order : List Call)
+pub record LeadsToConfig (opening : List ℕ) (trace : List Event) (w : ℕ) (order : List Call)
     (configs : List Config) : Type 0 where
   pub config : Config
   pub on : IsIn configs config
@@ -72,17 +72,17 @@ pub record Knows (opening : List ℕ) (trace : List Event) (w : ℕ) (configs : 
   where
     pub sound : AreExplained opening trace w configs
     pub complete : (order : List Call) → IsOrderOn w opening trace order
-        → (n : ℕ) × LeadsTo opening trace w (take n order) configs
+        → (n : ℕ) × LeadsToConfig opening trace w (take n order) configs
 
 -- these are the open operations
 pub record ArePending (trace : List Event) (calls : List Call) : Type 0 where
-  pub each : (call : Call) → IsIn calls call → IsPending trace call
+  pub each : (call : Call) → IsIn calls call → IsPendingCall trace call
   pub all : (i : ℕ) (call : Call) → TraceIssuesAt trace i call
       → IsAnswered trace call.id ⊎ IsIn calls call
 
 -- these are the open operations on word w
 pub record ArePendingOn (trace : List Event) (w : ℕ) (calls : List Call) : Type 0 where
-  pub each : (call : Call) → IsIn calls call → IsPending trace call
+  pub each : (call : Call) → IsIn calls call → IsPendingCall trace call
   pub here : (call : Call) → IsIn calls call → call.operation.address ≡ w
   pub all : (i : ℕ) (call : Call) → TraceIssuesAt trace i call → call.operation.address ≡ w
       → IsAnswered trace call.id ⊎ IsIn calls call

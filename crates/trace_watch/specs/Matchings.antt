@@ -21,12 +21,12 @@ Matches P (e ∷ es) [] = ⊥
 Matches P (e ∷ es) (call ∷ calls) = P call × MayBe e call × Matches (Other P call.id) es calls
 
 -- effects may each be of an operation of its own
-abbrev pub Fits : (Call → Type 0) → List Effect → Type 0
-Fits P es = (calls : List Call) × Matches P es calls
+abbrev pub FitsPartner : (Call → Type 0) → List Effect → Type 0
+FitsPartner P es = (calls : List Call) × Matches P es calls
 
 -- no two operations have one number
-abbrev pub AreDistinct : List Call → Type 0
-AreDistinct calls = (c d : Call) → IsIn calls c → IsIn calls d → c.id ≡ d.id → c ≡ d
+abbrev pub AreDistinctPartners : List Call → Type 0
+AreDistinctPartners calls = (c d : Call) → IsIn calls c → IsIn calls d → c.id ≡ d.id → c ≡ d
 
 -- the newest of these that an effect may be of
 pub record IsNewestOf (calls : List Call) (e : Effect) (call : Call) : Type 0 where

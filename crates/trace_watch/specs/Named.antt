@@ -46,6 +46,6 @@ named_after c call = record {
 }
 
 -- the second says the same as the first, but for the operation of this number
-pub record IsWithout (id : ℕ) (c d : NamedConfig) : Type 0 where
+pub record IsWithoutCall (id : ℕ) (c d : NamedConfig) : Type 0 where
   pub word : d.word ≡ c.word
   pub effects : (e : NamedEffect) → IsIn d.effects e ↔ (IsIn c.effects e × (e.id ≡ id → ⊥))

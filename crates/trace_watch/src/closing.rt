@@ -6,7 +6,7 @@ ghost use Rattle.trace_laws.specs.declared.event.Call.{Call};
 ghost use Rattle.trace_watch.specs.States.{Config, config_of, configs_of};
 ghost use Rattle.trace_watch.specs.declared.watch.Full.TheVariants.{Configurations};
 ghost use Rattle.trace_watch.specs.Chains.{IsIndexed};
-ghost use Rattle.trace_watch.specs.Crowds.{GivesUp, IsCrowd, IsOverfull};
+ghost use Rattle.trace_watch.specs.Crowds.{GivesUp, IsOpenCrowd, IsOverfullCrowd};
 ghost use Rattle.trace_watch.specs.Matchings.{IsPart};
 ghost use Rattle.trace_watch.specs.Closed.{CatchesUp, Closes, Expands, IsOneMore};
 
@@ -56,7 +56,7 @@ fn add_within<A: Allocator + Copy>(
         (IsOneMore (configs_of found.old.items) (config_of state) (configs_of found.new.items)) }
     ensures full { IfErr result (λ full. full ≡ Configurations
         → IsOneMore (configs_of found.old.items) (config_of state) (configs_of found.new.items)
-        × IsCrowd bound (configs_of found.new.items)) }
+        × IsOpenCrowd bound (configs_of found.new.items)) }
     ensures few { OnOk result (length found.new.items ≤ bound) }
     ensures indexed { OnOk result (IsIndexed index.new (configs_of found.new.items)) }
 {
@@ -163,7 +163,7 @@ pub(crate) fn close<A: Allocator + Copy>(
     ensures closes { IfOk result (λ v. Closes calls.now newest.now (configs_of states.now)
         (configs_of v.items)) }
     ensures full { IfErr result (λ full. full ≡ Configurations → (all : List Call)
-        → IsPart calls.now all → IsPart newest.now all → IsOverfull all bound (configs_of states.now)) }
+        → IsPart calls.now all → IsPart newest.now all → IsOverfullCrowd all bound (configs_of states.now)) }
     ensures few { IfOk result (λ v. length v.items ≤ bound) }
 {
     let mut found = Vec::new(alloc);

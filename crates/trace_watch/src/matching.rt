@@ -3,7 +3,7 @@
 ghost use Rattle.std.specs.Prelude.{◌≡◌, ◌<◌, ◌≤◌, ℕ, Some, true, false, IfOk, MatchOption, slice_get, length};
 ghost use Rattle.trace_laws.specs.declared.event.Call.{Call};
 ghost use Rattle.trace_laws.specs.Configs.{IsIn};
-ghost use Rattle.trace_watch.specs.Matchings.{AreDistinct, Fits, HasAsNew, HasNewest, IsNewer, IsNewestOf, MayBe};
+ghost use Rattle.trace_watch.specs.Matchings.{AreDistinctPartners, FitsPartner, HasAsNew, HasNewest, IsNewer, IsNewestOf, MayBe};
 
 use crate::pending::{same_calls, without_call};
 use crate::state::Effect;
@@ -52,9 +52,9 @@ pub(crate) fn fits<A: Allocator + Copy>(
     calls: &[Call],
     effects: &[Effect],
 ) -> Result<bool, AllocError>
-    ensures yes { IfOk result (λ yes. yes ≡ true → Fits (IsIn calls.now) effects.now) }
-    ensures no { IfOk result (λ yes. yes ≡ false → AreDistinct calls.now
-        → Fits (IsIn calls.now) effects.now → ⊥) }
+    ensures yes { IfOk result (λ yes. yes ≡ true → FitsPartner (IsIn calls.now) effects.now) }
+    ensures no { IfOk result (λ yes. yes ≡ false → AreDistinctPartners calls.now
+        → FitsPartner (IsIn calls.now) effects.now → ⊥) }
 {
     let mut left = same_calls(alloc, calls)?;
     for i in 0..effects.len() {

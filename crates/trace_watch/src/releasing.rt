@@ -3,10 +3,10 @@
 ghost use Rattle.std.specs.Prelude.{◌≡◌, ◌<◌, ℕ, List, true, false, IfErr, IfOk, OnOk, length};
 ghost use Rattle.trace_watch.specs.States.{Config, config_of, configs_of};
 ghost use Rattle.trace_watch.specs.declared.watch.Full.TheVariants.{Configurations};
-ghost use Rattle.trace_watch.specs.Matchings.{AreDistinct, MayBe};
+ghost use Rattle.trace_watch.specs.Matchings.{AreDistinctPartners, MayBe};
 ghost use Rattle.trace_watch.specs.Chains.{IsIndexed};
-ghost use Rattle.trace_watch.specs.Crowds.{AreFew, IsOverfull};
-ghost use Rattle.trace_watch.specs.Closed.{FromOne, Gathers, IsAnsweredBy, IsClaimed, IsClaimedAt, IsTaken};
+ghost use Rattle.trace_watch.specs.Crowds.{AreFew, IsOverfullCrowd};
+ghost use Rattle.trace_watch.specs.Closed.{FromOne, Gathers, IsAnsweredBy, IsClaimed, IsClaimedAt, IsTakenConfig};
 
 use crate::closing::{add, close};
 use crate::index::{Index, empty_index, widen};
@@ -118,7 +118,7 @@ fn take<A: Allocator + Copy>(
     index: &mut Index<A>,
 ) -> Result<(), AllocError>
     requires { IsIndexed index.old (configs_of kept.old.items) }
-    ensures gathers { OnOk result (Gathers calls.now (IsTaken calls.now call reply (config_of state.now))
+    ensures gathers { OnOk result (Gathers calls.now (IsTakenConfig calls.now call reply (config_of state.now))
         (configs_of kept.old.items) (configs_of kept.new.items)) }
     ensures indexed { OnOk result (IsIndexed index.new (configs_of kept.new.items)) }
 {
@@ -146,7 +146,7 @@ fn takes<A: Allocator + Copy>(
     index: &mut Index<A>,
 ) -> Result<(), AllocError>
     requires { IsIndexed index.old (configs_of kept.old.items) }
-    ensures gathers { OnOk result (Gathers calls.now (FromOne (configs_of states.now) (IsTaken calls.now call reply))
+    ensures gathers { OnOk result (Gathers calls.now (FromOne (configs_of states.now) (IsTakenConfig calls.now call reply))
         (configs_of kept.old.items) (configs_of kept.new.items)) }
     ensures indexed { OnOk result (IsIndexed index.new (configs_of kept.new.items)) }
 {
@@ -169,8 +169,8 @@ pub(crate) fn answered<A: Allocator + Copy>(
     ensures answered { IfOk result (λ v. IsAnsweredBy call reply calls.now (configs_of states.now)
         (configs_of v.items)) }
     ensures full { IfErr result (λ full. full ≡ Configurations
-        → IsOverfull calls.now bound (configs_of states.now)) }
-    ensures few { IfOk result (λ v. AreDistinct calls.now
+        → IsOverfullCrowd calls.now bound (configs_of states.now)) }
+    ensures few { IfOk result (λ v. AreDistinctPartners calls.now
         → AreFew call.id calls.now bound (configs_of states.now)) }
 {
     let others = without_call(alloc, calls, call.id)?;

@@ -11,7 +11,7 @@ use Rattle.trace_laws.specs.Traces.{IsTrace, TraceIssuesAt, TraceAnswersAt}
 use Rattle.trace_laws.proofs.Lists.{get_push_cases, get_within, same_get}
 use Rattle.trace_laws.proofs.Issues.{one_issue, one_call}
 use Rattle.trace_why.specs.declared.calls.CallAt.{CallAt}
-use Rattle.trace_why.specs.Calls.{IsOpenOn, AreOpenOn, IsAnsweredOn, IsOver}
+use Rattle.trace_why.specs.Calls.{IsOpenOnWord, AreOpenOn, IsAnsweredOn, IsOver}
 use Rattle.trace_why.specs.Values.{left_word}
 use Rattle.trace_why.proofs.Places.{in_contains}
 
@@ -25,7 +25,7 @@ one_at trace i c d h k = let e = same_get trace i (Issue c) (Issue d) h k in cc
 
 -- an operation that isn't answered from its issue on is open
 pub is_open : (words : ℕ) (trace : List Event) (k w i : ℕ) (c : Call) → IsTrace words trace → i < k → TraceIssuesAt trace i c → c.operation.address ≡ w
-    → ((j : ℕ) (reply : Reply) → i ≤ j → j < k → TraceAnswersAt trace j c.id reply → ⊥) → IsOpenOn trace k w (record { event = i; call = c })
+    → ((j : ℕ) (reply : Reply) → i ≤ j → j < k → TraceAnswersAt trace j c.id reply → ⊥) → IsOpenOnWord trace k w (record { event = i; call = c })
 is_open words trace k w i c t low issue here none = record {
   early = low;
   issue = issue;
@@ -42,9 +42,9 @@ is_open words trace k w i c t low issue here none = record {
 
 -- the operations that the first i events issue, and that are open
 pub record Opening (trace : List Event) (k w i : ℕ) (pending : List CallAt) : Type 0 where
-  pub inside : (c : CallAt) → Contains pending c → IsOpenOn trace k w c
+  pub inside : (c : CallAt) → Contains pending c → IsOpenOnWord trace k w c
   pub below : (c : CallAt) → Contains pending c → c.event < i
-  pub all : (c : CallAt) → IsOpenOn trace k w c → c.event < i → Contains pending c
+  pub all : (c : CallAt) → IsOpenOnWord trace k w c → c.event < i → Contains pending c
   pub rising : (x y : ℕ) (c d : CallAt) → x < y → slice_get pending x ≡ Some c → slice_get pending y ≡ Some d → c.event < d.event
 
 pub opening_none : (trace : List Event) (k w : ℕ) → Opening trace k w 0 []
@@ -56,7 +56,7 @@ opening_none trace k w = record {
 }
 
 pub opening_skip : (trace : List Event) (k w i : ℕ) (pending : List CallAt) → Opening trace k w i pending
-    → ((c : CallAt) → IsOpenOn trace k w c → c.event ≡ i → ⊥) → Opening trace k w (i + 1) pending
+    → ((c : CallAt) → IsOpenOnWord trace k w c → c.event ≡ i → ⊥) → Opening trace k w (i + 1) pending
 opening_skip trace k w i pending o none = record {
   inside = o.inside;
   below = λ c h. let l = o.below c h in omega arith;
@@ -68,11 +68,11 @@ opening_skip trace k w i pending o none = record {
 }
 
 pub opening_push : (trace : List Event) (k w i : ℕ) (pending : List CallAt) (found : CallAt) → Opening trace k w i pending
-    → IsOpenOn trace k w found → found.event ≡ i → Opening trace k w (i + 1) (pending ++ found ∷ [])
+    → IsOpenOnWord trace k w found → found.event ≡ i → Opening trace k w (i + 1) (pending ++ found ∷ [])
 opening_push trace k w i pending found o is e = record {
-  inside = λ c h. ⊎_elim {C = IsOpenOn trace k w c}
+  inside = λ c h. ⊎_elim {C = IsOpenOnWord trace k w c}
       (λ old. o.inside c old)
-      (λ (same : found ≡ c). subst (λ (x : CallAt). IsOpenOn trace k w x) same is)
+      (λ (same : found ≡ c). subst (λ (x : CallAt). IsOpenOnWord trace k w x) same is)
       (Contains-push_cases pending found c h);
   below = λ c h. ⊎_elim {C = c.event < i + 1}
       (λ old. let l = o.below c old in omega arith)

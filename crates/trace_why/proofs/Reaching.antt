@@ -18,7 +18,7 @@ use Rattle.trace_laws.proofs.Memory.{word_changed, word_kept}
 use Rattle.trace_text.specs.Allowed.{answered_so, IsAllowed}
 use Rattle.trace_text.proofs.Allowing.{issue_before, issue_kept, answer_kept, answer_last}
 use Rattle.trace_why.specs.declared.calls.CallAt.{CallAt}
-use Rattle.trace_why.specs.Calls.{IsOpenOn, AreOpenOn, IsAnsweredOn, IsOver}
+use Rattle.trace_why.specs.Calls.{IsOpenOnWord, AreOpenOn, IsAnsweredOn, IsOver}
 use Rattle.trace_why.specs.Values.{left_word, AreLeftBetween, IsStart, IsReachedIn}
 use Rattle.trace_why.proofs.Places.{IsIn, in_contains, contains_in, without, length-without, in_without, without_in, answered_or_not}
 
@@ -163,7 +163,7 @@ reaches : (opening : List ℕ) (trace : List Event) (k v : ℕ) (issue : CallAt)
     → Answering opening trace k v issue from base pending order → (x : ℕ) → slice_get order x ≡ Some issue.call
     → (b : Begun opening trace k v issue from base order x) → (m y : ℕ) → y ≡ b.at + m → y ≤ x → (some : List CallAt)
     → ((c : CallAt) → IsIn some c → Contains pending c)
-    → ((p : ℕ) (c : CallAt) → p < y → b.at ≤ p → slice_get order p ≡ Some c.call → IsOpenOn trace k issue.call.operation.address c → IsIn some c)
+    → ((p : ℕ) (c : CallAt) → p < y → b.at ≤ p → slice_get order p ≡ Some c.call → IsOpenOnWord trace k issue.call.operation.address c → IsIn some c)
     → IsReachedIn base pending (length some) (word_at opening order issue.call.operation.address y)
 reaches opening trace k v issue from base pending order f x h b zero y e below some sub has =
     let same : y ≡ b.at = omega arith in
@@ -188,7 +188,7 @@ reaches opening trace k v issue from base pending order f x h b (suc m) y e belo
     (b.late a.0 p d a.1 (omega arith) there.1 a.2 a.3) a.2 a.3 issued.1)))
     (λ (u : IsUnanswered trace k d.id).
     let c : CallAt = record { event = was.0; call = d } in
-    let still : IsOpenOn trace k w c = record { early = issued.0; issue = issued.1; here = here; unanswered = u } in
+    let still : IsOpenOnWord trace k w c = record { early = issued.0; issue = issued.1; here = here; unanswered = u } in
     let spot = has p c (omega arith) (omega arith) there.1 still in
     let shorter = length-without some spot.0 c spot.1 in
     let before : IsReachedIn base pending (length (without some spot.0)) (word_at opening order w p) =

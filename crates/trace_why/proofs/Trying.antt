@@ -12,7 +12,7 @@ use Rattle.trace_why.specs.declared.calls.CallAt.{CallAt}
 use Rattle.trace_why.specs.declared.untold.Untold.{Untold}
 use Rattle.trace_why.specs.declared.untold.Untold.TheVariants.{Memory, Values, Undecided}
 use Rattle.trace_why.specs.Calls.{AreOpenOn, IsAnsweredOn, IsAnsweredAtEvent}
-use Rattle.trace_why.specs.Values.{left_word, IsReachedIn, IsLeftBefore, IsLeftOf, IsTried, AreApart, AreApartAnd, IsOverfull}
+use Rattle.trace_why.specs.Values.{left_word, IsReachedIn, IsLeftBefore, IsLeftOf, IsTried, AreApart, AreApartAnd, IsOverfullWord}
 use Rattle.trace_why.specs.Why.{IsUntold}
 use Rattle.trace_why.proofs.Places.{in_contains}
 
@@ -50,7 +50,7 @@ same_only values value apart = record { apart = apart; each = λ v h. inl h }
 
 -- where as many are there as are allowed, and another one comes
 pub one_too_many : (values : List ℕ) (value bound : ℕ) → AreApart values → (Contains values value → ⊥) → bound ≤ length values
-    → IsOverfull (IsOrNew values value) bound Values
+    → IsOverfullWord (IsOrNew values value) bound Values
 one_too_many values value bound apart new full =
     (values ++ value ∷ [], omega (arith, length-append values (value ∷ [])), pushed_only values value apart new)
 
@@ -71,7 +71,7 @@ alone_only value = record {
 pub less_only : (P Q : ℕ → Type 0) → ((v : ℕ) → P v → Q v) → (values : List ℕ) → AreApartAnd P values → AreApartAnd Q values
 less_only P Q less values only = record { apart = only.apart; each = λ v h. less v (only.each v h) }
 
-pub less_overfull : (P Q : ℕ → Type 0) → ((v : ℕ) → P v → Q v) → (bound : ℕ) (e : Untold) → IsOverfull P bound e → IsOverfull Q bound e
+pub less_overfull : (P Q : ℕ → Type 0) → ((v : ℕ) → P v → Q v) → (bound : ℕ) (e : Untold) → IsOverfullWord P bound e → IsOverfullWord Q bound e
 less_overfull P Q less bound Memory o = tt
 less_overfull P Q less bound Values o = (o.0, o.1, less_only P Q less o.0 o.2)
 less_overfull P Q less bound (Undecided why) o = absurd o
@@ -174,7 +174,7 @@ before_tried opening trace k w pending opens v is = record {
 
 -- where too many are tried
 pub tried_untold : (t : TraceSpec) (k tries bound : ℕ) (call : CallAt) (P : ℕ → Type 0) → IsAnsweredAtEvent t.events k call
-    → ((v : ℕ) → P v → IsTried (opening_of t) t.events k call.call.operation.address v) → (e : Untold) → IsOverfull P tries e
+    → ((v : ℕ) → P v → IsTried (opening_of t) t.events k call.call.operation.address v) → (e : Untold) → IsOverfullWord P tries e
     → IsUntold t k tries bound e
 tried_untold t k tries bound call P answer is Memory o = tt
 tried_untold t k tries bound call P answer is Values o = record {

@@ -7,7 +7,7 @@ use Rattle.trace_why.specs.declared.calls.CallAt.{CallAt}
 
 -- an operation is open on word w before event k: it was issued and not answered (Herlihy and Wing,
 -- TOPLAS 12(3), 1990: pending)
-pub record IsOpenOn (trace : List Event) (k w : ℕ) (c : CallAt) : Type 0 where
+pub record IsOpenOnWord (trace : List Event) (k w : ℕ) (c : CallAt) : Type 0 where
   pub early : c.event < k
   pub issue : TraceIssuesAt trace c.event c.call
   pub here : c.call.operation.address ≡ w
@@ -15,8 +15,8 @@ pub record IsOpenOn (trace : List Event) (k w : ℕ) (c : CallAt) : Type 0 where
 
 -- these are all that are open on word w before event k, in the order of issue
 pub record AreOpenOn (trace : List Event) (k w : ℕ) (pending : List CallAt) : Type 0 where
-  pub inside : (c : CallAt) → Contains pending c → IsOpenOn trace k w c
-  pub all : (c : CallAt) → IsOpenOn trace k w c → Contains pending c
+  pub inside : (c : CallAt) → Contains pending c → IsOpenOnWord trace k w c
+  pub all : (c : CallAt) → IsOpenOnWord trace k w c → Contains pending c
   pub rising : (x y : ℕ) (c d : CallAt) → x < y → slice_get pending x ≡ Some c
       → slice_get pending y ≡ Some d → c.event < d.event
 

@@ -71,7 +71,7 @@ abbrev pub HoldsOfMany : (ℕ → Type 0) → ℕ → Type 0
 HoldsOfMany P bound = (values : List ℕ) × (bound < length values) × AreApartAnd P values
 
 -- why values are not all found of which this holds: of no memory nothing is said
-abbrev pub IsOverfull : (ℕ → Type 0) → ℕ → Untold → Type 0
-IsOverfull P bound Memory = Unit {0}
-IsOverfull P bound Values = HoldsOfMany P bound
-IsOverfull P bound (Undecided why) = ⊥
+abbrev pub IsOverfullWord : (ℕ → Type 0) → ℕ → Untold → Type 0
+IsOverfullWord P bound Memory = Unit {0}
+IsOverfullWord P bound Values = HoldsOfMany P bound
+IsOverfullWord P bound (Undecided why) = ⊥

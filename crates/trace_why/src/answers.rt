@@ -7,7 +7,7 @@ ghost use Rattle.trace_laws.specs.Traces.{IsTrace};
 ghost use Rattle.trace_why.specs.declared.calls.CallAt.{CallAt};
 ghost use Rattle.trace_why.specs.Calls.{IsAnsweredOn, IsOver};
 ghost use Rattle.trace_why.specs.Values.{left_word, AreApart, AreApartAnd, AreLeftBetween};
-ghost use Rattle.trace_why.specs.Values.{IsLeftBefore, IsOverfull};
+ghost use Rattle.trace_why.specs.Values.{IsLeftBefore, IsOverfullWord};
 
 use crate::calls::{CallAt, issue_before};
 use crate::untold::Untold;
@@ -88,7 +88,7 @@ pub(crate) fn add_answers<A: Allocator>(
     ensures only { OnOk result (AreApartAnd
         (λ v. Contains values.old.items v ⊎ IsLeftBefore events.now k address v)
         values.new.items) }
-    ensures untold { IfErr result (IsOverfull
+    ensures untold { IfErr result (IsOverfullWord
         (λ v. Contains values.old.items v ⊎ IsLeftBefore events.now k address v) bound) }
 {
     for i in from..k {

@@ -3,7 +3,7 @@
 ghost use Rattle.std.specs.Prelude.{◌≡◌, ◌<◌, ◌≤◌, ℕ, MatchOption, IfOk, length};
 ghost use Rattle.trace_laws.specs.Traces.{IsTrace};
 ghost use Rattle.trace_why.specs.declared.calls.CallAt.{CallAt};
-ghost use Rattle.trace_why.specs.Calls.{IsOpenOn, AreOpenOn};
+ghost use Rattle.trace_why.specs.Calls.{IsOpenOnWord, AreOpenOn};
 
 use crate::calls::{CallAt, is_answered};
 use std::alloc::{AllocError, Allocator};
@@ -15,8 +15,8 @@ fn opened(events: &[Event], k: usize, address: u32, i: usize) -> Option<CallAt>
     requires inside { k ≤ length events.now }
     requires early { i < k }
     ensures { MatchOption result
-        ((c : CallAt) → IsOpenOn events.now k address c → c.event ≡ i → ⊥)
-        (λ c. IsOpenOn events.now k address c × (c.event ≡ i)) }
+        ((c : CallAt) → IsOpenOnWord events.now k address c → c.event ≡ i → ⊥)
+        (λ c. IsOpenOnWord events.now k address c × (c.event ≡ i)) }
 {
     if let Event::Issue(call) = events[i]
         && call.operation.address == address

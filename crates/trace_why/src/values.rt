@@ -3,7 +3,7 @@
 ghost use Rattle.std.specs.Prelude.{◌≡◌, ◌<◌, ◌⊎◌, ℕ, OnOk, IfErr, Contains, length};
 ghost use Rattle.packet.specs.Memory.{new_word};
 ghost use Rattle.trace_why.specs.declared.calls.CallAt.{CallAt};
-ghost use Rattle.trace_why.specs.Values.{AreApart, AreApartAnd, IsLeftOf, IsOverfull};
+ghost use Rattle.trace_why.specs.Values.{AreApart, AreApartAnd, IsLeftOf, IsOverfullWord};
 ghost use Rattle.trace_why.specs.Values.{IsReachedIn};
 
 use crate::calls::CallAt;
@@ -23,7 +23,7 @@ pub(crate) fn add<A: Allocator>(
         ((v : ℕ) → Contains values.old.items v → Contains values.new.items v) }
     ensures only { OnOk result (AreApartAnd
         (λ v. Contains values.old.items v ⊎ (v ≡ value)) values.new.items) }
-    ensures untold { IfErr result (IsOverfull
+    ensures untold { IfErr result (IsOverfullWord
         (λ v. Contains values.old.items v ⊎ (v ≡ value)) bound) }
 {
     if values.contains(&value) {
@@ -52,7 +52,7 @@ fn grow_one<A: Allocator>(
         → Contains values.new.items (new_word c.call.operation.op value)) }
     ensures only { OnOk result (AreApartAnd (IsLeftOf values.old.items calls.now value)
         values.new.items) }
-    ensures untold { IfErr result (IsOverfull (IsLeftOf values.old.items calls.now value) bound) }
+    ensures untold { IfErr result (IsOverfullWord (IsLeftOf values.old.items calls.now value) bound) }
 {
     for found in calls {
         add(values, apply(found.call.operation.op, value).0, bound)?;
@@ -74,7 +74,7 @@ fn grow<A: Allocator + Copy>(
         → Contains calls.now c → Contains values.new.items (new_word c.call.operation.op v)) }
     ensures only { OnOk result (AreApartAnd (IsReachedIn values.old.items calls.now 1)
         values.new.items) }
-    ensures untold { IfErr result (IsOverfull (IsReachedIn values.old.items calls.now 1) bound) }
+    ensures untold { IfErr result (IsOverfullWord (IsReachedIn values.old.items calls.now 1) bound) }
 {
     let old = Vec::from_slice(alloc, values)?;
     for value in &old {
@@ -95,7 +95,7 @@ pub(crate) fn reach<A: Allocator + Copy>(
         → Contains values.new.items v) }
     ensures only { OnOk result (AreApartAnd
         (IsReachedIn values.old.items calls.now (length calls.now)) values.new.items) }
-    ensures untold { IfErr result (IsOverfull
+    ensures untold { IfErr result (IsOverfullWord
         (IsReachedIn values.old.items calls.now (length calls.now)) bound) }
 {
     for _ in 0..calls.len() {

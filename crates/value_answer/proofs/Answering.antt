@@ -5,7 +5,7 @@ use Rattle.model_text.specs.declared.logged.Logged.{Logged}
 use Rattle.model_text.specs.Made.{LogLines}
 use Rattle.model_text.specs.Traces.{logged_at, steps_of_log}
 use Rattle.model_values.specs.declared.valued.Valued.{Valued}
-use Rattle.model_values.specs.Values.{AreAlike}
+use Rattle.model_values.specs.Values.{AreAlikeValues}
 use Rattle.value_answer.specs.declared.answer.ValueAnswer.{ValueAnswer}
 use Rattle.value_answer.specs.declared.answer.ValueOptions.{ValueOptions}
 use Rattle.value_answer.specs.declared.judging.Unsaid.{Unsaid}
@@ -33,8 +33,8 @@ pub unanswered : (log : LogLines) (v : Valued) (steps : List Logged) (why : Unsa
 unanswered log v steps (Alike x y) e told is = record {
   first = x;
   second = y;
-  alike = subst (λ (l : List ℕ). AreAlike (unplaced_operations log) l x y) told.left
-      (subst (λ (o : List Operation). AreAlike o v.left.now x y) told.operations is);
+  alike = subst (λ (l : List ℕ). AreAlikeValues (unplaced_operations log) l x y) told.left
+      (subst (λ (o : List Operation). AreAlikeValues o v.left.now x y) told.operations is);
   first_is = ap (λ (s : List Logged). logged_at s x) e;
   second_is = ap (λ (s : List Logged). logged_at s y) e;
 }

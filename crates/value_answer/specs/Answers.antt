@@ -8,7 +8,7 @@ use Rattle.model_text.specs.declared.reason.LogReason.TheVariants as reason
 use Rattle.model_text.specs.Made.{LogLines}
 use Rattle.model_text.specs.Traces.{logged_at, steps_of_log}
 use Rattle.model_values.specs.declared.valued.Valued.{Valued}
-use Rattle.model_values.specs.Values.{AreAlike, IsUnwritten}
+use Rattle.model_values.specs.Values.{AreAlikeValues, IsUnwritten}
 use Rattle.value_answer.specs.declared.answer.NoValueAnswer.{NoValueAnswer}
 use Rattle.value_answer.specs.declared.answer.NoValueAnswer.TheVariants.{Refused, Alike}
 use Rattle.value_answer.specs.declared.answer.NoValueAnswer.TheVariants.{Unwritten, Memory}
@@ -57,7 +57,7 @@ no_answer_of steps unsaid.Memory = Memory
 pub record AreAlikeIn (log : LogLines) (a b : Logged) : Type 0 where
   pub first : ℕ
   pub second : ℕ
-  pub alike : AreAlike (unplaced_operations log) (map left_word (steps_of_log log)) first second
+  pub alike : AreAlikeValues (unplaced_operations log) (map left_word (steps_of_log log)) first second
   pub first_is : a ≡ logged_at (steps_of_log log) first
   pub second_is : b ≡ logged_at (steps_of_log log) second
 

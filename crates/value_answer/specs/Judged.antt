@@ -9,7 +9,7 @@ use Rattle.model_values.specs.declared.question.OrderVerdict.{OrderVerdict}
 use Rattle.model_values.specs.declared.question.OrderVerdict.TheVariants as verdict
 use Rattle.model_values.specs.declared.valued.Valued.{Valued}
 use Rattle.model_values.specs.ValuedVerdict.{IsJudgedOn}
-use Rattle.model_values.specs.Values.{AreAlike, HasClearWriters, IsUnwritten, IsValuedPlacing}
+use Rattle.model_values.specs.Values.{AreAlikeValues, HasClearWriters, IsUnwritten, IsValuedPlacing}
 use Rattle.value_answer.specs.declared.decision.Decision.{Decision}
 use Rattle.value_answer.specs.declared.decision.Decision.TheVariants.{Obeys, Breaks, Undecided}
 use Rattle.value_answer.specs.declared.decision.Decisions.{Decisions}
@@ -24,7 +24,7 @@ HasNoPlacing v = (placed : List Operation) (writes : List ℕ) → IsValuedPlaci
 -- why no model is asked: two writes leave the same in one word; or what was found no write left; or
 -- memory was refused
 abbrev pub IsUnsaid : Valued → Unsaid → Type 0
-IsUnsaid v (Alike x y) = AreAlike v.operations.now v.left.now x y
+IsUnsaid v (Alike x y) = AreAlikeValues v.operations.now v.left.now x y
 IsUnsaid v (Unwritten x) = IsUnwritten v x × HasNoPlacing v
 IsUnsaid v Memory = Unit {0}
 

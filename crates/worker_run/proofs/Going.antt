@@ -7,8 +7,8 @@ use Rattle.torus.specs.declared.step.Step.{Step}
 use Rattle.channel_number.specs.Ports.{port_count}
 use Rattle.fabric.specs.Seats.{Knowing}
 use Rattle.fabric.specs.Asking.{HasSeen}
-use Rattle.worker_run.specs.Calls.{Call, Hears}
-use Rattle.worker_run.specs.Going.{IsUnderWay, HasEnded, IsGoing, MakesNone, IsStopped, MakesTurn, Tries, Leads, at_place}
+use Rattle.worker_run.specs.Calls.{Call, HearsOfWorkers}
+use Rattle.worker_run.specs.Going.{IsUnderWayTurn, HasEnded, IsGoing, MakesNone, IsStopped, MakesTurn, Tries, LeadsSeats, at_place}
 use Rattle.worker_run.specs.Places.{EndsPass, ComesAfter, IsFirstPlace, choice_count}
 use Rattle.worker_run.specs.Watching.{AreCallsOf, AreCallsOfTurn, AreCallsOfTurns}
 use Rattle.worker_run.specs.Working.{Attempts, Grew, IsStepAt, Turns}
@@ -17,13 +17,13 @@ use Rattle.worker_run.specs.declared.turns.Run.{Run}
 use Rattle.worker_run.proofs.Moving.{grew_not, grew_on, one_more}
 use Rattle.worker_run.proofs.Rounds.{processor_step, bank_place}
 
-pub begun : (ports : ℕ) (v : Knowing) (p : Place) → IsUnderWay ports 0 v v p p []
+pub begun : (ports : ℕ) (v : Knowing) (p : Place) → IsUnderWayTurn ports 0 v v p p []
 begun ports v p = record { steps = []; count = refl; attempts = (refl, refl); grew = grew_not v; told = (refl, refl) }
 
 -- one turn more, and the calls behind it
 under_on : (ports made more_made : ℕ) (u v w : Knowing) (first p q : Place) (c : Step) (calls more : List Call) → more_made ≡ made + 1
-    → IsUnderWay ports made u v first p calls → IsStepAt ports p c → Turns v c w → Grew v w → ComesAfter ports v.tiles p q → AreCallsOfTurn more_made p q more
-    → IsUnderWay ports more_made u w first q (calls ++ more)
+    → IsUnderWayTurn ports made u v first p calls → IsStepAt ports p c → Turns v c w → Grew v w → ComesAfter ports v.tiles p q → AreCallsOfTurn more_made p q more
+    → IsUnderWayTurn ports more_made u w first q (calls ++ more)
 under_on ports made more_made u v w first p q c calls more e so_far at turns grew follows told =
     let same : v.tiles ≡ u.tiles = ap (λ (k : Knowing). k.tiles) so_far.grew.0 in
     let follows' = subst (λ (tiles : List ℕ). ComesAfter ports tiles p q) same follows in
@@ -37,10 +37,10 @@ under_on ports made more_made u v w first p q c calls more e so_far at turns gre
       told = subst (λ (n : ℕ). AreCallsOf ports u.tiles n first (calls ++ more) q) one (calls, p, more, so_far.told, follows', told', refl);
     }
 
-under_same : (ports made n : ℕ) (u v w : Knowing) (first p : Place) (calls : List Call) → n ≡ made → w ≡ v → IsUnderWay ports made u v first p calls
-    → IsUnderWay ports n u w first p calls
+under_same : (ports made n : ℕ) (u v w : Knowing) (first p : Place) (calls : List Call) → n ≡ made → w ≡ v → IsUnderWayTurn ports made u v first p calls
+    → IsUnderWayTurn ports n u w first p calls
 under_same ports made n u v w first p calls e is k =
-    subst (λ (m : ℕ). IsUnderWay ports m u w first p calls) (sym e) (subst (λ (x : Knowing). IsUnderWay ports made u x first p calls) (sym is) k)
+    subst (λ (m : ℕ). IsUnderWayTurn ports m u w first p calls) (sym e) (subst (λ (x : Knowing). IsUnderWayTurn ports made u x first p calls) (sym is) k)
 
 over_same : (stops : Step → Type 0) (turns ports made n : ℕ) (u v w : Knowing) (first : Place) (calls : List Call) → n ≡ made → w ≡ v
     → HasEnded stops turns ports made u v first calls → HasEnded stops turns ports n u w first calls
@@ -88,7 +88,7 @@ module _ (stops : Step → Type 0) (turns ports : ℕ) (u : Knowing) (first p : 
       )
   stopped k at (inr g) = let some = k.some in let over = g.0 in absurd (omega (arith, some, over))
 
-  by_most : (q : Place) (calls' : List Call) → MakesTurn r v c s w → r.made ≤ r.most → r.most ≡ turns → IsUnderWay ports s.made u w first q calls'
+  by_most : (q : Place) (calls' : List Call) → MakesTurn r v c s w → r.made ≤ r.most → r.most ≡ turns → IsUnderWayTurn ports s.made u w first q calls'
       → (s.most ≡ r.most) ⊎ ((s.most ≡ s.made) × HasSeen w) → IsGoing stops turns ports u first calls' s w q
   by_most q calls' k le all so_far (inl same) =
       let some = k.some in
@@ -124,7 +124,7 @@ module _ (stops : Step → Type 0) (turns ports : ℕ) (u : Knowing) (first p : 
 
 -- an attempt at a place of a tile that isn't its last
 pub one_on : (stops : Step → Type 0) (ports t a b : ℕ) (c : Step) (r s : Run) (v w : Knowing) → b ≡ a + 1 → b < choice_count ports → IsStepAt ports (at_place t a) c
-    → Tries stops r v c s w → Leads stops ports r v (at_place t a) s w (at_place t b)
+    → Tries stops r v c s w → LeadsSeats stops ports r v (at_place t a) s w (at_place t b)
 one_on stops ports t a b c r s v w next within at tries = record {
   later = by_outcome tries.outcome;
   goes = λ turns u first calls going.
@@ -136,17 +136,17 @@ one_on stops ports t a b c r s v w next within at tries = record {
     by_outcome (inr (inl k)) = let made = k.made in omega (arith, made)
     by_outcome (inr (inr k)) = let made = k.made in omega (arith, made)
 
-pub leads_on : (stops : Step → Type 0) (ports : ℕ) (p q x : Place) (r s z : Run) (u v w : Knowing) → Leads stops ports r u p s v q → Leads stops ports s v q z w x
-    → Leads stops ports r u p z w x
+pub leads_on : (stops : Step → Type 0) (ports : ℕ) (p q x : Place) (r s z : Run) (u v w : Knowing) → LeadsSeats stops ports r u p s v q → LeadsSeats stops ports s v q z w x
+    → LeadsSeats stops ports r u p z w x
 leads_on stops ports p q x r s z u v w one two =
     let first = one.later in
     let second = two.later in
     record { later = omega (arith, first, second); goes = λ turns k f calls going. two.goes turns k f calls (one.goes turns k f calls going) }
 
-pub stays : (stops : Step → Type 0) (ports t a b : ℕ) (r : Run) (v : Knowing) → a ≡ b → Leads stops ports r v (at_place t a) r v (at_place t b)
+pub stays : (stops : Step → Type 0) (ports t a b : ℕ) (r : Run) (v : Knowing) → a ≡ b → LeadsSeats stops ports r v (at_place t a) r v (at_place t b)
 stays stops ports t a b r v e =
-    let none : Leads stops ports r v (at_place t a) r v (at_place t a) = record { later = omega arith; goes = λ turns k f calls going. going } in
-    subst (λ (n : ℕ). Leads stops ports r v (at_place t a) r v (at_place t n)) e none
+    let none : LeadsSeats stops ports r v (at_place t a) r v (at_place t a) = record { later = omega arith; goes = λ turns k f calls going. going } in
+    subst (λ (n : ℕ). LeadsSeats stops ports r v (at_place t a) r v (at_place t n)) e none
 
 -- the choices of a processor, one after the other
 pub by_processor : (stops : Step → Type 0) (ports t : ℕ) (r0 r1 r2 r3 r4 r5 : Run) (v0 v1 v2 v3 v4 v5 : Knowing)
@@ -155,7 +155,7 @@ pub by_processor : (stops : Step → Type 0) (ports t : ℕ) (r0 r1 r2 r3 r4 r5 
     → Tries stops r2 v2 (record { agent = 3 * t; choice = Credit }) r3 v3
     → Tries stops r3 v3 (record { agent = 3 * t; choice = Done }) r4 v4
     → Tries stops r4 v4 (record { agent = 3 * t; choice = Look }) r5 v5
-    → Leads stops ports r0 v0 (at_place t 0) r5 v5 (at_place t 5)
+    → LeadsSeats stops ports r0 v0 (at_place t 0) r5 v5 (at_place t 5)
 by_processor stops ports t r0 r1 r2 r3 r4 r5 v0 v1 v2 v3 v4 v5 send take credit done look =
     let a = one_on stops ports t 0 1 _ r0 r1 v0 v1 refl (omega arith) (processor_step ports t 0 Send refl) send in
     let b = one_on stops ports t 1 2 _ r1 r2 v1 v2 refl (omega arith) (processor_step ports t 1 Take refl) take in
@@ -170,7 +170,7 @@ pub by_bank : (stops : Step → Type 0) (ports t : ℕ) (r0 r1 r2 r3 : Run) (v0 
     → Tries stops r0 v0 (record { agent = 3 * t + 2; choice = Take }) r1 v1
     → Tries stops r1 v1 (record { agent = 3 * t + 2; choice = Serve }) r2 v2
     → Tries stops r2 v2 (record { agent = 3 * t + 2; choice = Send }) r3 v3
-    → Leads stops ports r0 v0 (at_place t (5 + 3 * ports)) r3 v3 (at_place t (8 + 3 * ports))
+    → LeadsSeats stops ports r0 v0 (at_place t (5 + 3 * ports)) r3 v3 (at_place t (8 + 3 * ports))
 by_bank stops ports t r0 r1 r2 r3 v0 v1 v2 v3 take serve send =
     let a = one_on stops ports t (5 + 3 * ports) (6 + 3 * ports) _ r0 r1 v0 v1 (omega arith) (omega arith)
     (bank_place ports t 0 (5 + 3 * ports) Take (omega arith) refl) take in
@@ -208,7 +208,7 @@ told_over stops turns ports made v w first calls start is few not_yet over = rec
 
 -- the calls behind the turns of a worker that has gone so far were heard
 abbrev pub IsHeardSoFar : (Step → Type 0) → ℕ → ℕ → Knowing → Place → Run → Knowing → Place → (List Call → Type 0) → (List Call → Type 0) → Type 0
-IsHeardSoFar stops turns ports v first r w p old new = (calls : List Call) × IsGoing stops turns ports v first calls r w p × Hears old new calls
+IsHeardSoFar stops turns ports v first r w p old new = (calls : List Call) × IsGoing stops turns ports v first calls r w p × HearsOfWorkers old new calls
 
 -- the last place of a tile, and its step
 abbrev pub last_of : ℕ → ℕ → Place
@@ -226,7 +226,7 @@ next_starts ports t tiles next (inr (inl k)) = k.1
 next_starts ports t tiles next (inr (inr k)) = k.2.0
 
 module _ (stops : Step → Type 0) (turns ports : ℕ) (u : Knowing) (first p : Place) (r s z : Run) (v w x : Knowing) (old mid : List Call → Type 0)
-    (start : p.at ≡ 0) (leads : Leads stops ports r v (at_place p.tile 0) s w (last_of ports p.tile)) (tries : Tries stops s w (last_step p.tile) z x)
+    (start : p.at ≡ 0) (leads : LeadsSeats stops ports r v (at_place p.tile 0) s w (last_of ports p.tile)) (tries : Tries stops s w (last_step p.tile) z x)
     (so_far : IsHeardSoFar stops turns ports u first r v p old mid) where
   at_last : IsGoing stops turns ports u first so_far.0 s w (last_of ports p.tile)
   at_last =
@@ -235,7 +235,7 @@ module _ (stops : Step → Type 0) (turns ports : ℕ) (u : Knowing) (first p : 
 
   -- the last turn of a tile, and all turns before it
   pub tile_on : (next : Place) (quiet : Bool) (new : List Call → Type 0) → ComesAfter ports w.tiles (last_of ports p.tile) next → s.made < z.made
-      → ((calls : List Call) × AreCallsOfTurn z.made (last_of ports p.tile) next calls × Hears mid new calls)
+      → ((calls : List Call) × AreCallsOfTurn z.made (last_of ports p.tile) next calls × HearsOfWorkers mid new calls)
       → IsHeardSoFar stops turns ports u first (record z { quiet = quiet }) x next old new
   tile_on next quiet new follows made told = (
     so_far.0 ++ told.0,

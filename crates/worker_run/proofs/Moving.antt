@@ -5,18 +5,18 @@ use Rattle.torus.specs.Shape.{dims_of}
 use Rattle.torus.specs.declared.step.Step.{Step}
 use Rattle.channel_number.specs.Ports.{port_count}
 use Rattle.fabric_rule.specs.Core.{Load}
-use Rattle.fabric.specs.Seats.{Knowing, Origin, IsSeatOf, Moves, Idles, IsNotMine, with_run}
+use Rattle.fabric.specs.Seats.{Knowing, Origin, IsSeatOf, MovesSeats, Idles, IsNotMine, with_run}
 use Rattle.fabric.specs.Asking.{HasSeen}
 use Rattle.fabric.specs.declared.steps.Turned.{Turned}
 use Rattle.fabric.specs.declared.steps.Turned.TheVariants.{Moved, Idle, NotMine}
 use Rattle.fabric.proofs.Turning.{begins_trans}
 use Rattle.worker_run.specs.Places.{IsFirstPlace, IsPlaceOf, ComesAfter}
 use Rattle.worker_run.specs.Working.{Grew, Turns, IsStepAt, Attempts}
-use Rattle.worker_run.specs.Calls.{Call, Hears}
+use Rattle.worker_run.specs.Calls.{Call, HearsOfWorkers}
 use Rattle.worker_run.specs.Watching.{AreCallsOfTurns}
 use Rattle.worker_run.specs.declared.place.Place.{Place}
 
-pub turned : (r : Turned) (v w : Knowing) (c : Step) → (r ≡ Moved → Moves v c w) → (r ≡ Idle → Idles v c w) → ((r ≡ NotMine) ↔ IsNotMine v c)
+pub turned : (r : Turned) (v w : Knowing) (c : Step) → (r ≡ Moved → MovesSeats v c w) → (r ≡ Idle → Idles v c w) → ((r ≡ NotMine) ↔ IsNotMine v c)
     → (r ≡ NotMine → w ≡ v) → Turns v c w
 turned Moved v w c moves idles mine same = inl (moves refl)
 turned Idle v w c moves idles mine same = inr (inl (idles refl))
@@ -40,7 +40,7 @@ one_more ports v p (d ∷ steps) w q c u r (x, y, there, turns, follows, rest) a
     (x, y, there, turns, follows, one_more ports x y steps w q c u r rest at turns' follows')
 
 -- no call
-pub hears_none : (h : List Call → Type 0) → Hears h h []
+pub hears_none : (h : List Call → Type 0) → HearsOfWorkers h h []
 hears_none h = λ calls o. subst h (sym (append-nil calls)) o
 
 -- no turn was made by a seat whose processors had seen the end, and none is told

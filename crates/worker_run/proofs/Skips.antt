@@ -7,7 +7,7 @@ use Rattle.torus.specs.declared.step.Choice.{Choice}
 use Rattle.fabric_rule.specs.Known.{enabled}
 use Rattle.fabric.specs.Turns.{is_ready}
 use Rattle.fabric.specs.Seats.{Knowing, Grows, Idles, with_run}
-use Rattle.worker_run.specs.Going.{Tries, Leads, at_place}
+use Rattle.worker_run.specs.Going.{Tries, LeadsSeats, at_place}
 use Rattle.worker_run.specs.RouterTurns.{choice_of, start_of}
 use Rattle.worker_run.specs.declared.place.Place.{Place}
 use Rattle.worker_run.specs.declared.router_turns.Port.{Port}
@@ -45,9 +45,9 @@ tries stops r s v c out some made most = record {
 
 -- one port more of a router, attempted or left out
 pub one_left_out : (stops : Step → Type 0) (ports t : ℕ) (kind : Port) (k : ℕ) (r s z : Run) (u v w : Knowing) (from : Place) (choice : Choice)
-    → Leads stops ports r u from s v (at_place t (start_of ports kind + k)) → k < ports → choice ≡ choice_of kind k
+    → LeadsSeats stops ports r u from s v (at_place t (start_of ports kind + k)) → k < ports → choice ≡ choice_of kind k
     → Tries stops s v (record { agent = 3 * t + 1; choice = choice }) z w
-    → Leads stops ports r u from z w (at_place t (start_of ports kind + (k + 1)))
+    → LeadsSeats stops ports r u from z w (at_place t (start_of ports kind + (k + 1)))
 one_left_out stops ports t kind k r s z u v w from choice leads low is tries =
     leads_on stops ports _ _ _ _ _ _ _ _ _ leads
     (one_on stops ports t (start_of ports kind + k) (start_of ports kind + (k + 1)) _ s z v w (omega arith) (within_tile kind ports (k + 1) (omega (arith, low)))
@@ -55,6 +55,6 @@ one_left_out stops ports t kind k r s z u v w from choice leads low is tries =
     (subst (λ (c : Choice). Tries stops s v (record { agent = 3 * t + 1; choice = c }) z w) is tries))
 
 -- the same place by another number
-pub leads_to : (stops : Step → Type 0) (ports : ℕ) (r s : Run) (v w : Knowing) (p : Place) (t a b : ℕ) → a ≡ b → Leads stops ports r v p s w (at_place t a)
-    → Leads stops ports r v p s w (at_place t b)
-leads_to stops ports r s v w p t a b e leads = subst (λ (n : ℕ). Leads stops ports r v p s w (at_place t n)) e leads
+pub leads_to : (stops : Step → Type 0) (ports : ℕ) (r s : Run) (v w : Knowing) (p : Place) (t a b : ℕ) → a ≡ b → LeadsSeats stops ports r v p s w (at_place t a)
+    → LeadsSeats stops ports r v p s w (at_place t b)
+leads_to stops ports r s v w p t a b e leads = subst (λ (n : ℕ). LeadsSeats stops ports r v p s w (at_place t n)) e leads

@@ -8,5 +8,5 @@ pub data Call : Type 0 where
   Ended : (turns : ℕ) → Call
 
 -- these calls come behind those that a watcher has heard, by what it has heard before and after
-abbrev pub Hears : (List Call → Type 0) → (List Call → Type 0) → List Call → Type 0
-Hears old new more = (calls : List Call) → old calls → new (calls ++ more)
+abbrev pub HearsOfWorkers : (List Call → Type 0) → (List Call → Type 0) → List Call → Type 0
+HearsOfWorkers old new more = (calls : List Call) → old calls → new (calls ++ more)

@@ -14,7 +14,7 @@ at_place t a = record { tile = t; at = a }
 
 -- so many turns were made from a first place of a seat's rounds on: they led it from what it knew to
 -- what it knows, and to another place, and these are the calls behind them
-pub record IsUnderWay (ports made : ℕ) (v w : Knowing) (first last : Place) (calls : List Call)
+pub record IsUnderWayTurn (ports made : ℕ) (v w : Knowing) (first last : Place) (calls : List Call)
     : Type 0 where
   pub steps : List Step
   pub count : length steps ≡ made
@@ -27,7 +27,7 @@ pub record IsUnderWay (ports made : ℕ) (v w : Knowing) (first last : Place) (c
 pub record HasEnded (stops : Step → Type 0) (turns ports made : ℕ) (v w : Knowing) (first : Place)
     (calls : List Call) : Type 0 where
   pub last : Place
-  pub under_way : IsUnderWay ports made v w first last calls
+  pub under_way : IsUnderWayTurn ports made v w first last calls
   pub until : HasSeen w ⊎ (made ≡ turns) ⊎ ((c : Step) × IsStepAt ports last c × stops c)
 
 -- a worker has gone from a first place on, as far as it says: it is at this place, or no turn is to
@@ -35,7 +35,7 @@ pub record HasEnded (stops : Step → Type 0) (turns ports made : ℕ) (v w : Kn
 abbrev pub IsGoing : (Step → Type 0) → ℕ → ℕ → Knowing → Place → List Call → Run → Knowing → Place
     → Type 0
 IsGoing stops turns ports v first calls r w p =
-    ((r.made ≤ r.most) × (r.most ≡ turns) × IsUnderWay ports r.made v w first p calls)
+    ((r.made ≤ r.most) × (r.most ≡ turns) × IsUnderWayTurn ports r.made v w first p calls)
     ⊎ ((r.most ≤ r.made) × (r.made ≤ turns) × HasEnded stops turns ports r.made v w first calls)
 
 -- no turn was left: nothing changed
@@ -69,7 +69,7 @@ pub record Tries (stops : Step → Type 0) (r : Run) (v : Knowing) (c : Step) (s
   pub outcome : MakesNone r v s w ⊎ IsStopped stops r v c s w ⊎ MakesTurn r v c s w
 
 -- the worker is led from one place of its rounds to another, or to its last turn
-pub record Leads (stops : Step → Type 0) (ports : ℕ) (r : Run) (v : Knowing) (p : Place) (s : Run)
+pub record LeadsSeats (stops : Step → Type 0) (ports : ℕ) (r : Run) (v : Knowing) (p : Place) (s : Run)
     (w : Knowing) (q : Place) : Type 0 where
   pub later : r.made ≤ s.made
   pub goes : (turns : ℕ) (u : Knowing) (first : Place) (calls : List Call)

@@ -4,7 +4,7 @@ use Rattle.torus.specs.Shape.{dims_of}
 use Rattle.torus.specs.declared.step.Step.{Step}
 use Rattle.channel_number.specs.Ports.{port_count}
 use Rattle.fabric.specs.Seats.{Knowing}
-use Rattle.worker_run.specs.Calls.{Call, Passed, Ended, Hears}
+use Rattle.worker_run.specs.Calls.{Call, Passed, Ended, HearsOfWorkers}
 use Rattle.worker_run.specs.Places.{EndsPass, ComesAfter}
 use Rattle.worker_run.specs.Working.{HasTurned, Working}
 use Rattle.worker_run.specs.declared.place.Place.{Place}
@@ -54,7 +54,7 @@ AreCallsTo stops turns v (Some Stopped) w calls = AreCallsOfRun stops turns v w 
 abbrev pub HearsTurns : (Step → Type 0) → ℕ → Knowing → Knowing → ℕ → (List Call → Type 0)
     → (List Call → Type 0) → Type 0
 HearsTurns stops turns v w count old new =
-    (calls : List Call) × AreCallsOfTurns stops turns v w count calls × Hears old new calls
+    (calls : List Call) × AreCallsOfTurns stops turns v w count calls × HearsOfWorkers old new calls
 
 -- a watcher hears all calls of a run for a worker, by what may be all of them
 abbrev pub IsWatched : (List Call → Type 0) → (Step → Type 0) → ℕ → Working → Working → Type 0

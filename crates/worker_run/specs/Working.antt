@@ -6,7 +6,7 @@ use Rattle.channel_number.specs.Ports.{port_count}
 use Rattle.fabric_rule.specs.Core.{round_at}
 use Rattle.fabric_rule.specs.Groups.{Extends}
 use Rattle.fabric_rule.specs.Ended.{AreAllFinished}
-use Rattle.fabric.specs.Seats.{Knowing, Moves, Idles, IsNotMine, with_run}
+use Rattle.fabric.specs.Seats.{Knowing, MovesSeats, Idles, IsNotMine, with_run}
 use Rattle.fabric.specs.Asking.{HasSeen}
 use Rattle.fabric.specs.Lawful.{HasLawfulRun}
 use Rattle.worker_run.specs.Places.{IsFirstPlace, ComesAfter}
@@ -26,7 +26,7 @@ Grew v w = (w ≡ with_run v w.run) × Extends w.run v.run
 -- what one turn makes of a seat: its step moved, or was idle, or was of no tile of the seat, which
 -- is then as it was
 abbrev pub Turns : Knowing → Step → Knowing → Type 0
-Turns v c w = Moves v c w ⊎ Idles v c w ⊎ (IsNotMine v c × (w ≡ v))
+Turns v c w = MovesSeats v c w ⊎ Idles v c w ⊎ (IsNotMine v c × (w ≡ v))
 
 -- the step at a place of the rounds, where a router has so many ports (this project's own format)
 abbrev pub IsStepAt : ℕ → Place → Step → Type 0

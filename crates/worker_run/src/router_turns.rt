@@ -1,10 +1,10 @@
 //! The turns of a worker at a tile's router. Choices that are asleep are left out, a stretch at a time:
 //! behind a gate that stops nobody little is left of the loop once the calls are inlined.
 ghost use Rattle.std.specs.Prelude.{◌≡◌, ◌≤◌, ◌<◌, ◌+◌, ℕ, false};
-ghost use Rattle.core_wake.specs.Routers.{of_router};
+ghost use Rattle.core_laws.specs.Routers.{of_router};
 ghost use Rattle.fabric_rule.specs.Known.{enabled};
 ghost use Rattle.fabric.specs.Seats.{IsSeatOf};
-ghost use Rattle.worker_run.specs.Going.{Leads, at_place};
+ghost use Rattle.worker_run.specs.Going.{LeadsSeats, at_place};
 ghost use Rattle.worker_run.specs.RouterTurns.{choice_of, start_of};
 
 use crate::gate::Gate;
@@ -69,7 +69,7 @@ fn leave_out_ports<A: Allocator, G: Gate>(
     requires within { (from ≤ to) × (to ≤ ports) }
     requires idle { (k : ℕ) → from ≤ k → k < to
         → enabled seat.now.load seat.now.run (of_router tile (choice_of kind k)) ≡ false }
-    ensures { Leads (G.stops gate.now worker) ports run.old seat.now
+    ensures { LeadsSeats (G.stops gate.now worker) ports run.old seat.now
         (at_place tile (start_of ports kind + from)) run.new seat.now
         (at_place tile (start_of ports kind + to)) }
 {
@@ -97,7 +97,7 @@ fn port_turns<A: Allocator, G: Gate>(
     requires ports { (from < ports) × (ports < 32) }
     ensures own { IsSeatOf fabric.now seat.new }
     ensures within { (from < result) × (result ≤ ports) }
-    ensures leads { Leads (G.stops gate.now worker) ports run.old seat.old
+    ensures leads { LeadsSeats (G.stops gate.now worker) ports run.old seat.old
         (at_place tile (start_of ports kind + from)) run.new seat.new
         (at_place tile (start_of ports kind + result)) }
 {
@@ -127,7 +127,7 @@ pub(crate) fn router_turns<A: Allocator, G: Gate>(
     requires tile { tile < 64 }
     requires ports { ports < 32 }
     ensures own { IsSeatOf fabric.now seat.new }
-    ensures leads { Leads (G.stops gate.now worker) ports run.old seat.old
+    ensures leads { LeadsSeats (G.stops gate.now worker) ports run.old seat.old
         (at_place tile (start_of ports kind)) run.new seat.new
         (at_place tile (start_of ports kind + ports)) }
 {

@@ -3,7 +3,7 @@
 ghost use Rattle.std.specs.Prelude.{◌≡◌, ◌<◌, ◌+◌, ◌*◌, ℕ, false};
 ghost use Rattle.fabric_rule.specs.Known.{enabled};
 ghost use Rattle.fabric.specs.Seats.{IsSeatOf};
-ghost use Rattle.worker_run.specs.Going.{Leads, Tries, at_place};
+ghost use Rattle.worker_run.specs.Going.{LeadsSeats, Tries, at_place};
 
 use crate::gate::Gate;
 use crate::router_turns::{Port, router_turns};
@@ -124,7 +124,7 @@ pub(crate) fn tile_turns<A: Allocator, G: Gate>(
     requires tile { tile < 64 }
     requires ports { ports < 32 }
     ensures own { IsSeatOf fabric.now seat.new }
-    ensures leads { Leads (G.stops gate.now worker) ports run.old seat.old (at_place tile 0) run.new
+    ensures leads { LeadsSeats (G.stops gate.now worker) ports run.old seat.old (at_place tile 0) run.new
         seat.new (at_place tile (8 + 3 * ports)) }
 {
     processor_turns(fabric, seat, gate, worker, run, tile);
@@ -147,7 +147,7 @@ fn processor_turns<A: Allocator, G: Gate>(
     requires own { IsSeatOf fabric.now seat.old }
     requires tile { tile < 64 }
     ensures own { IsSeatOf fabric.now seat.new }
-    ensures leads { (ports : ℕ) → Leads (G.stops gate.now worker) ports run.old seat.old
+    ensures leads { (ports : ℕ) → LeadsSeats (G.stops gate.now worker) ports run.old seat.old
         (at_place tile 0) run.new seat.new (at_place tile 5) }
 {
     let agent = 3 * tile;
@@ -171,7 +171,7 @@ fn bank_turns<A: Allocator, G: Gate>(
     requires own { IsSeatOf fabric.now seat.old }
     requires tile { tile < 64 }
     ensures own { IsSeatOf fabric.now seat.new }
-    ensures leads { (ports : ℕ) → Leads (G.stops gate.now worker) ports run.old seat.old
+    ensures leads { (ports : ℕ) → LeadsSeats (G.stops gate.now worker) ports run.old seat.old
         (at_place tile (5 + 3 * ports)) run.new seat.new (at_place tile (8 + 3 * ports)) }
 {
     let agent = 3 * tile + 2;

@@ -3,7 +3,7 @@
 /// Watches workers. Whatever it does, what they make of their seats is the same.
 pub trait Watch: Sync {
     ghost use Rattle.std.specs.Prelude.{ℕ, List, [], ◌∷◌, ◌++◌};
-    ghost use Rattle.worker_run.specs.Calls.{Call, Passed, Ended, Hears};
+    ghost use Rattle.worker_run.specs.Calls.{Call, Passed, Ended, HearsOfWorkers};
 
     /// What it keeps of one worker during a run.
     type Kept;
@@ -22,12 +22,12 @@ pub trait Watch: Sync {
     /// A pass over a worker's tiles is over, with so many turns made in all: an attempt of each choice of
     /// their agents. It is told after each pass, so it is to cost little.
     fn passed(&self, worker: usize, kept: &mut Self::Kept, turns: u64)
-        ensures { Hears (heard self.now worker kept.old) (heard self.now worker kept.new)
+        ensures { HearsOfWorkers (heard self.now worker kept.old) (heard self.now worker kept.new)
             (Passed turns ∷ []) };
 
     /// A worker has ended, with so many turns made in all.
     fn ended(&self, worker: usize, kept: Self::Kept, turns: u64)
-        ensures { Hears (heard self.now worker kept) (over self.now worker) (Ended turns ∷ []) };
+        ensures { HearsOfWorkers (heard self.now worker kept) (over self.now worker) (Ended turns ∷ []) };
 }
 
 /// Watches nothing.

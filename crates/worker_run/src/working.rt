@@ -1,6 +1,6 @@
 ghost use Rattle.std.specs.Prelude.{◌≡◌, ◌<◌, ◌≤◌, ℕ, All, List, length, slice_index_or};
 ghost use Rattle.fabric.specs.Seats.{IsSeatOf};
-ghost use Rattle.worker_run.specs.Calls.{Call, Hears};
+ghost use Rattle.worker_run.specs.Calls.{Call, HearsOfWorkers};
 ghost use Rattle.worker_run.specs.Watching.{AreCallsOfTurn, HearsTurns, IsWatched};
 ghost use Rattle.worker_run.specs.Working.{Working, HasWorked};
 
@@ -151,7 +151,7 @@ fn tell_turn<V: Watch>(
     turns: u64,
 ) -> bool
     ensures { (calls : List Call) × AreCallsOfTurn turns place next calls
-        × Hears (V.heard watch.now worker kept.old) (V.heard watch.now worker kept.new) calls }
+        × HearsOfWorkers (V.heard watch.now worker kept.old) (V.heard watch.now worker kept.new) calls }
 {
     let is_over = place.ends_pass(next);
     if is_over {

@@ -2,7 +2,7 @@ use Rattle.std.proofs.Common.{subst}
 use Rattle.std.specs.Prelude.{slice_index}
 use Rattle.adaptive_judge.specs.declared.verdict.Verdict.{Verdict}
 use Rattle.adaptive_judge.specs.Judged.{IsAdaptiveVerdict}
-use Rattle.adaptive.proofs.Arrive.{sent_reached, whole_was_sent, whole_once}
+use Rattle.adaptive_judge.proofs.Arrive.{sent_reached, whole_was_sent, whole_once}
 use Rattle.adaptive_judge.specs.Choosing.{network}
 use Rattle.adaptive_judge.proofs.Rising.{adaptive_is, moves, come}
 use Rattle.adaptive_judge.proofs.laws.rising_networks_never_lock_up.Goals as goal

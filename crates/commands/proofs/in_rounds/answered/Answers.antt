@@ -2,8 +2,8 @@
 use Rattle.std.proofs.Common.{◌≡◌, ◌<◌, sym, ◌∙◌, ap, arith, length}
 use Rattle.std.specs.Option.{option_copied}
 use Rattle.torus.specs.Shape.{tiles_of}
-use Rattle.core_machine.specs.Machine.{shown}
-use Rattle.core_machine.specs.Reported.{ReportsWell}
+use Rattle.core_laws.specs.Machine.{shown}
+use Rattle.core_laws.specs.Reported.{ReportsWell}
 use Rattle.machine_report.proofs.RowMore.{none_past}
 use Rattle.commands.proofs.Counted.{count_more}
 use Rattle.commands.proofs.in_rounds.answered.Goals.{in-Some, in_default}

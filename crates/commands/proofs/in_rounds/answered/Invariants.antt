@@ -1,7 +1,7 @@
 use Rattle.std.proofs.Common.{◌≡◌, take, length}
 use Rattle.std.specs.Io.Iter.{u64_saturate}
 use Rattle.std.specs.List.{sum_by}
-use Rattle.core_machine.specs.Machine.{shown}
+use Rattle.core_laws.specs.Machine.{shown}
 use Rattle.commands.proofs.in_rounds.answered.Given as goal
 
 -- the answers of the processors so far are counted

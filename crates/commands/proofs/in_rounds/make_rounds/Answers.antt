@@ -1,10 +1,10 @@
 -- The rounds stop where every script is finished, or where no more are allowed; who watches is told of each, and changes nothing of it.
 use Rattle.std.proofs.Common.{◌≡◌, ℕ, ◌+◌, [], refl, sym, subst, ◌∙◌, arith}
-use Rattle.order_abstract.specs.Load.{Load}
-use Rattle.core_machine.specs.Machine.{IsAfter}
-use Rattle.clocked_laws.specs.Fewest.{AreFewestFrom}
-use Rattle.commands.specs.Telling.{AreCallsOf}
-use Rattle.clocked_laws.proofs.Rounds.{HasMade, as_allowed, enough, none_made, one_more}
+use Rattle.one_order.specs.Load.{Load}
+use Rattle.core_laws.specs.Machine.{IsAfter}
+use Rattle.machine_core.specs.Fewest.{AreFewestFrom}
+use Rattle.commands.specs.Telling.{AreCallsOfCommand}
+use Rattle.machine_core.proofs.LawsRounds.{HasMade, as_allowed, enough, none_made, one_more}
 use Rattle.commands.proofs.Telling.{hears_none, round_heard}
 use Rattle.commands.proofs.in_rounds.make_rounds.Goals as goal
 
@@ -50,5 +50,5 @@ returns g c =
       made = λ l start. record { rounds = c.args.rounds; fewest = fewest l start; after = (made l start).after };
       told = λ l start.
           (let h = c.loop-before.invariant.told l start in
-          (h.0, record { rounds = c.args.rounds; fewest = fewest l start; each = subst (λ (k : ℕ). AreCallsOf c.args.clocked l k h.0) end h.1 }, h.2));
+          (h.0, record { rounds = c.args.rounds; fewest = fewest l start; each = subst (λ (k : ℕ). AreCallsOfCommand c.args.clocked l k h.0) end h.1 }, h.2));
     }

@@ -3,17 +3,17 @@ use Rattle.std.proofs.Common.{◌≡◌, ◌-◌, ℕ, Result, ap, subst, sym, �
 use Rattle.std.proofs.lemmas.Result.{err_from_is_err_and}
 use Rattle.std.specs.Str.Lines.{lines}
 use Rattle.script.specs.declared.fault.LineFault.{LineFault}
-use Rattle.order_abstract.specs.Load.{Load}
-use Rattle.clocked_laws.specs.Fewest.{rounds_from}
-use Rattle.core_progress.specs.Moves.{moves_made}
+use Rattle.one_order.specs.Load.{Load}
+use Rattle.machine_core.specs.Fewest.{rounds_from}
+use Rattle.core_laws.specs.ProgressMoves.{moves_made}
 use Rattle.program_fault.specs.Outcome.{IsReadFault, IsTextsFault}
-use Rattle.commands.specs.Run.{IsNoFault, IsOfMachine}
+use Rattle.commands.specs.Run.{IsNoFault, IsRunOfMachine}
 use Rattle.machine_core.specs.Loading.{HasLoaded, load_by}
 use Rattle.commands.specs.Ends.{HasEndedRounds, ShowsReached}
 use Rattle.commands.specs.Rounds.{HasMadeRounds, IsRoundText}
 use Rattle.commands.specs.Telling.{AreRoundsCalls, AreRunCalls, HearsSome}
 use Rattle.commands.proofs.Asked.{does_more}
-use Rattle.clocked_laws.proofs.Rounds.{fewest_once}
+use Rattle.machine_core.proofs.LawsRounds.{fewest_once}
 use Rattle.commands.proofs.InRounds.{rounds_printed}
 use Rattle.commands.proofs.Telling.{moved_since, none_told, run_told}
 use Rattle.commands.proofs.in_rounds.round_text_with.Goals as goal
@@ -29,7 +29,7 @@ returns-clause-prints g c =
     let asked : Result Load LineFault = load_by (lines c.args.machine.now) (lines c.args.scripts.now) in
     let loaded : HasLoaded asked c.in_ok-machine.machine = c.in_ok-machine.ensures.ok in
     let made : HasMadeRounds c.args.clocked loaded.load c.args.rounds c.make_rounds.new.machine = c.make_rounds.ensures.made loaded.load loaded.after in
-    does_more (IsOfMachine c.make_rounds.new.machine) (IsRoundText c.args.clocked asked c.args.rounds) IsNoFault (IsTextsFault asked) _ _ c.print_run.result
+    does_more (IsRunOfMachine c.make_rounds.new.machine) (IsRoundText c.args.clocked asked c.args.rounds) IsNoFault (IsTextsFault asked) _ _ c.print_run.result
     (λ finished text printed. rounds_printed c.args.clocked asked c.args.rounds c.in_ok-machine.machine c.make_rounds.new.machine finished text loaded made
     c.steps_decide_the_machine.ensures.named printed)
     (λ e h. absurd h) c.print_run.ensures
@@ -51,14 +51,14 @@ returns-clause-told g c =
     run_told c.args.clocked asked c.args.rounds c.moves_since.result c.in_ok-machine.machine loaded
     (g.P.Progress.heard c.args.progress.now) (g.P.Progress.heard c.make_rounds.new.progress) (g.P.Progress.heard c.ended.new.self)
     heard moves c.ended.ensures
-    (IsOfMachine c.make_rounds.new.machine) _ _ c.print_run.result c.print_run.ensures
+    (IsRunOfMachine c.make_rounds.new.machine) _ _ c.print_run.result c.print_run.ensures
 
 pub returns-clause-ends : goal.returns-clause-ends
 returns-clause-ends g c =
     let asked : Result Load LineFault = load_by (lines c.args.machine.now) (lines c.args.scripts.now) in
     let loaded : HasLoaded asked c.in_ok-machine.machine = c.in_ok-machine.ensures.ok in
     let made : HasMadeRounds c.args.clocked loaded.load c.args.rounds c.make_rounds.new.machine = c.make_rounds.ensures.made loaded.load loaded.after in
-    does_more (IsOfMachine c.make_rounds.new.machine) (ShowsReached (HasEndedRounds c.args.clocked asked c.args.rounds) (g.E.Ending.saw c.shown.new.self)) IsNoFault
+    does_more (IsRunOfMachine c.make_rounds.new.machine) (ShowsReached (HasEndedRounds c.args.clocked asked c.args.rounds) (g.E.Ending.saw c.shown.new.self)) IsNoFault
     (IsTextsFault asked) _ _ c.print_run.result
     (λ finished text printed. record {
       end = c.make_rounds.new.machine;

@@ -2,8 +2,8 @@
 use Rattle.std.proofs.Common.{◌-◌, ℕ, List, [], ap, subst, ◌∙◌}
 use Rattle.std.specs.Str.Lines.{lines}
 use Rattle.torus.specs.declared.step.Step.{Step}
-use Rattle.order_abstract.specs.Load.{Load, load_of}
-use Rattle.core_machine.specs.Machine.{IsAfter}
+use Rattle.one_order.specs.Load.{Load, load_of}
+use Rattle.core_laws.specs.Machine.{IsAfter}
 use Rattle.commands.proofs.Asked.{all_read}
 use Rattle.commands.proofs.Telling.{moved_since}
 use Rattle.commands.proofs.steps.ran.Goals as goal

@@ -5,7 +5,7 @@ use Rattle.std.specs.Str.Lines.{lines}
 use Rattle.script.specs.declared.fault.LineFault.{LineFault}
 use Rattle.program_fault.specs.Outcome.{IsReadFault, IsTextsFault}
 use Rattle.commands.specs.Ends.{ShowsReached}
-use Rattle.commands.specs.Run.{Asked, HasRun, IsNoFault, IsOfMachine, IsRunText, asked_of}
+use Rattle.commands.specs.Run.{Asked, HasRun, IsNoFault, IsRunOfMachine, IsRunText, asked_of}
 use Rattle.commands.specs.Telling.{AreStepsCalls}
 use Rattle.commands.proofs.Asked.{does_more, run_printed}
 use Rattle.commands.proofs.Telling.{none_told, steps_told}
@@ -21,19 +21,19 @@ returns-in_err-machine-clause-told g c =
 pub returns-clause-prints : goal.returns-clause-prints
 returns-clause-prints g c =
     let asked : Result Asked LineFault = asked_of (lines c.args.machine.now) (lines c.args.scripts.now) (lines c.args.steps.now) in
-    does_more (IsOfMachine c.in_ok-machine.machine) (IsRunText asked) IsNoFault (IsTextsFault asked) _ _ c.print_run.result
+    does_more (IsRunOfMachine c.in_ok-machine.machine) (IsRunText asked) IsNoFault (IsTextsFault asked) _ _ c.print_run.result
     (λ finished text printed. run_printed asked c.in_ok-machine.machine finished text c.in_ok-machine.ensures.ok printed) (λ e h. absurd h) c.print_run.ensures
 
 pub returns-clause-told : goal.returns-clause-told
 returns-clause-told g c =
     let asked : Result Asked LineFault = asked_of (lines c.args.machine.now) (lines c.args.scripts.now) (lines c.args.steps.now) in
     steps_told asked c.in_ok-machine.moves c.in_ok-machine.ensures.moved (g.P.Progress.heard c.args.progress.now) (g.P.Progress.heard c.ended.new.self)
-    c.ended.ensures (IsOfMachine c.in_ok-machine.machine) _ _ c.print_run.result c.print_run.ensures
+    c.ended.ensures (IsRunOfMachine c.in_ok-machine.machine) _ _ c.print_run.result c.print_run.ensures
 
 pub returns-clause-ends : goal.returns-clause-ends
 returns-clause-ends g c =
     let asked : Result Asked LineFault = asked_of (lines c.args.machine.now) (lines c.args.scripts.now) (lines c.args.steps.now) in
-    does_more (IsOfMachine c.in_ok-machine.machine) (ShowsReached (HasRun asked) (g.E.Ending.saw c.shown.new.self)) IsNoFault (IsTextsFault asked) _ _
+    does_more (IsRunOfMachine c.in_ok-machine.machine) (ShowsReached (HasRun asked) (g.E.Ending.saw c.shown.new.self)) IsNoFault (IsTextsFault asked) _ _
     c.print_run.result
     (λ finished text printed. record {
       end = c.in_ok-machine.machine;

@@ -1,4 +1,4 @@
-use Rattle.order_abstract.proofs.LoadingAccepted.{accepted_load}
+use Rattle.one_order.proofs.LoadingAccepted.{accepted_load}
 use Rattle.core_laws.proofs.laws.readers_give_accepted_loads.Goals as goal
 
 pub returns : goal.returns

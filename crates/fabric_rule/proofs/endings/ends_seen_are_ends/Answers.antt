@@ -1,4 +1,4 @@
-use Rattle.core_machine.proofs.Lawful.{finishes}
+use Rattle.core_laws.proofs.Lawful.{finishes}
 use Rattle.fabric_rule.proofs.Ends.{all_ended}
 use Rattle.fabric_rule.proofs.endings.ends_seen_are_ends.Goals as goal
 

@@ -1,6 +1,6 @@
 use Rattle.std.proofs.Common.{◌≡◌, length, sym, ◌∙◌, ap, arith}
 use Rattle.std.specs.Option.{option_copied}
-use Rattle.script.specs.Scripts.{operation_count}
+use Rattle.script_lines.specs.Lines.{operation_count}
 use Rattle.machine_asked.proofs.OneMore.{told_more, none_past}
 use Rattle.machine_asked.proofs.flags.counts_of.Goals.{in-Some+in_ok-push, in_default}
 use Rattle.machine_asked.proofs.flags.counts_of.Goals as goal

@@ -1,5 +1,5 @@
 use Rattle.std.proofs.Common.{◌≡◌, map, take}
-use Rattle.script.specs.Scripts.{operation_count}
+use Rattle.script_lines.specs.Lines.{operation_count}
 use Rattle.machine_asked.proofs.flags.counts_of.Given as goal
 
 -- those of the scripts so far are there

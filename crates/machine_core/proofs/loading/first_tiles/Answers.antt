@@ -1,9 +1,9 @@
 use Rattle.std.proofs.Common.{◌≡◌, ◌<◌, ◌≤◌, length, slice_index, sym, ◌∙◌, ap, arith, vec_len}
 use Rattle.std.specs.Vec.Iter.{into_iter_items, into_iter_len}
 use Rattle.torus.specs.Shape.{tiles_of}
-use Rattle.script.specs.Scripts.{operation_count}
-use Rattle.script_follower.specs.Scripts.{IsFollowable}
-use Rattle.tile_laws.specs.Tile.{Design}
+use Rattle.script_lines.specs.Lines.{operation_count}
+use Rattle.one_order.specs.Scripts.{IsFollowable}
+use Rattle.tile.specs.Tile.{Design}
 use Rattle.machine_core.proofs.BeginsTiles.{as_many, one_more, one_taken, below, next_lines, none_left, all_made}
 use Rattle.machine_core.proofs.loading.first_tiles.Given.{Over}
 use Rattle.machine_core.proofs.loading.first_tiles.Goals as goal

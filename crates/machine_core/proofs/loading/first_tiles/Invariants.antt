@@ -1,6 +1,6 @@
 use Rattle.std.proofs.Common.{◌≡◌, ◌++◌, length}
 use Rattle.std.specs.Vec.Iter.{into_iter_items, into_iter_len}
-use Rattle.script.specs.ScriptViews.{lists_of}
+use Rattle.script_lines.specs.Views.{lists_of}
 use Rattle.machine_core.specs.Loaded.{first_tiles}
 use Rattle.std.specs.Prelude.{slice_index}
 use Rattle.machine_core.proofs.loading.first_tiles.Given as goal

@@ -1,7 +1,7 @@
 use Rattle.std.proofs.Common.{◌≡◌, ◌<◌, ℕ, length, sym, ◌∙◌, ap, arith, slice_get}
 use Rattle.std.proofs.lemmas.Option.{same_Some}
 use Rattle.machine_parts.specs.EventBook.{noted_service}
-use Rattle.tile_laws.specs.Agents.{state_of}
+use Rattle.tile.specs.Agents.{state_of}
 use Rattle.machine_parts.specs.Placed.{PlacedTile}
 use Rattle.machine_parts.specs.Notes.{RoomToNoteAnswer, index_served}
 use Rattle.machine_core.specs.Noted.{HasRoomForIssue, HasRoomForService, records_in}

@@ -1,9 +1,9 @@
 use Rattle.std.proofs.Common.{◌≡◌, ◌+◌, ◌≤◌, List, length, refl, sym, ◌∙◌, ap, subst, arith, slice_get}
 use Rattle.std.proofs.lemmas.Option.{same_Some}
-use Rattle.tile_laws.specs.Agents.{TilePlace}
+use Rattle.tile.specs.Agents.{TilePlace}
 use Rattle.tile.specs.Placed.{PlacedTile}
-use Rattle.core_growth.specs.Appended.{changed_at}
-use Rattle.core_growth.proofs.Places.{get_same}
+use Rattle.core_laws.specs.Appended.{changed_at}
+use Rattle.core_laws.proofs.Places.{get_same}
 use Rattle.machine_parts.specs.Grown.{tile_wider, tile_narrower, HasRoomFor}
 use Rattle.machine_parts.proofs.Items.{seen_at, changed_long, changed_back, kept_at}
 use Rattle.machine_parts.proofs.lines.put_line.Goals as goal

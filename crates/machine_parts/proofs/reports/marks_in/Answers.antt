@@ -1,9 +1,9 @@
 use Rattle.std.proofs.Common.{◌≡◌, ◌≤◌, ◌*◌, List, ◌∙◌, ap, arith, take}
 use Rattle.std.proofs.lemmas.List.{take_all}
 use Rattle.std.proofs.lemmas.List.Sums.{sum_by_more}
-use Rattle.tile_laws.specs.Agents.{state_of}
+use Rattle.tile.specs.Agents.{state_of}
 use Rattle.tile.specs.Placed.{PlacedTile}
-use Rattle.core_growth.specs.Reopened.{marks}
+use Rattle.core_laws.specs.Reopened.{marks}
 use Rattle.machine_parts.specs.Grown.{marks_in}
 use Rattle.machine_parts.proofs.reports.marks_in.Goals as goal
 

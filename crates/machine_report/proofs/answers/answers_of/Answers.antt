@@ -3,8 +3,8 @@ use Rattle.std.proofs.Common.{◌≡◌, ◌<◌, ◌≤◌, sym, ◌∙◌, ap,
 use Rattle.std.specs.Option.{option_copied}
 use Rattle.std.proofs.lemmas.List.{take_all}
 use Rattle.torus.specs.Shape.{tiles_of}
-use Rattle.core_machine.specs.Machine.{Core, shown}
-use Rattle.core_machine.specs.Reported.{ReportsWell}
+use Rattle.core_laws.specs.Machine.{Core, shown}
+use Rattle.core_laws.specs.Reported.{ReportsWell}
 use Rattle.machine_report.proofs.RowMore.{lent_more, none_past}
 use Rattle.machine_report.proofs.answers.answers_of.Goals.{in-Some+in_ok-push, in_default}
 use Rattle.machine_report.proofs.answers.answers_of.Goals as goal

@@ -1,6 +1,6 @@
 use Rattle.std.proofs.Common.{◌∙◌, ap, sym}
 use Rattle.std.specs.Option.{option_copied}
-use Rattle.core_machine.specs.Machine.{shown}
+use Rattle.core_laws.specs.Machine.{shown}
 use Rattle.machine_report.proofs.Rows.{none_there}
 use Rattle.machine_report.proofs.told.answers.Goals as goal
 

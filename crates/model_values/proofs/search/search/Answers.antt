@@ -1,7 +1,7 @@
 use Rattle.std.proofs.Common.{◌+◌, ◌<◌, true, length, ap, subst, ◌∙◌, arith}
 use Rattle.model_values.specs.declared.search.Looked.TheVariants.{Refuted, Open}
 use Rattle.model_values.specs.Answers.{IsLookedAt}
-use Rattle.model_values.specs.Known.{HasSpread}
+use Rattle.model_values.specs.Known.{HasSpreadOrder}
 use Rattle.model_values.proofs.Searching.{IsSearching, IsSpent, searching_first, searching_cut, searching_back, searching_on}
 use Rattle.model_values.proofs.Weights.{left_back, left_on}
 use Rattle.model_values.proofs.search.search.Goals as goal
@@ -20,8 +20,8 @@ tables-preserved-in-Refuted g c =
     let q = c.args.question.now in
     let e = c.len.ensures ∙ c.tables.path.ok.0 in
     let small : length c.tables.path.items < 18446744073709551615 = omega (arith, c.tables.path.ok.0, c.tables.path.ok.1, c.tables.path.small) in
-    let spread : HasSpread q (length c.tables.path.items) c.tables.table c.look.new.table =
-    subst (λ z. HasSpread q z c.tables.table c.look.new.table) e c.in_ok-explanation.ensures.spread in
+    let spread : HasSpreadOrder q (length c.tables.path.items) c.tables.table c.look.new.table =
+    subst (λ z. HasSpreadOrder q z c.tables.table c.look.new.table) e c.in_ok-explanation.ensures.spread in
     let looked : IsLookedAt {A = g.row.A.Denot} q c.look.new.table (length c.tables.path.items) (Refuted) =
     subst (λ z. IsLookedAt {A = g.row.A.Denot} q c.look.new.table z Refuted) e
     (subst (λ z. IsLookedAt {A = g.row.A.Denot} q c.look.new.table c.len.result z) c.in-Refuted.is c.in_ok-explanation.ensures.looked) in
@@ -36,8 +36,8 @@ tables-smaller-in-Refuted g c =
     let q = c.args.question.now in
     let e = c.len.ensures ∙ c.tables.path.ok.0 in
     let small : length c.tables.path.items < 18446744073709551615 = omega (arith, c.tables.path.ok.0, c.tables.path.ok.1, c.tables.path.small) in
-    let spread : HasSpread q (length c.tables.path.items) c.tables.table c.look.new.table =
-    subst (λ z. HasSpread q z c.tables.table c.look.new.table) e c.in_ok-explanation.ensures.spread in
+    let spread : HasSpreadOrder q (length c.tables.path.items) c.tables.table c.look.new.table =
+    subst (λ z. HasSpreadOrder q z c.tables.table c.look.new.table) e c.in_ok-explanation.ensures.spread in
     left_back q c.tables.path.items c.turn_back-more.new.path.items c.tables.table c.look.new.table c.turn_back-more.new.table
     c.tables.more c.turn_back-more.result small c.tables-test.true c.tables.invariant.stands spread c.turn_back-more.ensures.turned
 
@@ -46,8 +46,8 @@ tables-preserved g c =
     let q = c.args.question.now in
     let e = c.len.ensures ∙ c.tables.path.ok.0 in
     let small : length c.tables.path.items + 1 < 18446744073709551615 = omega (arith, c.tables.path.ok.0, c.tables.path.ok.1, c.tables.path.small) in
-    let spread : HasSpread q (length c.tables.path.items) c.tables.table c.look.new.table =
-    subst (λ z. HasSpread q z c.tables.table c.look.new.table) e c.in_ok-explanation.ensures.spread in
+    let spread : HasSpreadOrder q (length c.tables.path.items) c.tables.table c.look.new.table =
+    subst (λ z. HasSpreadOrder q z c.tables.table c.look.new.table) e c.in_ok-explanation.ensures.spread in
     let looked : IsLookedAt {A = g.row.A.Denot} q c.look.new.table (length c.tables.path.items) (Open c.in-Open.x c.in-Open.y) =
     subst (λ z. IsLookedAt {A = g.row.A.Denot} q c.look.new.table z (Open c.in-Open.x c.in-Open.y)) e
     (subst (λ z. IsLookedAt {A = g.row.A.Denot} q c.look.new.table c.len.result z) c.in-Open.is c.in_ok-explanation.ensures.looked) in
@@ -62,8 +62,8 @@ tables-smaller g c =
     let q = c.args.question.now in
     let e = c.len.ensures ∙ c.tables.path.ok.0 in
     let small : length c.tables.path.items + 1 < 18446744073709551615 = omega (arith, c.tables.path.ok.0, c.tables.path.ok.1, c.tables.path.small) in
-    let spread : HasSpread q (length c.tables.path.items) c.tables.table c.look.new.table =
-    subst (λ z. HasSpread q z c.tables.table c.look.new.table) e c.in_ok-explanation.ensures.spread in
+    let spread : HasSpreadOrder q (length c.tables.path.items) c.tables.table c.look.new.table =
+    subst (λ z. HasSpreadOrder q z c.tables.table c.look.new.table) e c.in_ok-explanation.ensures.spread in
     let looked : IsLookedAt {A = g.row.A.Denot} q c.look.new.table (length c.tables.path.items) (Open c.in-Open.x c.in-Open.y) =
     subst (λ z. IsLookedAt {A = g.row.A.Denot} q c.look.new.table z (Open c.in-Open.x c.in-Open.y)) e
     (subst (λ z. IsLookedAt {A = g.row.A.Denot} q c.look.new.table c.len.result z) c.in-Open.is c.in_ok-explanation.ensures.looked) in

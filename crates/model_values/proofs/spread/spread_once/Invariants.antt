@@ -1,6 +1,6 @@
-use Rattle.model_values.specs.Known.{HasSpread}
+use Rattle.model_values.specs.Known.{HasSpreadOrder}
 use Rattle.model_values.proofs.spread.spread_once.Given as goal
 
 -- turns that explain the trace still agree with the table
 abbrev pub invariant-loop-x : goal.invariant-loop-x
-invariant-loop-x l = HasSpread l.question l.level l.fn.table l.table
+invariant-loop-x l = HasSpreadOrder l.question l.level l.fn.table l.table

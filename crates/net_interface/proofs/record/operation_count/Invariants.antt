@@ -1,6 +1,6 @@
 use Rattle.std.proofs.Common.{◌≡◌, take}
 use Rattle.std.specs.Prelude.{sum_by}
-use Rattle.script.specs.Scripts.{operations_of}
+use Rattle.script_lines.specs.Lines.{operations_of}
 use Rattle.net_interface.proofs.record.operation_count.Given as goal
 
 abbrev pub invariant-loop-line : goal.invariant-loop-line

@@ -1,5 +1,5 @@
 use Rattle.std.proofs.Common.{refl, subst, sym}
-use Rattle.network_machine.specs.Machine.{KeepsOthers}
+use Rattle.network_machine.specs.Machine.{KeepsOtherChannels}
 use Rattle.network_rounds.specs.Flags.{AreFlags}
 use Rattle.network_rounds.proofs.Lists.{misses_one}
 use Rattle.network_rounds.proofs.Told.{tells_both, tells_same}
@@ -16,7 +16,7 @@ returns-clause-flags g c = λ choices are.
     let new = c.try_move.new.self in
     let x = c.channel-x.result in
     let y = c.in-Some.y in
-    let others = subst (λ z. KeepsOthers old new z y) (sym c.channel-x.ensures) c.in-Some.ensures.others in
+    let others = subst (λ z. KeepsOtherChannels old new z y) (sym c.channel-x.ensures) c.in-Some.ensures.others in
     elim c.if-y-x.branch [
       | then-y-x w ↦ subst (AreFlags new choices) (sym w.flags-is)
           (tells_both old new choices x y c.args.flags.now c.tell_channel.new.self w.tell_channel-then-y-x.new.self others c.tell_channel.ensures.flags

@@ -2,7 +2,7 @@ use Rattle.std.proofs.Common.{◌≡◌, ◌∙◌, ℕ, List, Vec, map, length,
 use Rattle.std.specs.List.{range_with_len}
 use Rattle.network_judge.specs.declared.table.Reply.{Reply}
 use Rattle.network_machine.specs.declared.moves.Move.{Move}
-use Rattle.network_machine.specs.Machine.{IsOpened}
+use Rattle.network_machine.specs.Machine.{IsOpenedNetwork}
 use Rattle.network_rounds.specs.declared.senders.Timed.{Timed}
 use Rattle.network_rounds.specs.Choices.{groups_of}
 use Rattle.network_rounds.specs.Routers.{AreRouters}
@@ -58,7 +58,7 @@ returns g c =
     (ap (λ (qs : List (Vec Move _)). map (λ q. q.items) qs) c.deref-3.ensures.value
     ∙ (c.in_ok-groups.ensures ∙ (ap (λ (ks : List Kind). groups_of ks c.deref.result.now (length ks)) c.kinds-kinds.ensures.value
     ∙ ap (λ (rs : List ℕ). groups_of n.table.kinds rs (channels_of n.table)) c.deref.ensures.value)))
-    (subst (λ (t : Table). IsOpened t n.replies c.args.depth c.in_ok-machine.machine) same
-    (subst (λ (rs : List Reply). IsOpened t0 rs c.args.depth c.in_ok-machine.machine) c.replies.ensures c.in_ok-machine.ensures))
+    (subst (λ (t : Table). IsOpenedNetwork t n.replies c.args.depth c.in_ok-machine.machine) same
+    (subst (λ (rs : List Reply). IsOpenedNetwork t0 rs c.args.depth c.in_ok-machine.machine) c.replies.ensures c.in_ok-machine.ensures))
     c.in_ok-course.ensures.run (c.in_ok-course.ensures.size ∙ ap (λ (t : Table). length t.kinds) (c.in_ok-plan.ensures.table ∙ same)) c.ending-ending.ensures
     c.deref-4.ensures.value c.deref-5.ensures.value c.deref-6.ensures.value c.deref-7.ensures.value c.in_ok-text.ensures c.is_sound.ensures

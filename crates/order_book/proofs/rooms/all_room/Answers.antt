@@ -1,8 +1,8 @@
 use Rattle.std.proofs.Common.{◌≡◌, ◌≤◌, ◌+◌, arith, take, ap}
 use Rattle.std.specs.Prelude.{sum_by}
 use Rattle.std.proofs.lemmas.List.Sums.{sum_by-take-le}
-use Rattle.script.specs.ScriptViews.{lists_of}
-use Rattle.script.specs.Scripts.{operation_count, total_count}
+use Rattle.script_lines.specs.Views.{lists_of}
+use Rattle.script_lines.specs.Lines.{operation_count, total_count}
 use Rattle.order_book.proofs.Counts.{lists_more}
 use Rattle.order_book.proofs.rooms.all_room.Given.{Over}
 use Rattle.order_book.proofs.rooms.all_room.Goals as goal

@@ -1,7 +1,7 @@
 use Rattle.std.proofs.Common.{◌≡◌, take}
 use Rattle.std.specs.Prelude.{sum_by}
-use Rattle.script.specs.ScriptViews.{lists_of}
-use Rattle.script.specs.Scripts.{operation_count}
+use Rattle.script_lines.specs.Views.{lists_of}
+use Rattle.script_lines.specs.Lines.{operation_count}
 use Rattle.order_book.proofs.rooms.all_room.Given as goal
 
 abbrev pub invariant-loop-script : goal.invariant-loop-script

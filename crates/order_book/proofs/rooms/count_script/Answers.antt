@@ -1,9 +1,9 @@
 use Rattle.std.proofs.Common.{◌≡◌, ◌+◌, ◌≤◌, ℕ, List, arith, take, slice_index}
 use Rattle.std.specs.Prelude.{sum_by}
-use Rattle.script.specs.declared.line.Line.{Line}
-use Rattle.script.specs.declared.line.Line.TheVariants.{Load}
-use Rattle.script.specs.Scripts.{operation_count}
-use Rattle.script_follower.specs.Homes.{line_home_count}
+use Rattle.script_lines.specs.declared.line.Line.{Line}
+use Rattle.script_lines.specs.declared.line.Line.TheVariants.{Load}
+use Rattle.script_lines.specs.Lines.{operation_count}
+use Rattle.one_order.specs.Homes.{line_home_count}
 use Rattle.order_book.proofs.Counts.{count_more, count_within, script_home_within}
 use Rattle.order_book.proofs.rooms.count_script.Goals as goal
 

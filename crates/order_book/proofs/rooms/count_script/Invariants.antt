@@ -1,6 +1,6 @@
 use Rattle.std.proofs.Common.{◌≡◌, ◌+◌, ◌<◌, ℕ, take, slice_index}
 use Rattle.std.specs.Prelude.{sum_by}
-use Rattle.script_follower.specs.Homes.{line_home_count}
+use Rattle.one_order.specs.Homes.{line_home_count}
 use Rattle.order_book.proofs.rooms.count_script.Given as goal
 
 -- each count has risen by that of the lines so far

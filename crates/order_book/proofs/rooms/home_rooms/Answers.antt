@@ -2,9 +2,9 @@ use Rattle.std.proofs.Common.{◌≡◌, ◌+◌, ◌≤◌, arith, ap, take, sl
 use Rattle.std.specs.Prelude.{sum_by}
 use Rattle.std.proofs.lemmas.List.{get_or-replicate}
 use Rattle.std.proofs.lemmas.List.Sums.{sum_by-take-le}
-use Rattle.script.specs.ScriptViews.{lists_of}
-use Rattle.script.specs.Scripts.{operation_count, total_count}
-use Rattle.script_follower.specs.Homes.{script_home_count}
+use Rattle.script_lines.specs.Views.{lists_of}
+use Rattle.script_lines.specs.Lines.{operation_count, total_count}
+use Rattle.one_order.specs.Homes.{script_home_count}
 use Rattle.order_book.proofs.Counts.{lists_more, home_within}
 use Rattle.order_book.proofs.rooms.home_rooms.Goals as goal
 

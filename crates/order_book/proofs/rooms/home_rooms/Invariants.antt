@@ -1,7 +1,7 @@
 use Rattle.std.proofs.Common.{◌≡◌, ◌<◌, ℕ, take, slice_index}
 use Rattle.std.specs.Prelude.{sum_by}
-use Rattle.script.specs.ScriptViews.{lists_of}
-use Rattle.script_follower.specs.Homes.{script_home_count}
+use Rattle.script_lines.specs.Views.{lists_of}
+use Rattle.one_order.specs.Homes.{script_home_count}
 use Rattle.order_book.proofs.rooms.home_rooms.Given as goal
 
 -- each count is that of the scripts so far

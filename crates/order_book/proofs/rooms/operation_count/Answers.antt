@@ -1,9 +1,9 @@
 use Rattle.std.proofs.Common.{◌≡◌, ◌≤◌, ◌+◌, List, arith, take, ◌∙◌, ap}
 use Rattle.std.specs.Prelude.{sum_by}
 use Rattle.std.proofs.lemmas.List.{take_all}
-use Rattle.script.specs.declared.line.Line.{Line}
-use Rattle.script.specs.declared.line.Line.TheVariants.{Load}
-use Rattle.script.specs.Scripts.{operations_of, operation_count}
+use Rattle.script_lines.specs.declared.line.Line.{Line}
+use Rattle.script_lines.specs.declared.line.Line.TheVariants.{Load}
+use Rattle.script_lines.specs.Lines.{operations_of, operation_count}
 use Rattle.order_book.proofs.Counts.{count_more, count_within}
 use Rattle.order_book.proofs.rooms.operation_count.Goals as goal
 

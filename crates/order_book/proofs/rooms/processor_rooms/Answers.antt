@@ -1,7 +1,7 @@
 use Rattle.std.proofs.Common.{◌≡◌, ◌<◌, ◌≤◌, ◌+◌, refl, ◌∙◌, sym, ap, arith, length, get_or-set_other, length-set}
 use Rattle.std.proofs.lemmas.List.Sums.{sum_by-take-le}
-use Rattle.script.specs.ScriptViews.{lists_of}
-use Rattle.script.specs.Scripts.{operation_count, total_count}
+use Rattle.script_lines.specs.Views.{lists_of}
+use Rattle.script_lines.specs.Lines.{operation_count, total_count}
 use Rattle.order_book.proofs.Counts.{lists_more, lines_at, zeros_at, counts_more}
 use Rattle.order_book.proofs.rooms.processor_rooms.Goals as goal
 

@@ -1,6 +1,6 @@
 use Rattle.std.proofs.Common.{◌≡◌, ◌<◌, ◌≤◌, ℕ, length, slice_index}
-use Rattle.script.specs.ScriptViews.{lists_of}
-use Rattle.script.specs.Scripts.{operation_count, script_of}
+use Rattle.script_lines.specs.Views.{lists_of}
+use Rattle.script_lines.specs.Lines.{operation_count, script_of}
 use Rattle.order_book.proofs.rooms.processor_rooms.Given as goal
 
 -- the scripts so far have their counts, and the others 0

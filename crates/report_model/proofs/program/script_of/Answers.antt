@@ -1,5 +1,5 @@
 use Rattle.std.proofs.Common.{List, sym, subst}
-use Rattle.script.specs.declared.line.Line.{Line}
+use Rattle.script_lines.specs.declared.line.Line.{Line}
 use Rattle.report_model.specs.Programs.{AreSpinsShort}
 use Rattle.report_model.proofs.Scripted.{accepted_spins, script_none, script_some}
 use Rattle.report_model.proofs.program.script_of.Goals as goal

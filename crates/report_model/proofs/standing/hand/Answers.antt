@@ -1,5 +1,5 @@
 use Rattle.std.proofs.Common.{◌∙◌, sym, drop, arith}
-use Rattle.script.specs.declared.line.Line.TheVariants.{Load}
+use Rattle.script_lines.specs.declared.line.Line.TheVariants.{Load}
 use Rattle.report_model.proofs.Scripted.{few_at, finished_leaves_none, handed_enough}
 use Rattle.report_model.proofs.standing.hand.Goals as goal
 

@@ -4,7 +4,7 @@ use Rattle.std.specs.Prelude.{min}
 use Rattle.std.proofs.lemmas.List.{length-map}
 use Rattle.torus.specs.Shape.{tiles_of}
 use Rattle.history.specs.Seats.{Knowing}
-use Rattle.core_machine.specs.Machine.{core_after}
+use Rattle.core_laws.specs.Machine.{core_after}
 use Rattle.run_command.specs.Workers.{crew, new_worker}
 use Rattle.run_command.proofs.ByWorkers.{IsCrew, crew_made, crew_whole, made_by_workers, seats_count, seats_own}
 use Rattle.run_command.proofs.Watched.{hears_workers}

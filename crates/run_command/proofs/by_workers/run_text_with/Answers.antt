@@ -3,7 +3,7 @@ use Rattle.std.proofs.Common.{Result, subst, sym}
 use Rattle.std.proofs.lemmas.Result.{err_from_is_err_and}
 use Rattle.std.specs.Str.Lines.{lines}
 use Rattle.script.specs.declared.fault.LineFault.{LineFault}
-use Rattle.order_abstract.specs.Load.{Load}
+use Rattle.one_order.specs.Load.{Load}
 use Rattle.program_fault.specs.Outcome.{IsReadFault, IsTextsFault}
 use Rattle.commands.specs.Run.{IsNoFault}
 use Rattle.machine_core.specs.Loading.{HasLoaded, load_by}

@@ -2,8 +2,8 @@
 use Rattle.std.proofs.Common.{◌≡◌, ◌+◌, List, Some, ap, arith, length, subst, take}
 use Rattle.std.specs.Prelude.{OnOk}
 use Rattle.torus.specs.declared.step.Step.{Step}
-use Rattle.core_machine.specs.Machine.{core_after}
-use Rattle.core_machine.specs.Moves.{moves_from}
+use Rattle.core_laws.specs.Machine.{core_after}
+use Rattle.core_laws.specs.MachineMoves.{moves_from}
 use Rattle.machine_core.specs.Clocked.{clocked_round}
 use Rattle.program_fault.specs.Done.{output}
 use Rattle.schedule_commands.specs.Line.{text_of}

@@ -3,7 +3,7 @@ use Rattle.std.proofs.Common.{◌≡◌, ℕ, ◌+◌, [], List, length, true, r
 use Rattle.std.proofs.lemmas.Result.{err_from_is_err_and}
 use Rattle.torus.specs.Shape.{Shape}
 use Rattle.torus.specs.declared.step.Step.{Step}
-use Rattle.core_machine.specs.Machine.{Core}
+use Rattle.core_laws.specs.Machine.{Core}
 use Rattle.machine_core.specs.Clocked.{clocked_round}
 use Rattle.machine_core.proofs.Rounds.{same_shape}
 use Rattle.schedule_commands.specs.Turned.{AreTurned, HasChoiceRoom}

@@ -1,6 +1,6 @@
 use Rattle.std.proofs.Common.{[], true}
-use Rattle.order_abstract.specs.Load.{Load}
-use Rattle.core_machine.specs.Machine.{IsAfter}
+use Rattle.one_order.specs.Load.{Load}
+use Rattle.core_laws.specs.Machine.{IsAfter}
 use Rattle.program_fault.specs.Done.{output}
 use Rattle.schedule_commands.specs.Turned.{AreTurned, HasChoiceRoom}
 use Rattle.schedule_commands.proofs.InRounds.{HasPut}

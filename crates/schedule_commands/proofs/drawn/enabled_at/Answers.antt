@@ -3,7 +3,7 @@ use Rattle.std.proofs.Common.{Bool, sym, ◌∙◌, arith, slice_get}
 use Rattle.std.specs.Prelude.{is_some}
 use Rattle.torus.specs.declared.step.Step.{Step}
 use Rattle.core_laws.specs.Core.{step}
-use Rattle.core_machine.specs.Machine.{Core, built_to}
+use Rattle.core_laws.specs.Machine.{Core, built_to}
 use Rattle.schedule_commands.specs.Drawn.{enabled_now}
 use Rattle.schedule_commands.proofs.Drawing.{found_here, found_later, found_none, found_past}
 use Rattle.schedule_commands.proofs.drawn.enabled_at.Goals as goal

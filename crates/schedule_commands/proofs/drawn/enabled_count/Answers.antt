@@ -2,7 +2,7 @@
 use Rattle.std.specs.Prelude.{is_some}
 use Rattle.torus.specs.declared.step.Step.{Step}
 use Rattle.core_laws.specs.Core.{step}
-use Rattle.core_machine.specs.Machine.{built_to}
+use Rattle.core_laws.specs.Machine.{built_to}
 use Rattle.schedule_commands.proofs.Drawing.{all_counted, count_more, few_more}
 use Rattle.schedule_commands.proofs.drawn.enabled_count.Goals as goal
 

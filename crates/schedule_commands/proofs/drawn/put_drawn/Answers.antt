@@ -3,7 +3,7 @@ use Rattle.std.proofs.Common.{◌≡◌, ℕ, ◌-◌, List, [], ◌∷◌, refl
 use Rattle.torus.specs.declared.step.Step.{Step}
 use Rattle.std.proofs.lemmas.Result.{err_from_is_err_and}
 use Rattle.core_laws.specs.Core.{round}
-use Rattle.core_machine.specs.Machine.{Core}
+use Rattle.core_laws.specs.Machine.{Core}
 use Rattle.machine_core.proofs.Rounds.{same_shape}
 use Rattle.schedule_commands.specs.Drawn.{drawn_of, enabled_now}
 use Rattle.schedule_commands.proofs.Drawing.{HasDrawn, draw_front, draw_more, drawn_led, drawn_took, no_draw_allowed, no_draw_finished, no_draw_idle, none_drawn_at}

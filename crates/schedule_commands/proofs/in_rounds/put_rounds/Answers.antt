@@ -3,7 +3,7 @@ use Rattle.std.proofs.Common.{◌≡◌, ℕ, ◌+◌, [], false, sym, ap, ◌�
 use Rattle.std.proofs.lemmas.Result.{err_from_is_err_and}
 use Rattle.torus.specs.Shape.{Shape}
 use Rattle.core_laws.specs.Core.{round}
-use Rattle.core_machine.specs.Machine.{Core}
+use Rattle.core_laws.specs.Machine.{Core}
 use Rattle.machine_core.proofs.Rounds.{same_shape}
 use Rattle.schedule_commands.proofs.InRounds.{as_allowed, enough, none_put, one_more, some_put}
 use Rattle.schedule_commands.proofs.in_rounds.put_rounds.Goals as goal

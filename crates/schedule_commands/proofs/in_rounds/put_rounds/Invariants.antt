@@ -1,7 +1,7 @@
 use Rattle.std.proofs.Common.{◌≡◌, [], false}
-use Rattle.order_abstract.specs.Load.{Load}
+use Rattle.one_order.specs.Load.{Load}
 use Rattle.core_laws.specs.Core.{round}
-use Rattle.core_machine.specs.Machine.{IsAfter}
+use Rattle.core_laws.specs.Machine.{IsAfter}
 use Rattle.program_fault.specs.Done.{output}
 use Rattle.schedule_commands.proofs.InRounds.{HasPut}
 use Rattle.schedule_commands.proofs.in_rounds.put_rounds.Given as goal

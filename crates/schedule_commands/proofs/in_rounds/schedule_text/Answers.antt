@@ -3,7 +3,7 @@ use Rattle.std.proofs.Common.{false, Result, ap, ◌∙◌}
 use Rattle.std.proofs.lemmas.Result.{err_from_is_err_and}
 use Rattle.std.specs.Str.Lines.{lines}
 use Rattle.script.specs.declared.fault.LineFault.{LineFault}
-use Rattle.order_abstract.specs.Load.{Load}
+use Rattle.one_order.specs.Load.{Load}
 use Rattle.core_laws.specs.Core.{round}
 use Rattle.machine_core.specs.Loading.{HasLoaded, load_by}
 use Rattle.schedule_commands.proofs.Told.{rounds_front, rounds_last, rounds_whole}

@@ -1,7 +1,7 @@
 -- What the three texts ask for was read and loaded.
 use Rattle.std.proofs.Common.{refl}
 use Rattle.std.specs.Str.Lines.{lines}
-use Rattle.order_abstract.specs.Load.{load_of}
+use Rattle.one_order.specs.Load.{load_of}
 use Rattle.schedule_commands.proofs.Read.{all_read}
 use Rattle.schedule_commands.proofs.moves.open_texts.Goals as goal
 

@@ -4,7 +4,7 @@ use Rattle.std.proofs.Common.{append-nil}
 use Rattle.std.proofs.lemmas.List.{at_drop_all, at_drop_more}
 use Rattle.std.proofs.lemmas.Result.{err_from_is_err_and}
 use Rattle.torus.specs.declared.step.Step.{Step}
-use Rattle.core_machine.specs.Machine.{core_after}
+use Rattle.core_laws.specs.Machine.{core_after}
 use Rattle.schedule_commands.specs.Line.{text_of}
 use Rattle.program_fault.specs.Done.{TookAll}
 use Rattle.schedule_commands.specs.Output.{headed}

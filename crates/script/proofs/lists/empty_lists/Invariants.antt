@@ -1,5 +1,5 @@
 use Rattle.std.proofs.Common.{◌≡◌, [], replicate, vec_len}
-use Rattle.script.specs.ScriptViews.{lists_of}
+use Rattle.script_lines.specs.Views.{lists_of}
 use Rattle.script.proofs.lists.empty_lists.Given as goal
 
 abbrev pub invariant-loop-tile : goal.invariant-loop-tile

@@ -1,6 +1,6 @@
 use Rattle.std.proofs.Common.{ℕ, ◌∙◌, arith, map, take, inl, inr}
 use Rattle.std.specs.Str.Lines.{lines}
-use Rattle.script.specs.ScriptViews.{lists_of}
+use Rattle.script_lines.specs.Views.{lists_of}
 use Rattle.script.proofs.SevenWords.{scripts_step, scripts_fault}
 use Rattle.script.proofs.Told.{told}
 use Rattle.script.proofs.scripts.read_lists.Goals as goal

@@ -1,7 +1,8 @@
 use Rattle.std.proofs.Common.{◌≡◌, ◌+◌, ◌≤◌, [], length, replicate, vec_len}
 use Rattle.std.specs.Str.Lines.{lines}
 use Rattle.script.specs.Scripts.{scripts_from}
-use Rattle.script.specs.ScriptViews.{lists_of, IsCounted}
+use Rattle.script_lines.specs.Views.{lists_of}
+use Rattle.script.specs.ScriptViews.{IsCounted}
 use Rattle.script.proofs.scripts.read_lists.Given as goal
 
 abbrev pub decreases-loop-line : goal.decreases-loop-line

@@ -1,6 +1,6 @@
 use Rattle.std.proofs.Common.{[]}
 use Rattle.core_laws.specs.Core.{Load}
-use Rattle.core_machine.specs.Machine.{IsAfter}
+use Rattle.core_laws.specs.Machine.{IsAfter}
 use Rattle.thread_tests.proofs.schedules.appended.Given as goal
 
 -- no step is made from some load

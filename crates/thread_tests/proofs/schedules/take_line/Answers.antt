@@ -1,7 +1,7 @@
 -- No step leads from the load with the line.
 use Rattle.std.proofs.Common.{[], subst}
-use Rattle.core_growth.specs.Appended.{load_with}
-use Rattle.core_machine.specs.Machine.{IsAfter}
+use Rattle.core_laws.specs.Appended.{load_with}
+use Rattle.core_laws.specs.Machine.{IsAfter}
 use Rattle.thread_tests.proofs.Fresh.{none_kept}
 use Rattle.thread_tests.proofs.schedules.take_line.Goals as goal
 

@@ -1,5 +1,5 @@
 use Rattle.std.proofs.Common.{◌≡◌, Bool, ◌∙◌, ap}
-use Rattle.script.specs.declared.line.Value.{Value}
+use Rattle.script_lines.specs.declared.line.Value.{Value}
 use Rattle.torusmem_c.specs.Appending.{is_first_last, is_second_last, numbered_line, c_value}
 use Rattle.torusmem_c.proofs.appending.line_said.Goals as goal
 

@@ -1,6 +1,6 @@
 -- The machine is finished, and the other handle holds one with its words, or none.
 use Rattle.std.proofs.Common.{refl, subst}
-use Rattle.core_machine.specs.Machine.{shown}
+use Rattle.core_laws.specs.Machine.{shown}
 use Rattle.machine_asked.specs.Asked.{Asked}
 use Rattle.machine_asked.specs.Opened.{IsOpened}
 use Rattle.torusmem_c.specs.declared.outcome.Code.TheVariants as code

@@ -1,7 +1,7 @@
 use Rattle.std.proofs.Common.{◌≡◌, ◌<◌, ℕ, List, length, slice_get, arith}
 use Rattle.std.specs.Option.{unwrap_or}
-use Rattle.core_row.specs.Row.{row_of}
-use Rattle.core_machine.specs.Machine.{built_to}
+use Rattle.core_laws.specs.Row.{row_of}
+use Rattle.core_laws.specs.Machine.{built_to}
 use Rattle.torusmem_c.proofs.Rows.{puts_more}
 use Rattle.torusmem_c.proofs.reading.put_row.Goals as goal
 

@@ -1,6 +1,6 @@
 use Rattle.std.proofs.Common.{◌≡◌, ◌++◌, length, take, drop}
-use Rattle.core_row.specs.Row.{row_of}
-use Rattle.core_machine.specs.Machine.{built_to}
+use Rattle.core_laws.specs.Row.{row_of}
+use Rattle.core_laws.specs.Machine.{built_to}
 use Rattle.torusmem_c.proofs.reading.put_row.Given as goal
 
 -- the words so far stand at the front of the buffer

@@ -1,6 +1,6 @@
 use Rattle.std.proofs.Common.{◌≡◌, ◌≤◌, ◌<◌, true, false, ℕ, List, length, is_some, slice_get, arith}
-use Rattle.core_row.specs.Row.{row_of}
-use Rattle.core_machine.specs.Machine.{built_to}
+use Rattle.core_laws.specs.Row.{row_of}
+use Rattle.core_laws.specs.Machine.{built_to}
 use Rattle.torusmem_c.proofs.Rows.{row_small, goes_on, ends}
 use Rattle.torusmem_c.proofs.reading.row_length.Goals as goal
 

@@ -1,6 +1,6 @@
 use Rattle.std.proofs.Common.{◌-◌, ◌≤◌, length}
-use Rattle.core_row.specs.Row.{row_of}
-use Rattle.core_machine.specs.Machine.{built_to}
+use Rattle.core_laws.specs.Row.{row_of}
+use Rattle.core_laws.specs.Machine.{built_to}
 use Rattle.torusmem_c.proofs.reading.row_length.Given as goal
 
 -- the row has so many words at least

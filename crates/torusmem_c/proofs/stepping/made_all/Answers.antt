@@ -1,10 +1,10 @@
 use Rattle.std.proofs.Common.{◌≡◌, ◌≤◌, ◌-◌, ◌+◌, ◌++◌, ℕ, List, length, sym, ◌∙◌, ap, subst, arith}
 use Rattle.std.proofs.lemmas.List.{at_drop_all}
 use Rattle.torus.specs.declared.step.Step.{Step}
-use Rattle.core_progress.specs.Rounds.{moves_in}
+use Rattle.core_laws.specs.Rounds.{moves_in}
 use Rattle.core_laws.specs.Core.{step}
-use Rattle.core_machine.specs.Machine.{Core, IsAfter, built_to, core_after}
-use Rattle.core_machine.proofs.Machines.{after_steps}
+use Rattle.core_laws.specs.Machine.{Core, IsAfter, built_to, core_after}
+use Rattle.core_laws.proofs.Machines.{after_steps}
 use Rattle.torusmem_c.specs.declared.outcome.Code.TheVariants as code
 use Rattle.torusmem_c.specs.declared.stepping.AttemptRecord.{AttemptRecord}
 use Rattle.torusmem_c.specs.Outcome.{c_outcome}

@@ -1,5 +1,5 @@
 use Rattle.std.proofs.Common.{◌≡◌, drop}
-use Rattle.core_machine.specs.Machine.{core_after}
+use Rattle.core_laws.specs.Machine.{core_after}
 use Rattle.torusmem_c.specs.Steps.{steps_named}
 use Rattle.torusmem_c.proofs.stepping.made_all.Given as goal
 

@@ -1,6 +1,6 @@
 use Rattle.std.proofs.Common.{ℕ, subst, arith, sym}
 use Rattle.std.specs.Prelude.{Contains}
-use Rattle.trace_why.specs.Values.{IsOverfull}
+use Rattle.trace_why.specs.Values.{IsOverfullWord}
 use Rattle.trace_why.proofs.Listing.{adding_skip, adding_one}
 use Rattle.trace_why.proofs.Trying.{IsOrNew, IsOrLeft, or_left_old, or_left_more, less_only, less_overfull}
 use Rattle.std.proofs.lemmas.Result.{err_from_is_err_and}
@@ -43,7 +43,7 @@ pub returns-in_err-add-clause-untold : goal.returns-in_err-add-clause-untold
 returns-in_err-add-clause-untold g c =
     let left = IsOrLeft c.args.events.now c.args.k c.args.address c.args.values.now.items in
     let p = err_from_is_err_and c.from_residual.result c.from_residual.ensures.1 in
-    rw p.1 (subst (λ (e : Untold). IsOverfull left c.args.bound e) (sym p.2)
+    rw p.1 (subst (λ (e : Untold). IsOverfullWord left c.args.bound e) (sym p.2)
     (less_overfull (IsOrNew c.loop-i.values.items c.left_word.result) left
     (or_left_more c.args.events.now c.args.k c.args.address c.loop-i.i c.args.values.now.items c.loop-i.values.items c.left_word.result
     c.in-Some.found c.in-Some.reply c.loop-i.invariant.only.each (omega arith) c.in-Some.ensures c.left_word.ensures)

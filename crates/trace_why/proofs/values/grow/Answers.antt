@@ -4,7 +4,7 @@ use Rattle.trace_why.proofs.Growing.{growing_none, growing, grown_all}
 use Rattle.trace_why.proofs.Trying.{reached_old, reached_one, less_only, less_overfull}
 use Rattle.std.proofs.lemmas.Result.{err_from_is_err_and}
 use Rattle.trace_why.specs.declared.untold.Untold.{Untold}
-use Rattle.trace_why.specs.Values.{IsReachedIn, IsLeftOf, IsOverfull}
+use Rattle.trace_why.specs.Values.{IsReachedIn, IsLeftOf, IsOverfullWord}
 use Rattle.trace_why.proofs.values.grow.Goals as goal
 
 pub loop-value-init : goal.loop-value-init
@@ -41,7 +41,7 @@ returns-in_err-grow_one-clause-untold g c =
     let at = slice_get-get_or c.deref-value-items.result.now c.loop-value.value-index _ l in
     let reached = IsReachedIn c.args.values.now.items c.args.calls.now 1 in
     let p = err_from_is_err_and c.from_residual-in_err-grow_one.result c.from_residual-in_err-grow_one.ensures.1 in
-    rw p.1 (subst (λ (e : Untold). IsOverfull reached c.args.bound e) (sym p.2)
+    rw p.1 (subst (λ (e : Untold). IsOverfullWord reached c.args.bound e) (sym p.2)
     (less_overfull (IsLeftOf c.loop-value.values.items c.args.calls.now _) reached
     (reached_one c.args.values.now.items c.deref-value-items.result.now c.loop-value.values.items c.args.calls.now _ c.loop-value.value-index
     c.loop-value.invariant.only.each c.loop-value.invariant.growing.same at)

@@ -6,7 +6,7 @@ use Rattle.trace_why.proofs.Growing.{growing_one_none, growing_one, grown_one}
 use Rattle.trace_why.proofs.Trying.{IsOrNew, left_old, left_more, less_only, less_overfull}
 use Rattle.std.proofs.lemmas.Result.{err_from_is_err_and}
 use Rattle.trace_why.specs.declared.untold.Untold.{Untold}
-use Rattle.trace_why.specs.Values.{IsLeftOf, IsOverfull}
+use Rattle.trace_why.specs.Values.{IsLeftOf, IsOverfullWord}
 use Rattle.trace_why.proofs.values.grow_one.Goals as goal
 
 pub loop-found-init : goal.loop-found-init
@@ -43,7 +43,7 @@ returns-in_err-add-clause-untold g c =
     let at = slice_get-get_or c.args.calls.now c.loop-found.found-index _ l in
     let left = IsLeftOf c.args.values.now.items c.args.calls.now c.args.value in
     let p = err_from_is_err_and c.from_residual.result c.from_residual.ensures.1 in
-    rw p.1 (subst (λ (e : Untold). IsOverfull left c.args.bound e) (sym p.2)
+    rw p.1 (subst (λ (e : Untold). IsOverfullWord left c.args.bound e) (sym p.2)
     (less_overfull (IsOrNew c.loop-found.values.items c.apply.result.0) left
     (left_more c.args.values.now.items c.loop-found.values.items c.args.calls.now c.args.value c.apply.result.0 c.loop-found.found-index _
     c.loop-found.invariant.only.each at (ap (λ (p : ℕ × Reply). p.0) c.apply.ensures))

@@ -1,5 +1,5 @@
 use Rattle.std.proofs.Common.{◌≡◌, ◌+◌, ℕ, suc, length, subst, arith, sym}
-use Rattle.trace_why.specs.Values.{IsOverfull, IsReachedIn}
+use Rattle.trace_why.specs.Values.{IsOverfullWord, IsReachedIn}
 use Rattle.trace_why.proofs.Growing.{round_more}
 use Rattle.trace_why.proofs.Trying.{reached_next, reached_later, less_only, less_overfull}
 use Rattle.std.proofs.lemmas.Result.{err_from_is_err_and}
@@ -37,7 +37,7 @@ pub returns-in_err-grow-clause-untold : goal.returns-in_err-grow-clause-untold
 returns-in_err-grow-clause-untold g c =
     let reached = IsReachedIn c.args.values.now.items c.args.calls.now (length c.args.calls.now) in
     let p = err_from_is_err_and c.from_residual.result c.from_residual.ensures.1 in
-    rw p.1 (subst (λ (e : Untold). IsOverfull reached c.args.bound e) (sym p.2)
+    rw p.1 (subst (λ (e : Untold). IsOverfullWord reached c.args.bound e) (sym p.2)
     (less_overfull (IsReachedIn c.loop.values.items c.args.calls.now 1) reached
     (λ v h. reached_later c.args.values.now.items c.args.calls.now (suc c.loop.counter) (length c.args.calls.now) v (omega arith)
     (reached_next c.args.values.now.items c.loop.values.items c.args.calls.now c.loop.counter c.loop.invariant.only.each v h))

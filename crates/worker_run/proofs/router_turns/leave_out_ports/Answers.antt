@@ -2,7 +2,7 @@ use Rattle.std.proofs.Common.{◌≡◌, ℕ, ◌+◌, ◌*◌, rules, subst, sy
 use Rattle.std.specs.Prelude.{false}
 use Rattle.torus.specs.declared.step.Choice.{Choice}
 use Rattle.fabric_rule.specs.Known.{enabled}
-use Rattle.worker_run.specs.Going.{Leads, at_place}
+use Rattle.worker_run.specs.Going.{LeadsSeats, at_place}
 use Rattle.worker_run.specs.RouterTurns.{start_of}
 use Rattle.worker_run.proofs.Going.{stays}
 use Rattle.worker_run.proofs.Skips.{one_left_out}
@@ -27,6 +27,6 @@ pub returns : goal.returns
 returns g c =
     let within = c.requires.within.0 in
     let all : c.loop-port.port ≡ c.args.to = omega (arith, within) in
-    subst (λ (n : ℕ). Leads (g.G.Gate.stops c.args.gate.now c.args.worker) c.args.ports c.args.run.now c.args.seat.now
+    subst (λ (n : ℕ). LeadsSeats (g.G.Gate.stops c.args.gate.now c.args.worker) c.args.ports c.args.run.now c.args.seat.now
     (at_place c.args.tile (start_of c.args.ports c.args.kind + c.args.from)) c.loop-port.run c.args.seat.now
     (at_place c.args.tile (start_of c.args.ports c.args.kind + n))) all c.loop-port.invariant

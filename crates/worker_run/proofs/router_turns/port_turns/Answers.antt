@@ -1,5 +1,5 @@
 use Rattle.std.proofs.Common.{◌≡◌, ℕ, ◌+◌, subst, arith}
-use Rattle.worker_run.specs.Going.{Leads, at_place}
+use Rattle.worker_run.specs.Going.{LeadsSeats, at_place}
 use Rattle.worker_run.specs.RouterTurns.{start_of}
 use Rattle.worker_run.proofs.Skips.{one_left_out}
 use Rattle.worker_run.proofs.router_turns.port_turns.Goals as goal
@@ -8,7 +8,7 @@ pub returns-then-port-ports-clause-leads : goal.returns-then-port-ports-clause-l
 returns-then-port-ports-clause-leads g c =
     let w = c.next_port-port.ensures.within in
     let all : c.next_port-port.result ≡ c.args.ports = omega (arith, w.1) in
-    subst (λ (n : ℕ). Leads (g.G.Gate.stops c.args.gate.now c.args.worker) c.args.ports c.args.run.now c.args.seat.now
+    subst (λ (n : ℕ). LeadsSeats (g.G.Gate.stops c.args.gate.now c.args.worker) c.args.ports c.args.run.now c.args.seat.now
     (at_place c.args.tile (start_of c.args.ports c.args.kind + c.args.from)) c.leave_out_ports.new.run c.args.seat.now
     (at_place c.args.tile (start_of c.args.ports c.args.kind + n))) all c.leave_out_ports.ensures
 

@@ -1,5 +1,5 @@
 use Rattle.std.proofs.Common.{◌≡◌, ℕ, ◌+◌, subst, arith}
-use Rattle.worker_run.specs.Going.{Leads, at_place}
+use Rattle.worker_run.specs.Going.{LeadsSeats, at_place}
 use Rattle.worker_run.specs.RouterTurns.{start_of}
 use Rattle.worker_run.proofs.Going.{leads_on, stays}
 use Rattle.worker_run.proofs.router_turns.router_turns.Goals as goal
@@ -23,6 +23,6 @@ pub returns-clause-leads : goal.returns-clause-leads
 returns-clause-leads g c =
     let within = c.loop-from.invariant.within in
     let all : c.loop-from.from ≡ c.args.ports = omega (arith, within) in
-    subst (λ (n : ℕ). Leads (g.G.Gate.stops c.args.gate.now c.args.worker) c.args.ports c.args.run.now c.args.seat.now
+    subst (λ (n : ℕ). LeadsSeats (g.G.Gate.stops c.args.gate.now c.args.worker) c.args.ports c.args.run.now c.args.seat.now
     (at_place c.args.tile (start_of c.args.ports c.args.kind)) c.loop-from.run c.loop-from.seat (at_place c.args.tile (start_of c.args.ports c.args.kind + n)))
     all c.loop-from.invariant.leads

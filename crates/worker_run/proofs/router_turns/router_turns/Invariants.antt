@@ -1,6 +1,6 @@
 use Rattle.std.proofs.Common.{◌+◌, ◌-◌, ◌≤◌}
 use Rattle.fabric.specs.Seats.{IsSeatOf}
-use Rattle.worker_run.specs.Going.{Leads, at_place}
+use Rattle.worker_run.specs.Going.{LeadsSeats, at_place}
 use Rattle.worker_run.specs.RouterTurns.{start_of}
 use Rattle.worker_run.proofs.router_turns.router_turns.Given as goal
 
@@ -9,7 +9,7 @@ abbrev pub invariant-loop-from : goal.invariant-loop-from
 invariant-loop-from g l = record {
   own : IsSeatOf l.fabric l.seat;
   within : l.from ≤ l.ports;
-  leads : Leads (g.G.Gate.stops l.gate l.worker) l.ports l.fn.run l.fn.seat (at_place l.tile (start_of l.ports l.kind)) l.run l.seat
+  leads : LeadsSeats (g.G.Gate.stops l.gate l.worker) l.ports l.fn.run l.fn.seat (at_place l.tile (start_of l.ports l.kind)) l.run l.seat
       (at_place l.tile (start_of l.ports l.kind + l.from));
 }
 

@@ -1,7 +1,7 @@
 use Rattle.std.proofs.Common.{rules, ◌≡◌, ◌↔◌, Bool, true, length, sym, ◌∙◌, subst}
 use Rattle.std.proofs.lemmas.Iterator.{YieldsList-from_slice}
 use Rattle.std.proofs.lemmas.Iterator.Search.{all_from_yields_List}
-use Rattle.fabric_rule.specs.Scripts.{AreFinished}
+use Rattle.fabric_rule.specs.AbstractScripts.{AreFinished}
 use Rattle.fabric_rule.specs.Core.{run_of, after}
 use Rattle.fabric_rule.specs.Runs.{IsAcceptedLoad}
 use Rattle.fabric_rule.specs.Machine.{all_finished}

@@ -8,7 +8,7 @@ use Rattle.fabric.specs.Seats.{Knowing, with_run, Seated}
 use Rattle.fabric.proofs.Meetings.{every_run, knows_lawful, lawful_view}
 use Rattle.fabric.proofs.Refusing.{none_behind, none_there}
 use Rattle.fabric.proofs.Seating.{seated_turn}
-use Rattle.tile_laws.specs.Agents.{agent_tile}
+use Rattle.tile.specs.Agents.{agent_tile}
 use Rattle.fabric.proofs.seats.Fabric.turn.Goals as goal
 
 pub turn_tile-requires-clause-tile : goal.turn_tile-requires-clause-tile

@@ -1,5 +1,5 @@
 use Rattle.std.proofs.Common.{◌≡◌, ℕ, ◌<◌, true, false, Some}
-use Rattle.tile_laws.specs.Agents.{TilePlace}
+use Rattle.tile.specs.Agents.{TilePlace}
 use Rattle.fabric_rule.specs.Known.{known}
 use Rattle.fabric_rule.specs.Groups.{Owns}
 use Rattle.fabric.proofs.seats.TileSeat.has_seen.Given as goal

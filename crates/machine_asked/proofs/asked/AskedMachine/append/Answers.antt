@@ -1,7 +1,7 @@
 -- The machine stands where its moves lead from the load with the line.
 use Rattle.std.proofs.Common.{◌+◌, ◌≤◌, sym, subst, ◌∙◌}
 use Rattle.std.specs.Prelude.{slice_index}
-use Rattle.script.specs.Scripts.{operations_of}
+use Rattle.script_lines.specs.Lines.{operations_of}
 use Rattle.machine_asked.specs.Asked.{Asked}
 use Rattle.machine_asked.specs.Inside.{asked_of}
 use Rattle.machine_asked.proofs.Standing.{asked_with, count_there, counts_with, few, spin_there}

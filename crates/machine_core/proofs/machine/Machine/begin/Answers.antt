@@ -1,10 +1,10 @@
 use Rattle.std.proofs.Common.{◌≡◌, ◌≤◌, ℕ, replicate, List, length, slice_index, sym, ◌∙◌, ap, arith}
 use Rattle.std.proofs.Math.Nat.{mul-le-mul}
 use Rattle.torus.specs.Shape.{tiles_of}
-use Rattle.script.specs.declared.lists.LineList.{LineList}
-use Rattle.script.specs.declared.line.Line.{Line}
-use Rattle.script.specs.Scripts.{operation_count, script_of, total_count}
-use Rattle.script.specs.ScriptViews.{lists_of}
+use Rattle.script_lines.specs.declared.lists.LineList.{LineList}
+use Rattle.script_lines.specs.declared.line.Line.{Line}
+use Rattle.script_lines.specs.Lines.{operation_count, script_of, total_count}
+use Rattle.script_lines.specs.Views.{lists_of}
 use Rattle.machine_parts.proofs.LoadingAccepted.{followable}
 use Rattle.machine_parts.specs.Core.{Load}
 use Rattle.machine_core.proofs.Begins.{Begun, is_machine, is_after_none, has_room, home_small, homes_as, tiles_as, row_as, book_as, allowed_as, part_small}

@@ -1,6 +1,6 @@
 use Rattle.std.proofs.Common.{◌+◌, ◌*◌, arith}
-use Rattle.tile_laws.specs.declared.agent.Agent.TheVariants.{Bank}
-use Rattle.tile_laws.proofs.AgentNumbers.{kind_of_number}
+use Rattle.tile.specs.declared.agent.Agent.TheVariants.{Bank}
+use Rattle.tile.proofs.AgentNumbers.{kind_of_number}
 use Rattle.machine_core.proofs.Standing.{few_tiles}
 use Rattle.machine_core.proofs.Agents.{tile_within}
 use Rattle.machine_core.proofs.Sleeping.{choice_falls_asleep}

@@ -1,5 +1,5 @@
 use Rattle.std.proofs.Common.{◌≡◌, Some, sym, ◌∙◌, ap, arith, slice_get}
-use Rattle.tile_laws.specs.Agents.{agent_tile}
+use Rattle.tile.specs.Agents.{agent_tile}
 use Rattle.machine_core.proofs.Fields.{vec_at}
 use Rattle.machine_core.proofs.Attempting.{word_in}
 use Rattle.machine_core.proofs.AskedSteps.{past_asked, tile_asked}

@@ -1,7 +1,7 @@
 use Rattle.std.proofs.Common.{◌≡◌, ◌+◌, ◌*◌, ◌<◌, ◌≤◌, None, refl, sym, ◌∙◌, ap, subst, arith}
 use Rattle.std.specs.Prelude.{is_some}
 use Rattle.torus.specs.Shape.{Shape, dims_of, tiles_of}
-use Rattle.machine_parts.specs.Moves.{enabled_step}
+use Rattle.machine_parts.specs.ProgressMoves.{enabled_step}
 use Rattle.machine_parts.specs.Machine.{Core, IsAfter, built_to}
 use Rattle.machine_core.specs.Rounds.{first_in}
 use Rattle.machine_core.proofs.Rounds.{all_parts}

@@ -1,11 +1,11 @@
 use Rattle.std.proofs.Common.{rules, ◌≡◌, ◌↔◌, Bool, true, length, sym, ◌∙◌, ap, subst}
 use Rattle.std.proofs.lemmas.Iterator.{YieldsList-from_slice}
 use Rattle.std.proofs.lemmas.Iterator.Search.{all_from_yields_List}
-use Rattle.script_follower.specs.Following.{is_finished}
-use Rattle.machine_parts.specs.Scripts.{AreFinished}
+use Rattle.one_order.specs.Following.{is_finished}
+use Rattle.machine_parts.specs.AbstractScripts.{AreFinished}
 use Rattle.machine_parts.specs.Placed.{PlacedTile}
 use Rattle.machine_parts.specs.Core.{run_of}
-use Rattle.machine_parts.specs.Moves.{IsLive}
+use Rattle.machine_parts.specs.ProgressMoves.{IsLive}
 use Rattle.machine_parts.specs.Machine.{Core, built_to, all_finished}
 use Rattle.machine_parts.proofs.Machines.{finished_of_machine}
 use Rattle.machine_parts.proofs.Moves.{lives}

@@ -1,4 +1,4 @@
-use Rattle.script.specs.ScriptViews.{lists_of}
+use Rattle.script_lines.specs.Views.{lists_of}
 use Rattle.machine_core.proofs.Begins.{accepted_as}
 use Rattle.machine_core.proofs.machine.Machine.load.Goals as goal
 

@@ -3,9 +3,9 @@ use Rattle.machine_core.specs.Inside.{core_of}
 use Rattle.machine_core.proofs.Fields.{follows, stays}
 use Rattle.machine_core.proofs.Standing.{none_past}
 use Rattle.machine_core.proofs.Agents.{as_attempt}
-use Rattle.tile_laws.specs.declared.agent.Agent.TheVariants.{Processor, Router, Bank}
-use Rattle.tile_laws.specs.Agents.{agent_number}
-use Rattle.tile_laws.proofs.AgentNumbers.{number_is}
+use Rattle.tile.specs.declared.agent.Agent.TheVariants.{Processor, Router, Bank}
+use Rattle.tile.specs.Agents.{agent_number}
+use Rattle.tile.proofs.AgentNumbers.{number_is}
 use Rattle.machine_core.proofs.machine.Machine.step.Goals as goal
 
 pub returns-then-tile-len-clause-step : goal.returns-then-tile-len-clause-step

@@ -5,9 +5,9 @@ use Rattle.std.proofs.lemmas.Option.{same_Some}
 use Rattle.torus.specs.declared.step.Stepped.TheVariants.{Moved}
 use Rattle.flit_buffer.specs.Words.{word_of}
 use Rattle.flit_buffer.specs.declared.word_op.WordOp.{WordOp}
-use Rattle.tile_laws.specs.declared.agent.Agent.TheVariants.{Bank}
-use Rattle.tile_laws.specs.Agents.{agent_op, agent_absorbed}
-use Rattle.tile_laws.proofs.AgentNumbers.{tile_of_number, kind_of_number}
+use Rattle.tile.specs.declared.agent.Agent.TheVariants.{Bank}
+use Rattle.tile.specs.Agents.{agent_op, agent_absorbed}
+use Rattle.tile.proofs.AgentNumbers.{tile_of_number, kind_of_number}
 use Rattle.machine_parts.specs.Placed.{PlacedTile, agent_attempted}
 use Rattle.machine_core.specs.declared.noting.Counts.{Counts}
 use Rattle.machine_core.specs.Noted.{HasRoomToNote, counts_of}

@@ -3,9 +3,9 @@ use Rattle.std.specs.Vec.{with_item}
 use Rattle.torus.specs.declared.step.Stepped.TheVariants.{Moved}
 use Rattle.flit_buffer.specs.Words.{word_of}
 use Rattle.flit_buffer.specs.declared.word_op.WordOp.{WordOp}
-use Rattle.tile_laws.specs.declared.agent.Agent.TheVariants.{Router}
-use Rattle.tile_laws.specs.Agents.{agent_op, agent_absorbed}
-use Rattle.tile_laws.proofs.AgentNumbers.{tile_of_number, kind_of_number}
+use Rattle.tile.specs.declared.agent.Agent.TheVariants.{Router}
+use Rattle.tile.specs.Agents.{agent_op, agent_absorbed}
+use Rattle.tile.proofs.AgentNumbers.{tile_of_number, kind_of_number}
 use Rattle.machine_parts.specs.Placed.{PlacedTile, agent_attempted}
 use Rattle.machine_core.proofs.Fields.{Led, vec_at, with_parts, moved_tile, idle_tile}
 use Rattle.machine_core.proofs.Standing.{few_tiles}

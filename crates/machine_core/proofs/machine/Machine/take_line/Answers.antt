@@ -3,8 +3,8 @@ use Rattle.std.proofs.Common.{Some}
 use Rattle.std.specs.Prelude.{sum}
 use Rattle.std.specs.Vec.{with_item}
 use Rattle.torus.specs.Shape.{tiles_of}
-use Rattle.script.specs.Scripts.{operations_of}
-use Rattle.script_follower.specs.Homes.{line_home_count}
+use Rattle.script_lines.specs.Lines.{operations_of}
+use Rattle.one_order.specs.Homes.{line_home_count}
 use Rattle.machine_parts.specs.Placed.{PlacedTile}
 use Rattle.machine_parts.specs.Appended.{changed_at}
 use Rattle.machine_parts.specs.Grown.{tile_given, tile_wider, tiles_given, AreAsReported}

@@ -1,6 +1,6 @@
 use Rattle.std.proofs.Common.{◌≡◌, ◌≢◌, ◌+◌, sym, ◌∙◌, ap, arith, vec_len}
 use Rattle.torus.specs.Shape.{tiles_of}
-use Rattle.core_wake.specs.Waking.{processors}
+use Rattle.core_laws.specs.Waking.{processors}
 use Rattle.machine_parts.specs.Awake.{Awake, with_bits}
 use Rattle.machine_parts.proofs.SetFlags.{added_done, added_elsewhere}
 use Rattle.machine_parts.proofs.flags.WakeFlags.wake.Goals as goal

@@ -1,5 +1,5 @@
 use Rattle.std.proofs.Common.{ℕ, ◌*◌, List, ◌∙◌, ap}
-use Rattle.core_wake.specs.Waking.{processors}
+use Rattle.core_laws.specs.Waking.{processors}
 use Rattle.machine_parts.proofs.SetFlags.{set_at, processor_more, still_tell}
 use Rattle.machine_parts.proofs.flags.WakeFlags.wake_processors.Goals as goal
 

@@ -1,5 +1,5 @@
 use Rattle.std.proofs.Common.{◌≡◌, false}
-use Rattle.core_wake.specs.Waking.{processors}
+use Rattle.core_laws.specs.Waking.{processors}
 use Rattle.machine_parts.specs.Awake.{with_bits}
 use Rattle.machine_parts.proofs.flags.WakeFlags.wake_processors.Given as goal
 

@@ -1,7 +1,7 @@
 use Rattle.std.proofs.Common.{refl, sym, ◌∙◌, ap}
 use Rattle.torus.specs.declared.step.Choice.{Choice}
 use Rattle.torus.specs.declared.step.Choice.TheVariants.{TakeFrom, Put, CreditOf}
-use Rattle.core_wake.specs.Routers.{ports_woken, router_moved}
+use Rattle.core_laws.specs.Routers.{ports_woken, router_moved}
 use Rattle.machine_parts.specs.Ports.{flags_of}
 use Rattle.machine_parts.specs.InsidePorts.{awake_ports}
 use Rattle.machine_parts.proofs.PortFlags.{taken, put, credited, others}

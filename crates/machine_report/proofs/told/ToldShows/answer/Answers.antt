@@ -1,4 +1,4 @@
-use Rattle.core_machine.specs.Machine.{shown}
+use Rattle.core_laws.specs.Machine.{shown}
 use Rattle.machine_report.specs.Report.{answer_row}
 use Rattle.machine_report.proofs.Rows.{row_told}
 use Rattle.machine_report.proofs.told.ToldShows.answer.Goals as goal

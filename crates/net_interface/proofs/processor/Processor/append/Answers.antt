@@ -1,4 +1,4 @@
-use Rattle.script_follower.specs.ProcessorRecord.{ready}
+use Rattle.one_order.specs.ProcessorRecord.{ready}
 use Rattle.net_interface.proofs.processor.Processor.append.Goals as goal
 
 pub invariant_of-self-then-self-eq0 : goal.invariant_of-self-then-self-eq0

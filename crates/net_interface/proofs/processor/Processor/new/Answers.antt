@@ -1,7 +1,7 @@
 use Rattle.std.proofs.Common.{sym, ap, length, arith, refl}
 use Rattle.flit_buffer.specs.Channel.{first_of}
 use Rattle.flit_buffer.specs.Wants.{PortEnds}
-use Rattle.script_follower.specs.ProcessorRecord.{ready}
+use Rattle.one_order.specs.ProcessorRecord.{ready}
 use Rattle.net_interface.proofs.processor.Processor.new.Goals as goal
 
 pub invariant_of-result : goal.invariant_of-result

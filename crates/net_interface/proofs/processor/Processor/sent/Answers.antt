@@ -1,5 +1,5 @@
 use Rattle.std.proofs.Common.{◌+◌, [], arith, refl}
-use Rattle.script_follower.specs.ProcessorRecord.{ready}
+use Rattle.one_order.specs.ProcessorRecord.{ready}
 use Rattle.net_interface.specs.Inside.{processor_place_of, flits_in_course}
 use Rattle.net_interface.proofs.Course.{some_due, put_within, left_more, left_none, sent_place}
 use Rattle.net_interface.proofs.processor.Processor.sent.Goals as goal

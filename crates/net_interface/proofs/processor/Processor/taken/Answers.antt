@@ -1,6 +1,6 @@
 use Rattle.std.proofs.Common.{ap, sym}
 use Rattle.flit_buffer.specs.Channel.{first_of}
-use Rattle.script_follower.specs.ProcessorRecord.{ready}
+use Rattle.one_order.specs.ProcessorRecord.{ready}
 use Rattle.net_interface.proofs.processor.Processor.taken.Goals as goal
 
 pub invariant_of-self-then-self-eq0 : goal.invariant_of-self-then-self-eq0

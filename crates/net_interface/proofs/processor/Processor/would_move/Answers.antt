@@ -4,7 +4,7 @@ use Rattle.std.specs.Option.{IfSome}
 use Rattle.flit_buffer.specs.Wants.{PortEnds, want_op}
 use Rattle.flit_buffer.specs.Words.{word_of}
 use Rattle.flit_buffer.specs.declared.want.Want.{Want}
-use Rattle.script_follower.specs.ProcessorTable.{processor_wants}
+use Rattle.one_order.specs.ProcessorTable.{processor_wants}
 use Rattle.net_interface.specs.Place.{ProcessorPlace}
 use Rattle.net_interface.proofs.processor.Processor.would_move.Goals as goal
 

@@ -2,10 +2,10 @@ use Rattle.std.proofs.Common.{◌+◌, ◌<◌, ◌∷◌, [], length, sym, subs
 use Rattle.std.proofs.lemmas.List.{get_or_read}
 use Rattle.torus.specs.declared.step.OpId.{OpId}
 use Rattle.packet.specs.declared.kinds.Op.TheVariants.{Load as Loads}
-use Rattle.script_follower.specs.ProcessorRecord.{ProcessorRecord, answered_by, answer_of}
-use Rattle.script_follower.specs.Following.{Following, left_of}
-use Rattle.script_follower.proofs.Histories.{with_answer}
-use Rattle.script_follower.proofs.Shown.{left_after_answer}
+use Rattle.one_order.specs.ProcessorRecord.{ProcessorRecord, answered_by, answer_of}
+use Rattle.one_order.specs.Following.{Following, left_of}
+use Rattle.one_order.proofs.Histories.{with_answer}
+use Rattle.one_order.proofs.Shown.{left_after_answer}
 use Rattle.net_interface.specs.Inside.{record_of, AreOperationsOf}
 use Rattle.net_interface.proofs.Recorded.{answers_within, issued_there, after_answered, answered_record}
 use Rattle.net_interface.proofs.record.Record.answer.Goals as goal

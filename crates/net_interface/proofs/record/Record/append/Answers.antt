@@ -1,7 +1,7 @@
 use Rattle.std.proofs.Common.{◌≤◌, ◌<◌, ◌+◌, length, refl, sym, subst, arith}
-use Rattle.script.specs.Scripts.{operations_of}
-use Rattle.script_follower.specs.Following.{left_of}
-use Rattle.script_follower.specs.ProcessorRecord.{ProcessorRecord}
+use Rattle.script_lines.specs.Lines.{operations_of}
+use Rattle.one_order.specs.Following.{left_of}
+use Rattle.one_order.specs.ProcessorRecord.{ProcessorRecord}
 use Rattle.net_interface.specs.Inside.{record_of}
 use Rattle.net_interface.proofs.Recorded.{issued_is}
 use Rattle.net_interface.proofs.Reserved.{line_kept}

@@ -1,7 +1,7 @@
 use Rattle.std.proofs.Common.{◌≡◌, List, ◌∷◌, [], ◌++◌, length, Some, None, sym, subst, ◌∙◌, ap, arith, length-append}
 use Rattle.packet.specs.declared.kinds.Operation.{Operation}
-use Rattle.script_follower.specs.Following.{Following, left_of}
-use Rattle.script_follower.specs.ProcessorRecord.{ProcessorRecord, ready}
+use Rattle.one_order.specs.Following.{Following, left_of}
+use Rattle.one_order.specs.ProcessorRecord.{ProcessorRecord, ready}
 use Rattle.net_interface.specs.Inside.{record_of, AreOperationsOf}
 use Rattle.net_interface.proofs.Recorded.{left_falls, after_issued, issued_record}
 use Rattle.net_interface.proofs.record.Record.issue.Goals as goal

@@ -1,8 +1,8 @@
 use Rattle.std.proofs.Common.{◌≡◌, [], List, length, ap, ◌∙◌, sym, subst, arith}
 use Rattle.packet.specs.declared.kinds.Operation.{Operation}
-use Rattle.script.specs.declared.line.Line.{Line}
-use Rattle.script.specs.Scripts.{operation_count}
-use Rattle.script_follower.specs.ProcessorRecord.{ProcessorRecord}
+use Rattle.script_lines.specs.declared.line.Line.{Line}
+use Rattle.script_lines.specs.Lines.{operation_count}
+use Rattle.one_order.specs.ProcessorRecord.{ProcessorRecord}
 use Rattle.net_interface.specs.Inside.{AreOperationsOf}
 use Rattle.net_interface.proofs.Recorded.{at_start, new_record}
 use Rattle.net_interface.proofs.Reserved.{left_first}

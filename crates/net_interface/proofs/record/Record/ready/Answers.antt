@@ -5,8 +5,8 @@ use Rattle.torus.specs.declared.step.Tag.{Tag}
 use Rattle.packet.specs.declared.kinds.Op.{Op}
 use Rattle.packet.specs.declared.kinds.Operation.{Operation}
 use Rattle.tag_table.specs.Tags.{tag_numbered, free_tag}
-use Rattle.script_follower.specs.Following.{next_operation_of}
-use Rattle.script_follower.specs.ProcessorRecord.{ProcessorRecord, ready}
+use Rattle.one_order.specs.Following.{next_operation_of}
+use Rattle.one_order.specs.ProcessorRecord.{ProcessorRecord, ready}
 use Rattle.net_interface.proofs.record.Record.ready.Goals as goal
 
 found : (n : Option Operation) (t : Option ℕ) (a : ℕ) (op : Op) (tag : Tag)

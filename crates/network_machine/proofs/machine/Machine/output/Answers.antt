@@ -1,5 +1,5 @@
 use Rattle.std.proofs.Common.{◌≡◌, ◌<◌, length, arith, sym, ◌∙◌, ap, subst, false}
-use Rattle.network_jam.specs.LockUps.{plain_format}
+use Rattle.network_judge.specs.LockUps.{plain_format}
 use Rattle.network_machine.specs.Machine.{NetworkMachineSpec}
 use Rattle.network_machine.specs.Outputs.{IsOwnedBy, HasNoOutput}
 use Rattle.network_machine.specs.Owned.{OwnsWithin}

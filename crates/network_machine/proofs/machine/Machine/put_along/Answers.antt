@@ -7,7 +7,7 @@ use Rattle.network_machine.specs.Owned.{AreOwned}
 use Rattle.network_machine.proofs.Making.{made_by}
 use Rattle.network_machine.proofs.Knowing.{goes_on_known}
 use Rattle.network_machine.specs.declared.moves.Move.TheVariants.{Put}
-use Rattle.network_jam.specs.LockUps.{plain_format}
+use Rattle.network_judge.specs.LockUps.{plain_format}
 use Rattle.network_machine.specs.Outputs.{IsWayOut}
 use Rattle.network_machine.specs.Forwards.{IsLatchOutput}
 use Rattle.network_machine.proofs.Puts.{some_channel, latch_of}

@@ -1,6 +1,6 @@
 use Rattle.std.proofs.Common.{◌<◌, arith, length}
 use Rattle.std.proofs.lemmas.List.{get_or_read, length-map}
-use Rattle.script.specs.ScriptViews.{lists_of}
+use Rattle.script_lines.specs.Views.{lists_of}
 use Rattle.script.proofs.Counted.{counted_push}
 use Rattle.script.proofs.progress.Progress.add.Goals as goal
 

@@ -1,4 +1,4 @@
-use Rattle.script.specs.ScriptViews.{lists_of}
+use Rattle.script_lines.specs.Views.{lists_of}
 use Rattle.script.proofs.Counted.{counted_at_first}
 use Rattle.script.proofs.progress.Progress.none.Goals as goal
 

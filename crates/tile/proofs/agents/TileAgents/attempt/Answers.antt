@@ -1,8 +1,8 @@
 use Rattle.std.proofs.Common.{◌≡◌, MatchOption, Option, None, sym, ◌∙◌, ap, subst}
 use Rattle.flit_buffer.specs.declared.word_op.WordOp.{WordOp}
-use Rattle.tile_laws.specs.declared.agent.Agent.{Agent}
-use Rattle.tile_laws.specs.declared.agent.Agent.TheVariants.{Bank}
-use Rattle.tile_laws.specs.Agents.{TilePlace, agent_tile, agent_kind, agent_op, tile_next_op}
+use Rattle.tile.specs.declared.agent.Agent.{Agent}
+use Rattle.tile.specs.declared.agent.Agent.TheVariants.{Bank}
+use Rattle.tile.specs.Agents.{TilePlace, agent_tile, agent_kind, agent_op, tile_next_op}
 use Rattle.tile.specs.Placed.{PlacedTile, with_place, agent_attempted, tile_attempted}
 use Rattle.tile.proofs.OwnAttempts.{own_op, own_attempt}
 use Rattle.tile.proofs.agents.TileAgents.attempt.Goals as goal

@@ -4,8 +4,8 @@ use Rattle.flit_buffer.specs.Agent.{Agent, next_op, absorbed, attempted}
 use Rattle.flit_buffer.specs.Words.{word_of}
 use Rattle.flit_buffer.specs.declared.word_op.WordOp.{WordOp}
 use Rattle.router.specs.Table.{RouterState, RouterPlace, router_wants, router_after, router_with_agent}
-use Rattle.tile_laws.specs.declared.agent.Agent.TheVariants.{Router}
-use Rattle.tile_laws.specs.Agents.{agent_op}
+use Rattle.tile.specs.declared.agent.Agent.TheVariants.{Router}
+use Rattle.tile.specs.Agents.{agent_op}
 use Rattle.tile.specs.Placed.{PlacedTile, with_place, agent_attempted}
 use Rattle.tile.proofs.agents.TileAgents.attempt_router.Goals as goal
 

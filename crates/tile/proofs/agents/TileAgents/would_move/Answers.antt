@@ -5,8 +5,8 @@ use Rattle.flit_buffer.specs.Words.{word_of}
 use Rattle.flit_buffer.specs.declared.word_op.WordOp.{WordOp}
 use Rattle.home_bank.specs.BankTable.{bank_wants}
 use Rattle.router.specs.Table.{router_wants}
-use Rattle.tile_laws.specs.declared.agent.Agent.TheVariants.{Router, Bank}
-use Rattle.tile_laws.specs.Agents.{agent_tile, agent_kind, agent_op, tile_next_op}
+use Rattle.tile.specs.declared.agent.Agent.TheVariants.{Router, Bank}
+use Rattle.tile.specs.Agents.{agent_tile, agent_kind, agent_op, tile_next_op}
 use Rattle.tile.specs.Placed.{PlacedTile}
 use Rattle.tile.proofs.OwnAttempts.{own_op}
 use Rattle.tile.proofs.agents.TileAgents.would_move.Goals as goal

@@ -1,6 +1,6 @@
 use Rattle.std.proofs.Common.{◌<◌, List, Option, length, refl, subst, arith}
 use Rattle.trace_laws.specs.declared.opened.Open.{Open}
-use Rattle.trace_judge.specs.Slots.{IsFull}
+use Rattle.trace_judge.specs.Slots.{IsFullWord}
 use Rattle.trace_judge.specs.Sets.{lists_of}
 use Rattle.trace_judge.proofs.Crowds.{crowded}
 use Rattle.trace_judge.proofs.Parting.{begun_first, first_low}
@@ -24,7 +24,7 @@ returns-else-branch-clause-undecided g c =
     (begun_first (length c.args.opening.now) c.args.events.now c.args.whole.now c.args.k c.args.call c.promise_of-promise.result
     first c.requires.trace c.requires.beginning c.requires.issued c.promise_of-promise.ensures c.first_slot-first.ensures)
     (c.requires.holds.parted w) (c.requires.holds.searched.tabled w far)
-    (subst (λ (ts : List (Option Open)). IsFull first ts)
+    (subst (λ (ts : List (Option Open)). IsFullWord first ts)
     (read_set s.tables.items w c.index_mut.result.now inside c.index_mut.ensures.value)
     (c.in_ok-put.ensures.full c.if-branch.false))
     c.requires.issued

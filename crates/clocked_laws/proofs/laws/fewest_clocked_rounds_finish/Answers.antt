@@ -1,9 +1,0 @@
--- The same of clocked rounds.
-use Rattle.clocked_laws.proofs.Rounds.{clocked_fewest, fewest_clocked}
-use Rattle.clocked_laws.proofs.laws.fewest_clocked_rounds_finish.Goals as goal
-
-pub returns-clause-needed : goal.returns-clause-needed
-returns-clause-needed c = fewest_clocked
-
-pub returns-clause-fewest : goal.returns-clause-fewest
-returns-clause-fewest c = clocked_fewest

@@ -1,9 +1,0 @@
-use Rattle.core_growth.proofs.Machines.{from_load, all_grown, all_moves_again}
-use Rattle.core_growth.proofs.laws.machines_grow.Goals as goal
-
-pub returns : goal.returns
-returns n = record {
-  from_load = from_load;
-  from_machine = all_grown;
-  moves = all_moves_again;
-}

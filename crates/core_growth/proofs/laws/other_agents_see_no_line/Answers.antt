@@ -1,5 +1,0 @@
-use Rattle.core_growth.proofs.Reports.{others_step}
-use Rattle.core_growth.proofs.laws.other_agents_see_no_line.Goals as goal
-
-pub returns : goal.returns
-returns n = λ d s p line attempt apart. others_step d s attempt line p apart

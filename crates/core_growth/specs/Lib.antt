@@ -1,4 +1,0 @@
-pub mod Appended
-pub mod Doings
-pub mod Reopened
-pub mod Handed

@@ -1,5 +1,0 @@
-use Rattle.core_machine.proofs.Histories.{history_is_trace, history_is_linearizable}
-use Rattle.core_machine.proofs.history_laws.histories_are_linearizable_traces.Goals as goal
-
-pub returns : goal.returns
-returns c = record { trace = history_is_trace; linearizable = history_is_linearizable }

@@ -1,5 +1,0 @@
-use Rattle.core_machine.proofs.Machines.{finished_of_machine}
-use Rattle.core_machine.proofs.laws.ended_followers_finish_scripts.Goals as goal
-
-pub returns : goal.returns
-returns c = finished_of_machine

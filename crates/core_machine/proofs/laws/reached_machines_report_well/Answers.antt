@@ -1,5 +1,0 @@
-use Rattle.core_machine.proofs.Machines.{reports_well}
-use Rattle.core_machine.proofs.laws.reached_machines_report_well.Goals as goal
-
-pub returns : goal.returns
-returns c = reports_well

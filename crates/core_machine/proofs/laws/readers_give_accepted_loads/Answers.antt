@@ -1,5 +1,0 @@
-use Rattle.order_abstract.proofs.LoadingAccepted.{accepted_load}
-use Rattle.core_machine.proofs.laws.readers_give_accepted_loads.Goals as goal
-
-pub returns : goal.returns
-returns c = accepted_load

@@ -1,5 +1,0 @@
-use Rattle.core_machine.proofs.Machines.{same_machine, named_machine}
-use Rattle.core_machine.proofs.laws.steps_decide_the_machine.Goals as goal
-
-pub returns : goal.returns
-returns c = record { same = same_machine; named = named_machine }

@@ -1,9 +1,0 @@
-use Rattle.core_machine.proofs.Machines.{stands_after, reports_well}
-use Rattle.core_machine.specs.Machine.{core_after_load}
-use Rattle.core_machine.proofs.laws.steps_lead_to_a_machine.Goals as goal
-
-pub returns : goal.returns
-returns c = record {
-  after = stands_after;
-  reports = λ l steps ok. reports_well l (core_after_load l steps) steps (stands_after l steps ok);
-}

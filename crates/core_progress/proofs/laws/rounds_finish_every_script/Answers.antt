@@ -1,5 +1,0 @@
-use Rattle.core_progress.proofs.Finish.{run_finishes}
-use Rattle.core_progress.proofs.laws.rounds_finish_every_script.Goals as goal
-
-pub returns : goal.returns
-returns c = run_finishes

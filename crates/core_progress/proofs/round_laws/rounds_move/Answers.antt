@@ -1,5 +1,0 @@
-use Rattle.core_progress.proofs.Rounds as rounds
-use Rattle.core_progress.proofs.round_laws.rounds_move.Goals as goal
-
-pub returns : goal.returns
-returns g c = λ step s d cs. rounds.round_moves step s d cs

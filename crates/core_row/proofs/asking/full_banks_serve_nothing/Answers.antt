@@ -1,5 +1,0 @@
-use Rattle.core_row.proofs.Room.{full_reached, full_shown}
-use Rattle.core_row.proofs.asking.full_banks_serve_nothing.Goals as goal
-
-pub returns : goal.returns
-returns c = record { reached = full_reached; shown = full_shown }

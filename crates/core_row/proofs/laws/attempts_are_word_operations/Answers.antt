@@ -1,5 +1,0 @@
-use Rattle.core_row.proofs.RowOfRuns as reached
-use Rattle.core_row.proofs.laws.attempts_are_word_operations.Goals as goal
-
-pub returns : goal.returns
-returns c = record { tiles = reached.tiles_there; surrounded = reached.surrounded; possible = reached.possible_there; operations = reached.is_operation }

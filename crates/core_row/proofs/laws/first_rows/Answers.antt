@@ -1,5 +1,0 @@
-use Rattle.core_row.proofs.First.{first_row, first_tiles}
-use Rattle.core_row.proofs.laws.first_rows.Goals as goal
-
-pub returns : goal.returns
-returns c = record { row = first_row; tiles = first_tiles }

@@ -1,5 +1,0 @@
-use Rattle.core_row.proofs.Notes.{noted_is}
-use Rattle.core_row.proofs.noting.notes_tell_the_book.Goals as goal
-
-pub returns : goal.returns
-returns c = noted_is

@@ -1,5 +1,0 @@
-use Rattle.core_row.proofs.Notes.{records_left}
-use Rattle.core_row.proofs.noting.services_leave_records.Goals as goal
-
-pub returns : goal.returns
-returns c = records_left

@@ -1,5 +1,0 @@
-use Rattle.core_wake.proofs.Operations.{operations_tell}
-use Rattle.core_wake.proofs.laws.operations_tell_whom_they_wake.Goals as goal
-
-pub returns : goal.returns
-returns c = operations_tell

@@ -1,4 +1,0 @@
-pub mod Causes
-pub mod EndLines
-pub mod FaultLines
-pub mod Unread

@@ -1,2 +1,0 @@
-pub mod Walks
-mod Examples

@@ -1,5 +1,0 @@
-use Rattle.network_jam.proofs.Both.{has_jam, cycles_lock}
-use Rattle.network_jam.proofs.laws.cycles_lock_up.Goals as goal
-
-pub returns : goal.returns
-returns c = record { jam = has_jam; locks = cycles_lock }

@@ -1,5 +1,0 @@
-use Rattle.order_abstract.proofs.Courses.{scripts_followed}
-use Rattle.order_abstract.proofs.laws.courses_follow_scripts.Goals as goal
-
-pub returns : goal.returns
-returns c = λ tiles tags opening scripts flight move n course accepted. scripts_followed tiles tags opening scripts flight move n course accepted

@@ -1,5 +1,0 @@
-use Rattle.order_abstract.proofs.Reports.{course_within, course_book, course_room}
-use Rattle.order_abstract.proofs.laws.courses_have_room.Goals as goal
-
-pub returns : goal.returns
-returns c = record { flight = course_within; book = course_book; moves = course_room }

@@ -1,5 +1,0 @@
-use Rattle.script_follower.proofs.Kept.{is_empty-drop}
-use Rattle.script_follower.proofs.follower.none_from.Goals as goal
-
-pub returns : goal.returns
-returns c = is_empty-drop c.args.lines.now c.args.at c.requires

@@ -1,8 +1,0 @@
-use Rattle.script_follower.proofs.Shown.{address_is}
-use Rattle.script_follower.proofs.laws.addresses_are_named.Goals as goal
-
-pub returns : goal.returns
-returns c = record {
-  named = λ lines past f o accepted h next. address_is lines past f accepted h o next;
-  below = λ lines past f o words accepted h next all. all o.address (address_is lines past f accepted h o next);
-}

@@ -1,5 +1,0 @@
-use Rattle.script_follower.proofs.Homes.{allowed_homes, shown_homes}
-use Rattle.script_follower.proofs.laws.homes_are_counted.Goals as goal
-
-pub returns : goal.returns
-returns c = record { allowed = allowed_homes; issued = shown_homes }

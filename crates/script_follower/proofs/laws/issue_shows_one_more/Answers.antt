@@ -1,5 +1,0 @@
-use Rattle.script_follower.specs.Following.{issues}
-use Rattle.script_follower.proofs.laws.issue_shows_one_more.Goals as goal
-
-pub returns : goal.returns
-returns c = λ lines past f o t h next before. issues past f o t h next before

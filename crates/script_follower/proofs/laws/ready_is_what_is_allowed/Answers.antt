@@ -1,8 +1,0 @@
-use Rattle.script_follower.proofs.Shown.{ready_is_allowed, allowed_is_ready}
-use Rattle.script_follower.proofs.laws.ready_is_what_is_allowed.Goals as goal
-
-pub returns : goal.returns
-returns c = record {
-  allowed = λ lines past f o accepted h before next. ready_is_allowed lines past f accepted h o before next;
-  ready = λ lines past f o accepted h follows. allowed_is_ready lines past f accepted h o follows;
-}

@@ -1,5 +1,0 @@
-use Rattle.script_follower.proofs.Shown.{issued_is, waiting_is, last_is}
-use Rattle.script_follower.proofs.laws.shown_operations_are_kept.Goals as goal
-
-pub returns : goal.returns
-returns c = record { issued = issued_is; waiting = waiting_is; last = last_is }

@@ -1,9 +1,0 @@
-use Rattle.std.proofs.Common.{ℕ, List}
-use Rattle.seat_wake.specs.Border.{AreOf, TakesInside, CreditsInside}
-use Rattle.seat_wake.proofs.border.border.Given as goal
-
-abbrev pub invariant-loop-tile : goal.invariant-loop-tile
-invariant-loop-tile l = record {
-  takes : (gs : List (List ℕ)) → AreOf gs l.first l.end → TakesInside l.torus gs l.takes;
-  credits : (gs : List (List ℕ)) → AreOf gs l.first l.end → CreditsInside l.torus gs l.credits;
-}

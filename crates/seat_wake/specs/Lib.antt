@@ -1,4 +1,0 @@
-pub mod Inner
-pub mod Sleeping
-pub mod Border
-pub mod Counted

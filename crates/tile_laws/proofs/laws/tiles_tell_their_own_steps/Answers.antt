@@ -1,5 +1,0 @@
-use Rattle.tile_laws.proofs.OwnSteps.{no_op, no_step, blind}
-use Rattle.tile_laws.proofs.laws.tiles_tell_their_own_steps.Goals as goal
-
-pub returns : goal.returns
-returns c = record { op = no_op; absorbed = no_step; store = blind }

@@ -1,6 +1,0 @@
-pub mod Wiring
-pub mod Tile
-pub mod Choices
-pub mod Agents
-pub mod Beginning
-pub mod Refinement

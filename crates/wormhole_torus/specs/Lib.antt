@@ -1,3 +1,0 @@
-pub mod TorusNet
-pub mod Ends
-pub mod Heads
