@@ -61,13 +61,13 @@ NUMBERS = [
     (FRONT, r"words of the memory \| 1 to (\d+)", lambda t: stands("crates/script/specs/Machine.antt", 65536)),
     (FRONT, r"operations of a script \| at most (\d+)", lambda t: stands("crates/script/specs/Scripts.antt", 4096)),
     (FRONT, r"operations of all scripts \| at most (\d+)", lambda t: stands("crates/script/specs/Scripts.antt", 65536)),
-    (FRONT, r"tags of a processor \| 1 to (\d+)", lambda t: stands("crates/script/specs/Machine.antt", 16)),
+    (FRONT, r"tags of a processor \| 1 to (\d+)", lambda t: stands("crates/script_lines/specs/Machine.antt", 16)),
     ((FORMATS,), r"`examples/steps.txt` has these (\w+) steps", lambda t: lines_in("examples/steps.txt")),
     ((TRACES,), r"has (\w+) lines \(`examples/trace.txt`\)", lambda t: lines_in("examples/trace.txt")),
     (INSIDE, r"(?:each of its|layer of) (\d+) calls", calls_for_c),
     (INSIDE, r"A want is one of (\w+):", lambda t: variants("crates/flit_buffer/src/want.rt", "Want")),
     (INSIDE, r"one of `wormhole`'s (\w+) events", lambda t: variants("crates/wormhole/specs/Events.antt", "NetEvent")),
-    (INSIDE, r"no more than (\d+) for each operation", lambda t: stands("crates/core_progress/specs/Moves.antt", 241)),
+    (INSIDE, r"no more than (\d+) for each operation", lambda t: stands("crates/core_laws/specs/ProgressMoves.antt", 241)),
     ((PROVED,), r"reaches the same (\d+) functions of C", lambda t: len(trusted("torusmem"))),
     ((PROVED,), r"`axioms=(\d+)`", lambda t: len(trusted("torusmem"))),
     ((PROVED,), r"(\d+) of `libc`", lambda t: len(trusted("torusmem", "libc::"))),
@@ -75,9 +75,9 @@ NUMBERS = [
     ((PROVED,), r"of the library for C reaches (\d+)", lambda t: len(trusted("torusmem_c"))),
     ((PROVED,), r"meaning of the (\w+) operations", lambda t: variants("crates/packet/src/kinds.rt", "Op")),
     ((PROVED,), r"exactly its code, F1 to F(\d+)", lambda t: variants("crates/torus/src/fault.rt", "Fault")),
-    ((PROVED,), r"at most (79873) words", lambda t: stands("crates/core_row/src/laws.rt", 79873)),
+    ((PROVED,), r"at most (79873) words", lambda t: stands("crates/core_laws/src/row_laws.rt", 79873)),
     ((PROVED,), r"number, at most (67)", lambda t: stands("crates/channel_number/src/number.rt", 67)),
-    ((PROVED,), r"more moves than (\d+) for each operation", lambda t: stands("crates/core_progress/specs/Moves.antt", 241)),
+    ((PROVED,), r"more moves than (\d+) for each operation", lambda t: stands("crates/core_laws/specs/ProgressMoves.antt", 241)),
 ]
 # Where the version stands.
 VERSIONS = [
