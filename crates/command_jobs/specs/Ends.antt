@@ -9,8 +9,8 @@ use Rattle.program_fault.specs.Done.{Does, Output}
 use Rattle.program_fault.specs.Outcome.{IsTextsFault}
 use Rattle.sentences.specs.declared.scripts.EndedScripts.{EndedScripts}
 use Rattle.sentences.specs.Ended.{IsEndInTextOrder}
-use Rattle.commands.specs.Ends.{HasEndedRounds, ShowsReached}
-use Rattle.commands.specs.Run.{HasRun, asked_of}
+use Rattle.command_texts.specs.Ends.{HasEndedRounds, ShowsReached}
+use Rattle.command_texts.specs.Run.{HasRun, asked_of}
 use Rattle.command_line.specs.declared.command.Job.{Job}
 use Rattle.command_line.specs.declared.command.Job.TheVariants.{Steps, Round}
 

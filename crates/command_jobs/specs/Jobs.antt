@@ -5,9 +5,9 @@ use Rattle.program_fault.specs.declared.texts.Texts.{Texts}
 use Rattle.machine_core.specs.Loading.{load_by}
 use Rattle.program_fault.specs.declared.fault.ProgramFault.{ProgramFault}
 use Rattle.program_fault.specs.Done.{Output, Does}
-use Rattle.commands.specs.Run.{PrintsRun, asked_of}
-use Rattle.commands.specs.Rounds.{PrintsRounds}
-use Rattle.commands.specs.Done.{PrintsRoute, PrintsChannels, PrintsVerdict}
+use Rattle.command_texts.specs.Run.{PrintsRun, asked_of}
+use Rattle.command_texts.specs.Rounds.{PrintsRounds}
+use Rattle.command_texts.specs.Done.{PrintsRoute, PrintsChannels, PrintsVerdict}
 use Rattle.command_line.specs.declared.command.Job.{Job}
 use Rattle.command_line.specs.declared.command.Job.TheVariants.{Steps, Round, Run, Live, Route}
 use Rattle.command_line.specs.declared.command.Job.TheVariants.{Channels, Check}

@@ -4,16 +4,18 @@ ghost use Rattle.std.specs.Str.Lines.{lines};
 ghost use Rattle.machine_core.specs.Loading.{load_by};
 ghost use Rattle.program_fault.specs.Done.{Does, output};
 ghost use Rattle.program_fault.specs.Outcome.{IsTextsFault};
-ghost use Rattle.commands.specs.Ends.{HasEndedRounds, ShowsReached};
-ghost use Rattle.commands.specs.Run.{HasRun, PrintsRun, asked_of};
-ghost use Rattle.commands.specs.Rounds.{PrintsRounds};
+ghost use Rattle.command_texts.specs.Ends.{HasEndedRounds, ShowsReached};
+ghost use Rattle.command_texts.specs.Run.{HasRun, PrintsRun, asked_of};
+ghost use Rattle.command_texts.specs.Rounds.{PrintsRounds};
 ghost use Rattle.command_jobs.specs.Ends.{ShowsEnd};
 ghost use Rattle.command_jobs.specs.Jobs.{AnswersJob, IsFinishedJob, done_in, finished_in};
 ghost use Rattle.command_jobs.specs.Jobs.{is_of_commands};
 
 use crate::progress_line::ProgressLine;
 use command_line::Job;
-use commands::{Ending, channels_text, check_text, round_text_with, route_text, steps_text_with};
+use command_texts::{
+    Ending, channels_text, check_text, round_text_with, route_text, steps_text_with,
+};
 use program_fault::{ProgramFault, Texts};
 use report_lines::Out;
 use sentences::Course;

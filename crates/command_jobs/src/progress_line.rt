@@ -1,6 +1,6 @@
 //! A line that tells how far a run in rounds is.
 
-use commands::Progress;
+use command_texts::Progress;
 use std::rt::Clock;
 use std::time::Instant;
 

@@ -4,7 +4,7 @@ ghost use Rattle.std.specs.Str.Lines.{lines};
 ghost use Rattle.core_laws.specs.Machine.{shown};
 ghost use Rattle.sentences.specs.Ended.{IsEndInTextOrder};
 
-use commands::Ending;
+use command_texts::Ending;
 use machine_report::{Reached, answers_of};
 use sentences::{EndedScripts, ended_in_text_order};
 use std::alloc::Global;

@@ -2,7 +2,7 @@ use crate::jobs::{
     CHANNELS, DATED, Job, OBLONG, PAIR, REPORT, SCRIPT, SQUARE, STEPS, Sink, done, is_good,
     line_count, says, writes,
 };
-use commands::{ProgramFault, round_text};
+use command_texts::{ProgramFault, round_text};
 use linked_list_allocator::LocalHeap;
 use report_lines::Piped;
 use std::alloc::{AllocError, Allocator, Global};

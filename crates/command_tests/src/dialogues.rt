@@ -1,6 +1,6 @@
 use crate::jobs::says;
+use command_live::{RecordedMachine, converse};
 use linked_list_allocator::LocalHeap;
-use live_command::{RecordedMachine, converse};
 use program_fault::{ProgramFault, finished, status_of};
 use std::alloc::{AllocError, Allocator, Global};
 use std::io::{self, BufReader, ErrorKind, Read};

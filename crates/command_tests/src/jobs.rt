@@ -2,7 +2,7 @@
 ghost use Rattle.std.specs.Prelude.{None};
 
 use arrayvec::{ArrayString, ArrayVec};
-use commands::{
+use command_texts::{
     ProgramFault, channels_text, check_text, fault_text, finished, round_text, route_text,
     steps_text,
 };

@@ -1,7 +1,7 @@
 use crate::jobs::{PAIR, SCRIPT, Sink, line_count, says};
+use command_schedule::{draw_text, moves_text, schedule_text};
 use linked_list_allocator::LocalHeap;
 use program_fault::ProgramFault;
-use schedule_commands::{draw_text, moves_text, schedule_text};
 use std::alloc::{AllocError, Allocator, Global};
 use std::test::Fail;
 use torus::Fault;

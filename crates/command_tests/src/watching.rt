@@ -1,6 +1,6 @@
 use crate::jobs::{Job, PAIR, SCRIPT, STEPS, Sink, done, printed, says};
 use arrayvec::ArrayVec;
-use commands::{
+use command_texts::{
     ProgramFault, Progress, Silent, round_text, round_text_with, status_of, steps_text_with,
 };
 use std::alloc::Global;

@@ -1,7 +1,7 @@
 use crate::jobs::{PAIR, SCRIPT, Sink, is_good, says};
-use commands::{ProgramFault, Silent};
+use command_run::{Gate, Open, Unwatched, Watch, run_text, run_text_with};
+use command_texts::{ProgramFault, Silent};
 use report_lines::{Out, Piped};
-use run_command::{Gate, Open, Unwatched, Watch, run_text, run_text_with};
 use std::alloc::AllocError;
 use std::sync::Wait;
 use std::sync::atomic::{AtomicU64, Ordering};

@@ -3,14 +3,14 @@ use Rattle.std.specs.Prelude.{◌≡◌, ℕ, List, [], Result, Err}
 use Rattle.script.specs.Outcome.{by_fault}
 use Rattle.model_text.specs.Reasons.{log_fault_of}
 use Rattle.model_answer.specs.declared.model.MemoryModel.{MemoryModel}
-use Rattle.value_answer.specs.declared.answer.NoValueAnswer.TheVariants as none
-use Rattle.value_answer.specs.declared.answer.ValueAnswer.{ValueAnswer}
-use Rattle.value_answer.specs.declared.answer.ValueOptions.{ValueOptions}
-use Rattle.value_answer.specs.declared.decision.Decision.{Decision}
-use Rattle.value_answer.specs.declared.decision.Decision.TheVariants.{Obeys, Breaks, Undecided}
-use Rattle.value_answer.specs.Answers.{IsUnaskedIn, IsValueAnswerTo}
-use Rattle.value_answer.specs.Judged.{decision_on}
-use Rattle.value_answer.specs.Reading.{values_of}
+use Rattle.model_replies.specs.declared.answer.NoValueAnswer.TheVariants as none
+use Rattle.model_replies.specs.declared.answer.ValueAnswer.{ValueAnswer}
+use Rattle.model_replies.specs.declared.answer.ValueOptions.{ValueOptions}
+use Rattle.model_replies.specs.declared.decision.Decision.{Decision}
+use Rattle.model_replies.specs.declared.decision.Decision.TheVariants.{Obeys, Breaks, Undecided}
+use Rattle.model_replies.specs.Answers.{IsUnaskedIn, IsValueAnswerTo}
+use Rattle.model_replies.specs.Judged.{decision_on}
+use Rattle.model_replies.specs.Reading.{values_of}
 use Rattle.program_fault.specs.declared.fault.ProgramFault.{ProgramFault}
 use Rattle.program_fault.specs.declared.fault.ProgramFault.TheVariants as program
 use Rattle.program_fault.specs.Done.{Does, Output}

@@ -5,9 +5,9 @@ use Rattle.torus.specs.declared.fault.Fault.TheVariants as fault
 use Rattle.trace_text.specs.Reasons.{trace_fault_of}
 use Rattle.program_fault.specs.declared.fault.ProgramFault.{ProgramFault}
 use Rattle.program_fault.specs.Outcome.{of_line}
-use Rattle.watch_command.specs.declared.ending.End.{End}
-use Rattle.watch_command.specs.declared.ending.End.TheVariants as ends
-use Rattle.watch_command.specs.declared.stop.Stop.TheVariants.{Refused, NoOrder, TooMany, NoTrace}
+use Rattle.command_watch.specs.declared.ending.End.{End}
+use Rattle.command_watch.specs.declared.ending.End.TheVariants as ends
+use Rattle.command_watch.specs.declared.stop.Stop.TheVariants.{Refused, NoOrder, TooMany, NoTrace}
 use Rattle.command_verdicts.specs.declared.command.Judged.{Judged}
 use Rattle.command_verdicts.specs.declared.command.Judged.TheVariants as judged
 

@@ -5,10 +5,11 @@ ghost use Rattle.std.specs.Prelude.{◌≤◌};
 use crate::explaining_table::{explain_no_order_of_table, explain_table};
 use crate::hints::{begins_anynet, begins_table};
 use crate::model::{Modelled, is_report};
-use adaptive_text::routing_sentence;
 use lexer::Refusal;
 use model_answer::LogSentence;
+use model_replies::read_values;
 use model_text::{LogReason, read_log};
+use network_adaptive_text::routing_sentence;
 use network_rounds::TrafficSentence;
 use network_run::{RunSentence, replay_text};
 use network_text::{NetworkSentence, network_answer, read_network};
@@ -18,7 +19,6 @@ use program_fault::{
 };
 use sentences::scripts_sentence;
 use trace_why::{no_order_sentence, trace_sentence};
-use value_answer::read_values;
 
 /// The line of a fault at which routers begin to choose, where a text is refused for that alone: another
 /// reader takes the line.

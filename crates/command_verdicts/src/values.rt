@@ -6,6 +6,7 @@ ghost use Rattle.program_fault.specs.Done.{output};
 ghost use Rattle.command_verdicts.specs.Valued.{PrintsDecisions, decided_status};
 
 use model_answer::MemoryModel;
+use model_replies::{Decision, Decisions, NoValueAnswer, ValueOptions, value_answer};
 use model_text::Logged;
 use program_fault::ProgramFault;
 use report_lines::Out;
@@ -13,7 +14,6 @@ use report_lines::output::put_all;
 use script::LineFault;
 use std::alloc::Allocator;
 use torus::Fault;
-use value_answer::{Decision, Decisions, NoValueAnswer, ValueOptions, value_answer};
 
 /// What a log is judged to be by its replies alone.
 #[derive(Clone, Copy)]

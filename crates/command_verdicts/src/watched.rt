@@ -4,11 +4,11 @@ ghost use Rattle.std.specs.Prelude.{◌≡◌};
 ghost use Rattle.command_verdicts.specs.Watched.{line_fault_of, watched_verdict};
 
 use crate::Judged;
+use command_watch::{End, Stop};
 use lexer::Reason;
 use program_fault::ProgramFault;
 use script::LineFault;
 use torus::Fault;
-use watch_command::{End, Stop};
 
 /// A fault of the line of a number.
 fn line_fault(fault: Fault, line: u64) -> ProgramFault

@@ -1,4 +1,4 @@
-use schedule_commands::{ScheduleLine, line_of};
+use command_schedule::{ScheduleLine, line_of};
 use script::{LineFault, read_machine, read_steps};
 use std::alloc::{AllocError, Global};
 use std::process::Abort;

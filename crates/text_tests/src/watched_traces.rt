@@ -1,6 +1,6 @@
+use command_watch::{EndSentence, watch};
 use std::alloc::{AllocError, Global};
 use std::test::Fail;
-use watch_command::{EndSentence, watch};
 
 /// Whether a watch of a text, with at most so many configurations of a word, ends so.
 fn ends(alloc: Global, text: &[u8], bound: usize, wanted: &str) -> Result<bool, AllocError> {

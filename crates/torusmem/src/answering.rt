@@ -4,20 +4,20 @@ ghost use Rattle.command_line.specs.Job.{AreJobLimits};
 use crate::running::by_workers;
 use command_jobs::Ended;
 use command_line::Job;
+use command_run::Ending;
+use command_schedule::{clocked_schedule_text, draw_text, moves_text, schedule_text};
 use command_verdicts::{
     Decided, Judged, Modelled, judged_models_text, judged_order_text, judged_report_text,
     lock_up_text, network_text, replay_network_text, simulate_text, texts_models_text, values_text,
 };
 use model_answer::MemoryModel;
+use model_replies::ValueOptions;
 use program_fault::{ProgramFault, Texts};
 use report_lines::Out;
-use run_command::Ending;
-use schedule_commands::{clocked_schedule_text, draw_text, moves_text, schedule_text};
 use std::alloc::Global;
 use std::rt::Clock;
 use std::sync::Wait;
 use std::thread::Threads;
-use value_answer::ValueOptions;
 
 /// What a job answers.
 #[derive(Clone, Copy)]

@@ -3,9 +3,9 @@ ghost use Rattle.std.specs.Prelude.{◌≤◌};
 
 use crate::answering::Outcome;
 use command_jobs::Ended;
+use command_run::{Ending, Open, TurnsLine, run_text_with};
 use program_fault::{ProgramFault, Texts};
 use report_lines::Out;
-use run_command::{Ending, Open, TurnsLine, run_text_with};
 use sentences::Course;
 use std::rt::Clock;
 use std::sync::Wait;

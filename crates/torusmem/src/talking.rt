@@ -1,7 +1,7 @@
 //! The dialogue with a machine, over standard input and standard output.
 
 use command_jobs::writer;
-use live_command::{RecordedMachine, converse};
+use command_live::{RecordedMachine, converse};
 use program_fault::ProgramFault;
 use std::io::{BufReader, Input};
 use torus::Fault;

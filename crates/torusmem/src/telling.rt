@@ -11,8 +11,8 @@ use command_verdicts::{
     explain_trace, explain_values, model_status, status, verdict_text,
 };
 use model_answer::WrongSentence;
+use model_replies::{AlikeSentence, UnwrittenSentence};
 use program_fault::{ProgramFault, Texts, explain, status_of};
-use value_answer::{AlikeSentence, UnwrittenSentence};
 
 /// The exit status of an answer. Where a trace has no order, or a log a wrong reply, standard error
 /// says so.

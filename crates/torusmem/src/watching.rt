@@ -2,6 +2,7 @@
 
 use command_jobs::{fault_told, flushed, writer};
 use command_verdicts::{Judged, status, verdict_text, watched_verdict};
+use command_watch::{End, EndSentence, Ended, watch};
 use program_fault::{ProgramFault, Unread, explain_unread};
 use report_lines::Piped;
 use report_lines::output::put_all;
@@ -9,7 +10,6 @@ use std::fs::File;
 use std::io::{BufReader, Input, Read};
 use std::rt::Files;
 use torus::Fault;
-use watch_command::{End, EndSentence, Ended, watch};
 
 /// Judges the trace of this name while it comes, with at most so many configurations of a word at once,
 /// and answers the exit status. Standard error says why it ended before its end, and more of it where that

@@ -1,6 +1,0 @@
-use Rattle.adaptive_judge.specs.Shape.{PairsFit}
-use Rattle.adaptive_judge.proofs.accepting.first_wrong_pair.Given as goal
-
--- no such pair so far
-abbrev pub invariant-loop-p : goal.invariant-loop-p
-invariant-loop-p l = PairsFit l.kinds l.joins l.p

@@ -1,6 +1,0 @@
-use Rattle.std.proofs.Common.{arith}
-use Rattle.adaptive_judge.proofs.Flags.{up_inside}
-use Rattle.adaptive_judge.proofs.between.is_among.Goals as goal
-
-pub returns : goal.returns
-returns c = λ a. c.loop-x.invariant a (let low = up_inside c.args.flags.now a.head a.up in let size = c.requires.size in omega arith)

@@ -1,6 +1,0 @@
-use Rattle.adaptive_judge.proofs.Ways.{NoStepSo}
-use Rattle.adaptive_judge.proofs.between.step_toward.Given as goal
-
--- no choice so far leads there
-abbrev pub invariant-loop-k : goal.invariant-loop-k
-invariant-loop-k g l = NoStepSo l.kinds l.choices l.base l.ways l.shut l.x l.k l.y

@@ -1,6 +1,0 @@
-use Rattle.adaptive_judge.specs.Shape.{ChoicesFit}
-use Rattle.adaptive_judge.proofs.shape.first_misfit.Given as goal
-
--- no such choice so far
-abbrev pub invariant-loop-to : goal.invariant-loop-to
-invariant-loop-to l = ChoicesFit l.kinds l.choices l.ways l.to

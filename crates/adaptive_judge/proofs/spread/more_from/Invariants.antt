@@ -1,7 +1,0 @@
-use Rattle.std.proofs.Common.{◌+◌, ◌*◌}
-use Rattle.adaptive_judge.specs.Spread.{opens, HasMore}
-use Rattle.adaptive_judge.proofs.spread.more_from.Given as goal
-
--- the flags of the choices so far are up
-abbrev pub invariant-loop-k : goal.invariant-loop-k
-invariant-loop-k l = HasMore (opens l.count l.choices (l.base + l.x * l.ways) l.k l.shut) l.initial.seen l.seen l.changed

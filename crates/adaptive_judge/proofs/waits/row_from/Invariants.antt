@@ -1,8 +1,0 @@
-use Rattle.std.proofs.Common.{◌+◌, ◌*◌}
-use Rattle.adaptive_judge.specs.Flags.{HasPut}
-use Rattle.adaptive_judge.proofs.Puts.{IsInRowSo}
-use Rattle.adaptive_judge.proofs.waits.row_from.Given as goal
-
--- the choices so far
-abbrev pub invariant-loop-k : goal.invariant-loop-k
-invariant-loop-k l = HasPut (IsInRowSo l.count l.choices (l.base + l.x * l.ways) l.marks l.row l.k) l.initial.edges l.edges

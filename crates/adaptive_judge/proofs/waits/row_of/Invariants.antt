@@ -1,7 +1,0 @@
-use Rattle.adaptive_judge.specs.Flags.{HasPut}
-use Rattle.adaptive_judge.proofs.Puts.{IsAwaitedSo}
-use Rattle.adaptive_judge.proofs.waits.row_of.Given as goal
-
--- behind the channels so far
-abbrev pub invariant-loop-x : goal.invariant-loop-x
-invariant-loop-x l = HasPut (IsAwaitedSo l.kinds l.choices l.base l.ways l.marks l.seen l.row l.x) l.initial.edges l.edges

@@ -1,7 +1,0 @@
-use Rattle.adaptive_judge.specs.Flags.{HasPut}
-use Rattle.adaptive_judge.proofs.Puts.{IsWaitSo}
-use Rattle.adaptive_judge.proofs.waits.rows_of.Given as goal
-
--- what holds the channels so far
-abbrev pub invariant-loop-e : goal.invariant-loop-e
-invariant-loop-e g l = HasPut (IsWaitSo l.kinds l.choices l.base l.ways l.marks l.seen l.e) l.initial.edges l.edges

@@ -1,0 +1,77 @@
+-- What a line of a dialogue asks for (this project's own format).
+use Rattle.std.specs.Prelude.{ℕ, ◌&&◌, nat_le, List, [], ◌∷◌, Result, Ok, Err, if◌then◌else◌, codes}
+use Rattle.std.specs.Str.{bytes_eq}
+use Rattle.torus.specs.declared.fault.Fault.{Fault}
+use Rattle.torus.specs.declared.fault.Fault.TheVariants as fault
+use Rattle.lexer.specs.Words.{begins_comment}
+use Rattle.script.specs.Outcome.{◌>>=◌}
+use Rattle.script.specs.Scripts.{line_for}
+use Rattle.script.specs.Settings.{an_index}
+use Rattle.command_live.specs.declared.command.Command.{Command}
+use Rattle.command_live.specs.declared.command.Command.TheVariants as command
+
+-- what stands behind `ask`: a line of a script, which is read as there
+abbrev pub ask_of : ℕ → ℕ → List (List ℕ) → Result Command Fault
+ask_of tiles memory [] = Err fault.Line
+ask_of tiles memory (processor ∷ rest) =
+    line_for tiles memory processor rest >>= λ found. Ok (command.Ask (found.0) (found.1))
+
+-- a number of rounds is 1 to 1000000
+abbrev pub rounds_asked : ℕ → Result Command Fault
+rounds_asked n = if nat_le 1 n && nat_le n 1000000 then Ok (command.Rounds n) else Err fault.Range
+
+-- what stands behind `round`: their number, or nothing for one
+abbrev pub round_of : List (List ℕ) → Result Command Fault
+round_of [] = Ok (command.Rounds 1)
+round_of (n ∷ []) = an_index n >>= rounds_asked
+round_of (n ∷ m ∷ more) = Err fault.Line
+
+-- what stands behind `wait`: a processor, and the index of one of its operations
+abbrev pub wait_of : List (List ℕ) → Result Command Fault
+wait_of [] = Err fault.Line
+wait_of (p ∷ []) = Err fault.Line
+wait_of (p ∷ i ∷ []) = an_index p >>= λ p. an_index i >>= λ i. Ok (command.Wait p i)
+wait_of (p ∷ i ∷ j ∷ more) = Err fault.Line
+
+-- nothing stands behind the other keywords
+abbrev pub alone : Command → List (List ℕ) → Result Command Fault
+alone c [] = Ok c
+alone c (x ∷ xs) = Err fault.Line
+
+-- one word stands behind `load`
+abbrev pub load_digits : List (List ℕ) → Result Command Fault
+load_digits (digits ∷ []) = Ok command.Load
+load_digits [] = Err fault.Line
+load_digits (x ∷ y ∷ more) = Err fault.Line
+
+-- what a keyword and the words behind it ask for, of a machine of so many tiles and words
+abbrev pub named : ℕ → ℕ → List ℕ → List (List ℕ) → Result Command Fault
+named tiles memory keyword rest =
+    if bytes_eq keyword (codes "ask") then ask_of tiles memory rest
+    else (if bytes_eq keyword (codes "round") then round_of rest
+    else (if bytes_eq keyword (codes "wait") then wait_of rest
+    else (if bytes_eq keyword (codes "finish") then alone command.Finish rest
+    else (if bytes_eq keyword (codes "report") then alone command.Report rest
+    else (if bytes_eq keyword (codes "save") then alone command.Save rest
+    else (if bytes_eq keyword (codes "load") then load_digits rest
+    else (if bytes_eq keyword (codes "quit") then alone command.Quit rest
+    else Err fault.Line)))))))
+
+-- a line of another shape is a bad one; one of the right shape may have a fault
+abbrev pub command_from : Result Command Fault → Command
+command_from (Ok c) = c
+command_from (Err fault.Line) = command.Bad
+command_from (Err e) = command.Refused e
+
+-- what the words of a line ask for; a line without words and a comment ask for nothing
+abbrev pub command_of : ℕ → ℕ → List (List ℕ) → Command
+command_of tiles memory [] = command.Nothing
+command_of tiles memory (keyword ∷ rest) =
+    if begins_comment keyword then command.Nothing
+    else command_from (named tiles memory keyword rest)
+
+-- the second of some words, or nothing
+abbrev pub second_in : List (List ℕ) → List ℕ
+second_in [] = []
+second_in (first ∷ []) = []
+second_in (first ∷ second ∷ more) = second

@@ -1,0 +1,17 @@
+use Rattle.std.proofs.Common.{[], true}
+use Rattle.one_order.specs.Load.{Load}
+use Rattle.core_laws.specs.Machine.{IsAfter}
+use Rattle.program_fault.specs.Done.{output}
+use Rattle.command_schedule.specs.Turned.{AreTurned, HasChoiceRoom}
+use Rattle.command_schedule.proofs.InRounds.{HasPut}
+use Rattle.command_schedule.proofs.clocked.put_clocked_rounds.Given as goal
+
+-- the rounds so far are made and their lines put, and before each not every script was finished
+abbrev pub invariant-loop-before : goal.invariant-loop-before
+invariant-loop-before g l = record {
+  put : (load : Load) → IsAfter load l.fn.machine []
+      → HasPut true load l.before l.machine (output (g.W.Out.taken l.fn.out) (g.W.Out.failures l.fn.out))
+      (output (g.W.Out.taken l.out) (g.W.Out.failures l.out));
+  turned : AreTurned l.machine.shape l.turned;
+  room : HasChoiceRoom l.machine.shape l.room;
+}

@@ -1,0 +1,160 @@
+-- What each line makes of what the lines before it gave, where a trace is read while it comes: of the
+-- operations those are kept that aren't answered (this project's own format).
+use Rattle.std.specs.Prelude.{ℕ, ◌+◌, ◌^◌, ◌&&◌, ◌==◌, Bool, not, nat_le, nat_lt, List, [], ◌∷◌, ◌++◌}
+use Rattle.std.specs.Prelude.{Option, Some, None, Result, Ok, Err, if◌then◌else◌, codes, ok_or}
+use Rattle.std.specs.Prelude.{option_map, replicate, slice_get, slice_set}
+use Rattle.std.specs.List.{position, remove, slice_index_or}
+use Rattle.std.specs.Str.{bytes_eq}
+use Rattle.packet.specs.declared.kinds.Operation.{Operation}
+use Rattle.packet.specs.Kinds.{code_of}
+use Rattle.lexer.specs.Outcome.{◌>>=◌}
+use Rattle.lexer.specs.Words.{begins_comment}
+use Rattle.trace_laws.specs.declared.event.Event.{Event}
+use Rattle.trace_laws.specs.declared.event.Event.TheVariants as event
+use Rattle.trace_lines.specs.declared.form.Form.{Form}
+use Rattle.trace_lines.specs.declared.reason.LineReason.{LineReason}
+use Rattle.trace_lines.specs.declared.reason.LineReason.TheVariants as line
+use Rattle.trace_lines.specs.Form.{number_at, spelled_form, form_operation, told_of, reply_read}
+use Rattle.trace_lines.specs.Form.{unwanted_reply}
+use Rattle.trace_lines.specs.Head.{HeadSpec, no_head, after_title, after_init_line, after_words_line}
+use Rattle.trace_lines.specs.Head.{processor_read}
+use Rattle.trace_lines.specs.Reasons.{map_err, unless_refused}
+use Rattle.trace_text.specs.declared.reason.Keyword.TheVariants as key
+use Rattle.trace_text.specs.declared.reason.TraceReason.{TraceReason}
+use Rattle.trace_text.specs.declared.reason.TraceReason.TheVariants as reason
+use Rattle.command_watch.specs.declared.open_issue.OpenIssue.{OpenIssue}
+use Rattle.command_watch.specs.declared.open_issue.Given.{Given}
+use Rattle.command_watch.specs.declared.open_issue.Given.TheVariants.{Nothing, Issue, Answer}
+
+-- what the lines so far gave: the head; how many operations each processor has issued, and how many
+-- all have; the operations that aren't answered; and what the last line gave to be judged
+pub record StreamSpec : Type 0 where
+  pub head : HeadSpec
+  pub counts : List ℕ
+  pub issued : ℕ
+  pub pending : List OpenIssue
+  pub given : Given
+
+-- the event that a line gives, if it gives one
+abbrev pub event_of : Given → Option Event
+event_of Nothing = None
+event_of (Issue issue) = Some (event.Issue issue.call)
+event_of (Answer issue reply) = Some (event.Answer issue.call.id reply)
+
+-- nothing is given
+abbrev pub nothing_streamed : StreamSpec
+nothing_streamed = record {
+  head = no_head;
+  counts = replicate 4096 0;
+  issued = 0;
+  pending = [];
+  given = Nothing;
+}
+
+-- what a line of the head makes of it
+abbrev pub with_stream_head : StreamSpec → Result HeadSpec LineReason → Result StreamSpec TraceReason
+with_stream_head r made = map_err reason.Line made >>= λ head. Ok (record r { head = head })
+
+-- the number of words is that of a trace, at most 2^20
+abbrev pub words_in_stream : HeadSpec → List (List ℕ) → Result HeadSpec LineReason
+words_in_stream h values = after_words_line h values >>= λ next.
+    if nat_lt (2 ^ 20) next.words then Err line.WordsLimits else Ok next
+
+-- the next operation of a processor, whose number is how many were issued before
+abbrev pub next_issue : StreamSpec → ℕ → ℕ → Operation → OpenIssue
+next_issue r number p o = record {
+  processor = p;
+  index = slice_index_or r.counts p 0;
+  call = record { id = r.issued; operation = o };
+  line = number;
+}
+
+-- an operation is issued
+abbrev pub with_open_issue : StreamSpec → OpenIssue → StreamSpec
+with_open_issue r issue = record r {
+  counts = slice_set r.counts issue.processor (issue.index + 1);
+  issued = r.issued + 1;
+  pending = r.pending ++ issue ∷ [];
+  given = Issue issue;
+}
+
+-- no operation is numbered from 2^62 on
+abbrev pub with_pending_issue : StreamSpec → ℕ → ℕ → Operation → Result StreamSpec TraceReason
+with_pending_issue r number p o =
+    if not (nat_lt r.issued (2 ^ 62)) then Err reason.OperationsLimits
+    else (if not (nat_lt (slice_index_or r.counts p 0) (2 ^ 62)) then Err reason.OperationsLimits
+    else Ok (with_open_issue r (next_issue r number p o)))
+
+-- an issue: the number of words is given, the processor is below 4096, and the address and the
+-- values are in their ranges
+abbrev pub issue_of_form : StreamSpec → ℕ → ℕ → Form → Result StreamSpec TraceReason
+issue_of_form r number p form =
+    map_err reason.Line (processor_read r.head p) >>= λ p.
+    map_err reason.Line (form_operation r.head.words form) >>= with_pending_issue r number p
+
+abbrev pub issue_in_stream : StreamSpec → ℕ → List (List ℕ) → Result StreamSpec TraceReason
+issue_in_stream r number (processor ∷ word ∷ operands) =
+    map_err reason.Line (number_at 1 processor) >>= λ p.
+    map_err reason.Line (spelled_form word operands) >>= issue_of_form r number p
+issue_in_stream r number [] = Err (reason.WordCount key.Issue)
+issue_in_stream r number (processor ∷ []) = Err (reason.WordCount key.Issue)
+
+-- an operation is that of a processor and an index
+abbrev pub is_issue_of : ℕ → ℕ → OpenIssue → Bool
+is_issue_of p index issue = (issue.processor == p) && (issue.index == index)
+
+-- why an operation of a processor isn't open: it is answered, or the processor hasn't issued as many
+abbrev pub why_not_pending : StreamSpec → ℕ → ℕ → TraceReason
+why_not_pending r p index =
+    if nat_lt index (slice_index_or r.counts p 0) then reason.AnsweredTwice
+    else reason.NotIssued (slice_index_or r.counts p 0)
+
+-- the open operation at a place is answered: the reply goes with it
+abbrev pub closed_issue : StreamSpec → ℕ → OpenIssue → Option ℕ → Result StreamSpec TraceReason
+closed_issue r place issue told =
+    unless_refused
+    (option_map reason.Line (unwanted_reply (code_of issue.call.operation.op) told))
+    (map_err reason.Line (reply_read told) >>= λ reply. Ok (record r {
+      pending = remove r.pending place;
+      given = Answer issue reply;
+    }))
+
+-- an answer of a processor, one of whose open operations has this index
+abbrev pub answer_of_pending : StreamSpec → ℕ → ℕ → Option ℕ → Result StreamSpec TraceReason
+answer_of_pending r p index told =
+    ok_or (position (is_issue_of p index) r.pending) (why_not_pending r p index) >>= λ place.
+    ok_or (slice_get r.pending place) (why_not_pending r p index) >>= λ issue.
+    closed_issue r place issue told
+
+abbrev pub answer_in_stream : StreamSpec → List (List ℕ) → Result StreamSpec TraceReason
+answer_in_stream r (processor ∷ index ∷ reply ∷ []) =
+    map_err reason.Line (number_at 1 processor) >>= λ p.
+    map_err reason.Line (number_at 2 index) >>= λ k.
+    map_err reason.Line (told_of reply) >>= λ told.
+    map_err reason.Line (processor_read r.head p) >>= λ p. answer_of_pending r p k told
+answer_in_stream r [] = Err (reason.WordCount key.Answer)
+answer_in_stream r (processor ∷ []) = Err (reason.WordCount key.Answer)
+answer_in_stream r (processor ∷ index ∷ []) = Err (reason.WordCount key.Answer)
+answer_in_stream r (processor ∷ index ∷ reply ∷ other ∷ more) =
+    Err (reason.WordCount key.Answer)
+
+-- what a line of a keyword and these words makes of it
+abbrev pub after_stream_keyword :
+    StreamSpec → ℕ → List ℕ → List (List ℕ) → Result StreamSpec TraceReason
+after_stream_keyword r number keyword values =
+    if not r.head.begun
+    then with_stream_head r (after_title r.head (codes "trace") keyword values)
+    else (if bytes_eq keyword (codes "issue") then issue_in_stream r number values
+    else (if bytes_eq keyword (codes "answer") then answer_in_stream r values
+    else (if bytes_eq keyword (codes "init")
+    then with_stream_head r (after_init_line r.head (not (r.issued == 0)) values)
+    else (if bytes_eq keyword (codes "words")
+    then with_stream_head r (words_in_stream r.head values)
+    else Err reason.UnknownKeyword))))
+
+-- what the words of a line make of it; a line without words and a comment are skipped
+abbrev pub after_stream_line : StreamSpec → ℕ → List (List ℕ) → Result StreamSpec TraceReason
+after_stream_line r number [] = Ok (record r { given = Nothing })
+after_stream_line r number (keyword ∷ values) =
+    if begins_comment keyword then Ok (record r { given = Nothing })
+    else after_stream_keyword (record r { given = Nothing }) number keyword values

@@ -1,0 +1,72 @@
+-- The verdicts of the models on words alone.
+use Rattle.std.specs.Prelude.{ℕ, List, Some}
+use Rattle.memory_models.specs.declared.kinds.Operation.{Operation}
+use Rattle.memory_models.specs.Models.{sequential, total_store_order, partial_store_order}
+use Rattle.memory_models.specs.Models.{coherent, fenced}
+use Rattle.model_answer.specs.declared.model.MemoryModel.{MemoryModel}
+use Rattle.model_answer.specs.declared.model.MemoryModel.TheVariants as model
+use Rattle.model_values.specs.declared.question.OrderVerdict.{OrderVerdict}
+use Rattle.model_values.specs.declared.question.OrderVerdict.TheVariants as verdict
+use Rattle.model_values.specs.declared.valued.Valued.{Valued}
+use Rattle.model_values.specs.ValuedVerdict.{IsJudgedOn}
+use Rattle.model_values.specs.Values.{AreAlikeValues, HasClearWriters, IsUnwritten, IsValuedPlacing}
+use Rattle.model_replies.specs.declared.decision.Decision.{Decision}
+use Rattle.model_replies.specs.declared.decision.Decision.TheVariants.{Obeys, Breaks, Undecided}
+use Rattle.model_replies.specs.declared.decision.Decisions.{Decisions}
+use Rattle.model_replies.specs.declared.judging.Unsaid.{Unsaid}
+use Rattle.model_replies.specs.declared.judging.Unsaid.TheVariants.{Alike, Unwritten, Memory}
+use Rattle.model_replies.specs.declared.judging.ValueVerdicts.{ValueVerdicts}
+
+-- no order of each word's writes gives the words, so every model is broken
+abbrev pub HasNoPlacing : Valued → Type 0
+HasNoPlacing v = (placed : List Operation) (writes : List ℕ) → IsValuedPlacing v placed writes → ⊥
+
+-- why no model is asked: two writes leave the same in one word; or what was found no write left; or
+-- memory was refused
+abbrev pub IsUnsaid : Valued → Unsaid → Type 0
+IsUnsaid v (Alike x y) = AreAlikeValues v.operations.now v.left.now x y
+IsUnsaid v (Unwritten x) = IsUnwritten v x × HasNoPlacing v
+IsUnsaid v Memory = Unit {0}
+
+-- each word that was found shows who wrote it, and the verdict of each model is by a search of at most
+-- so many nodes
+pub record AreValueVerdicts {A : Type 0} (v : Valued) (nodes : ℕ) (all : ValueVerdicts A) : Type 0
+  where
+    pub clear : HasClearWriters v
+    pub by_coherent : IsJudgedOn coherent v (Some nodes) all.coherent
+    pub by_fenced : IsJudgedOn fenced v (Some nodes) all.fenced
+    pub by_pso : IsJudgedOn partial_store_order v (Some nodes) all.pso
+    pub by_tso : IsJudgedOn total_store_order v (Some nodes) all.tso
+    pub by_sc : IsJudgedOn sequential v (Some nodes) all.sc
+
+-- what a verdict decides
+abbrev pub decision_of : {A : Type 0} → OrderVerdict A → Decision
+decision_of (verdict.Obeys e) = Obeys
+decision_of verdict.Breaks = Breaks
+decision_of verdict.Undecided = Undecided
+
+-- what the verdicts of the models decide
+abbrev pub decisions_of : {A : Type 0} → ValueVerdicts A → Decisions
+decisions_of all = record {
+  coherent = decision_of all.coherent;
+  fenced = decision_of all.fenced;
+  pso = decision_of all.pso;
+  tso = decision_of all.tso;
+  sc = decision_of all.sc;
+}
+
+-- the decision on a model
+abbrev pub decision_on : MemoryModel → Decisions → Decision
+decision_on model.Coherent all = all.coherent
+decision_on model.Fenced all = all.fenced
+decision_on model.Pso all = all.pso
+decision_on model.Tso all = all.tso
+decision_on model.Sc all = all.sc
+
+-- the verdict of a model
+abbrev pub value_verdict_by : {A : Type 0} → MemoryModel → ValueVerdicts A → OrderVerdict A
+value_verdict_by model.Coherent all = all.coherent
+value_verdict_by model.Fenced all = all.fenced
+value_verdict_by model.Pso all = all.pso
+value_verdict_by model.Tso all = all.tso
+value_verdict_by model.Sc all = all.sc

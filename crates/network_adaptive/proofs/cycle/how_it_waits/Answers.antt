@@ -1,0 +1,35 @@
+use Rattle.std.proofs.Common.{◌≡◌, ◌+◌, ◌*◌, ◌<◌, ◌∙◌, List, Bool, false, length, sym, subst, arith}
+use Rattle.std.proofs.lemmas.List.{get_or_read}
+use Rattle.network_judge.specs.Marks.{is_marked_at}
+use Rattle.network_adaptive.specs.Between.{IsWhether, LeadsToWait}
+use Rattle.network_adaptive.proofs.Ways.{no_wait_more, not_come}
+use Rattle.network_adaptive.proofs.cycle.how_it_waits.Goals as goal
+
+pub way_between-requires-clause-leads : goal.way_between-requires-clause-leads
+way_between-requires-clause-leads g c =
+    let a = c.args in
+    subst (λ (b : Bool). IsWhether (LeadsToWait a.kinds.now a.choices.now (c.loop-to.to * (length a.kinds.now * a.ways)) a.ways a.marks.now a.x a.y) b)
+    c.if-branch.true c.in_ok-leads_to_wait.ensures
+
+pub loop-to-preserved-then-not-index : goal.loop-to-preserved-then-not-index
+loop-to-preserved-then-not-index g c =
+    let a = c.args in
+    let seen : List Bool = c.in_ok-seen.seen.items in
+    let low : a.x < length seen = (let size = c.in_ok-seen.ensures.size in let x = c.requires.x in omega arith) in
+    let down : is_marked_at seen a.x ≡ false = sym (get_or_read seen a.x c.index.result.now low c.index.ensures false) ∙ c.if-not-index.true in
+    no_wait_more a.kinds.now a.joins.now a.choices.now a.ways a.marks.now a.none.now a.x a.y c.loop-to.to (c.loop-to.to + 1) (omega arith)
+    (not_come a.kinds.now a.joins.now a.choices.now a.ways a.marks.now a.none.now seen a.x a.y c.loop-to.to c.in_ok-seen.ensures down) c.loop-to.invariant
+
+pub loop-to-preserved : goal.loop-to-preserved
+loop-to-preserved g c =
+    let a = c.args in
+    let no = subst (λ (b : Bool). IsWhether (LeadsToWait a.kinds.now a.choices.now (c.loop-to.to * (length a.kinds.now * a.ways)) a.ways a.marks.now a.x a.y) b)
+    c.if-branch.false c.in_ok-leads_to_wait.ensures in
+    no_wait_more a.kinds.now a.joins.now a.choices.now a.ways a.marks.now a.none.now a.x a.y c.loop-to.to (c.loop-to.to + 1) (omega arith)
+    (λ w. no w.leads) c.loop-to.invariant
+
+pub unreachable-requires : goal.unreachable-requires
+unreachable-requires g c =
+    let w = c.requires.waits in
+    let inside = w.1 in
+    c.loop-to.invariant w.0 (omega arith) w.2

@@ -1,0 +1,137 @@
+//! The dependencies of a cycle: each channel, and how it leads on to the next.
+
+ghost use Rattle.std.specs.Prelude.{◌≡◌, ◌+◌, ◌*◌, ◌^◌, ◌<◌, ◌≤◌, ℕ, true, [], length, IfOk};
+ghost use Rattle.network_judge.specs.Table.{table_of, joins_of};
+ghost use Rattle.rising.specs.Search.{path_look};
+ghost use Rattle.network_adaptive.specs.Flags.{AreDown};
+ghost use Rattle.network_adaptive.specs.Between.{MayWait, IsHowOver, IsWaitingLook, IsHow};
+ghost use Rattle.network_adaptive.specs.Between.{IsDependencyOf, AreDependencies};
+
+use crate::between::{leads_to_wait, way_between};
+use crate::comes::comes_to;
+use crate::verdict::{Dependency, How};
+use network_judge::{Join, Kind, Reply};
+use rising::Look;
+use std::alloc::{AllocError, Allocator};
+
+/// How a packet that holds a channel comes to wait for another: the first channel that such a packet
+/// goes to, and over which channels it goes.
+///
+/// Errors: memory.
+fn how_it_waits<A: Allocator + Copy>(
+    alloc: A,
+    kinds: &[Kind],
+    joins: &[Join],
+    choices: &[u32],
+    ways: usize,
+    marks: &[bool],
+    none: &[bool],
+    x: usize,
+    y: usize,
+) -> Result<How<A>, AllocError>
+    requires room { length kinds.now * (length kinds.now * ways) ≤ length choices.now }
+    requires marks { length marks.now ≡ length kinds.now }
+    requires none { length none.now ≡ length kinds.now }
+    requires within { (i j : ℕ) → joins_of (table_of [] joins.now []) i j ≡ true
+        → i < length kinds.now }
+    requires x { x < length kinds.now }
+    requires waits { MayWait kinds.now joins.now choices.now ways marks.now none.now x y }
+    ensures { IfOk result (IsHowOver kinds.now joins.now choices.now ways marks.now none.now x y) }
+{
+    let block = kinds.len() * ways;
+    for to in 0..kinds.len() {
+        let base = to * block;
+        let seen = comes_to(alloc, kinds, joins, choices, base, ways, none, to)?;
+        if !seen[x] {
+            continue;
+        }
+        if leads_to_wait(alloc, kinds, choices, base, ways, marks, x, y)? {
+            let over = way_between(alloc, kinds, choices, base, ways, marks, x, y)?;
+            return Ok(How::Over(to, over));
+        }
+    }
+    unreachable!()
+}
+
+/// A channel of a search, and how it leads on in its column.
+///
+/// Errors: memory.
+fn dependency_of<A: Allocator + Copy>(
+    alloc: A,
+    kinds: &[Kind],
+    joins: &[Join],
+    replies: &[Reply],
+    choices: &[u32],
+    ways: usize,
+    marks: &[bool],
+    none: &[bool],
+    look: Look,
+) -> Result<Dependency<A>, AllocError>
+    requires room { length kinds.now * (length kinds.now * ways) ≤ length choices.now }
+    requires marks { length marks.now ≡ length kinds.now }
+    requires none { length none.now ≡ length kinds.now }
+    requires within { (i j : ℕ) → joins_of (table_of [] joins.now []) i j ≡ true
+        → i < length kinds.now }
+    requires look { IsWaitingLook kinds.now joins.now replies.now choices.now ways marks.now
+        none.now look }
+    ensures { IfOk result (IsDependencyOf kinds.now joins.now replies.now choices.now ways
+        marks.now none.now look) }
+{
+    if look.column < kinds.len() {
+        let how = how_it_waits(
+            alloc,
+            kinds,
+            joins,
+            choices,
+            ways,
+            marks,
+            none,
+            look.node,
+            look.column,
+        )?;
+        Ok(Dependency {
+            channel: look.node,
+            how,
+        })
+    } else {
+        Ok(Dependency {
+            channel: look.node,
+            how: How::Replied(replies[look.column - kinds.len()].to),
+        })
+    }
+}
+
+/// Each channel of a path, and how it leads on in its column.
+///
+/// Errors: memory.
+pub fn dependencies_of<A: Allocator + Copy>(
+    alloc: A,
+    kinds: &[Kind],
+    joins: &[Join],
+    replies: &[Reply],
+    choices: &[u32],
+    ways: usize,
+    marks: &[bool],
+    none: &[bool],
+    looks: &[Look],
+) -> Result<Vec<Dependency<A>, A>, AllocError>
+    requires room { length kinds.now * (length kinds.now * ways) ≤ length choices.now }
+    requires marks { length marks.now ≡ length kinds.now }
+    requires none { length none.now ≡ length kinds.now }
+    requires within { (i j : ℕ) → joins_of (table_of [] joins.now []) i j ≡ true
+        → i < length kinds.now }
+    requires looks { (k : ℕ) → k < length looks.now
+        → IsWaitingLook kinds.now joins.now replies.now choices.now ways marks.now none.now
+        (path_look looks.now k) }
+    ensures { IfOk result (λ edges.
+        AreDependencies kinds.now joins.now replies.now choices.now ways marks.now none.now
+        looks.now edges.items) }
+{
+    let mut edges = Vec::with_capacity(alloc, looks.len())?;
+    for k in 0..looks.len() {
+        edges.push(dependency_of(
+            alloc, kinds, joins, replies, choices, ways, marks, none, looks[k],
+        )?)?;
+    }
+    Ok(edges)
+}

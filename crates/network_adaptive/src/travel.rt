@@ -1,0 +1,59 @@
+//! How far packets can go: whether the choices for some destination lead around.
+
+ghost use Rattle.std.specs.Prelude.{◌≡◌, ◌+◌, ◌*◌, ◌^◌, ◌<◌, ◌≤◌, ℕ, true, [], length, IfOk};
+ghost use Rattle.network_judge.specs.Table.{table_of, joins_of};
+ghost use Rattle.network_adaptive.specs.Flags.{AreDown};
+ghost use Rattle.network_adaptive.specs.Travel.{IsTravelOf};
+
+use crate::choices::Choices;
+use crate::comes::comes_to;
+use crate::longest::{farthest, most_from};
+use crate::verdict::{Round, Travel};
+use network_judge::{Join, Kind};
+use rising::{Searched, find};
+use std::alloc::{AllocError, Allocator};
+
+/// Finds the first destination whose packets can go round, and a channel that they can come back to:
+/// or there is none, and finds how many channels packets go over at most.
+///
+/// Errors: memory.
+pub fn travel_of<A: Allocator + Copy>(
+    alloc: A,
+    kinds: &[Kind],
+    joins: &[Join],
+    choices: &[u32],
+    ways: usize,
+    none: &[bool],
+) -> Result<Travel, AllocError>
+    requires room { length kinds.now * (length kinds.now * ways) ≤ length choices.now }
+    requires none { length none.now ≡ length kinds.now }
+    requires down { AreDown none.now }
+    requires within { (i j : ℕ) → joins_of (table_of [] joins.now []) i j ≡ true
+        → i < length kinds.now }
+    ensures { IfOk result (IsTravelOf kinds.now joins.now choices.now ways none.now) }
+{
+    let block = kinds.len() * ways;
+    let mut most = 0;
+    for to in 0..kinds.len() {
+        let base = to * block;
+        let seen = comes_to(alloc, kinds, joins, choices, base, ways, none, to)?;
+        let graph = Choices {
+            kinds,
+            choices,
+            base,
+            ways,
+            seen: &seen,
+        };
+        match find(alloc, &graph)? {
+            Searched::Rising(numbers) => {
+                let far = farthest(alloc, &graph, &numbers)?;
+                most = most_from(joins, to, &far, most);
+            }
+            Searched::Circuit(looks) => return Ok(Travel::Round(Round {
+                to,
+                at: looks[0].node,
+            })),
+        }
+    }
+    Ok(Travel::Bounded(most))
+}

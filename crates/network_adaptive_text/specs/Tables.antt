@@ -1,0 +1,74 @@
+-- The lists of a network whose routers choose, as they are judged, and the judgement of a text.
+use Rattle.std.specs.Prelude.{◌≡◌, ℕ, ◌+◌, ◌-◌, ◌*◌, ◌<◌, ◌≤◌, ◌==◌, Bool, true, List, [], ◌∷◌, ◌++◌}
+use Rattle.std.specs.Prelude.{length, slice_get, slice_index, if◌then◌else◌}
+use Rattle.std.specs.List.{list_any, flat_map, range_with_len}
+use Rattle.network_judge.specs.Table.{is_receiver}
+use Rattle.network_judge.specs.Marks.{is_marked_at}
+use Rattle.network_text.specs.Network.{count_of, cell_of}
+use Rattle.network_text.specs.Answer.{first_lines}
+use Rattle.network_adaptive.specs.Choosing.{ChoiceTable, choosing_of, table}
+use Rattle.network_adaptive.specs.Shape.{AreMarksOf, EndsAreMarked}
+use Rattle.network_judge.specs.Replies.{AreReplies}
+use Rattle.network_adaptive_text.specs.declared.lists.Lists as lists
+use Rattle.network_adaptive_text.specs.Choosing.{ChoosingText, cells_of, further_at}
+
+-- the choice that comes after so many others, in the order of the text
+abbrev pub listed_choice : ChoosingText → ℕ → ℕ → ℕ
+listed_choice t cell place =
+    if place == 0 then slice_index t.fixed.table.choices cell else further_at t (place - 1) cell
+
+-- that behind channel x for packets to channel j; where there is none, the number of channels
+abbrev pub choice_toward : ChoosingText → ℕ → ℕ → ℕ → ℕ
+choice_toward t j x place =
+    if is_receiver (slice_get t.fixed.table.kinds j)
+    then listed_choice t (cell_of t.fixed x j) place else count_of t.fixed
+
+-- all behind a channel, all for packets to a channel, and all
+abbrev pub choice_row : ChoosingText → ℕ → ℕ → List ℕ
+choice_row t j x = first_lines (λ place. choice_toward t j x place ∷ []) (t.layers + 1)
+
+abbrev pub block_of : ChoosingText → ℕ → List ℕ
+block_of t j = first_lines (choice_row t j) (count_of t.fixed)
+
+abbrev pub choice_list : ChoosingText → List ℕ
+choice_list t = first_lines (block_of t) (count_of t.fixed)
+
+-- whether a channel is an escape: one that a line makes one, and any where no line does
+abbrev pub is_made_escape : List ℕ → ℕ → Bool
+is_made_escape [] x = true
+is_made_escape (e ∷ escapes) x = list_any (λ f. f == x) (e ∷ escapes)
+
+-- flags of the escapes
+pub record AreEscapesOf (t : ChoosingText) (flags : List Bool) : Type 0 where
+  pub size : length flags ≡ count_of t.fixed
+  pub each : (x : ℕ) → x < count_of t.fixed → is_marked_at flags x ≡ is_made_escape t.escapes x
+
+-- the lists of a text with these marks
+abbrev pub choice_table : ChoosingText → List Bool → ChoiceTable
+choice_table t marks =
+    choosing_of t.fixed.table.kinds t.fixed.table.joins (t.layers + 1) (choice_list t) marks
+
+-- flags of the escapes, and of the injection and ejection channels
+pub record AreMarks (t : ChoosingText) (marks : List Bool) : Type 0 where
+  pub flags : List Bool
+  pub escapes : AreEscapesOf t flags
+  pub are : AreMarksOf t.fixed.table.kinds flags marks
+
+-- the lists that are judged
+abbrev pub table_of_lists : {A : Type 0} → lists.Lists A → ChoiceTable
+table_of_lists l =
+    choosing_of l.kinds.items l.joins.items l.ways l.choices.items l.marks.items
+
+-- they are those of a text
+pub record AreListsOf {A : Type 0} (t : ChoosingText) (l : lists.Lists A) : Type 0 where
+  pub marks : AreMarks t l.marks.items
+  pub same : table_of_lists l ≡ choice_table t l.marks.items
+  pub replies : l.replies.items ≡ t.fixed.replies
+
+-- they can be judged
+pub record CanBeJudged {A : Type 0} (l : lists.Lists A) : Type 0 where
+  pub full : length l.kinds.items * (length l.kinds.items * l.ways) ≤ length l.choices.items
+  pub marks : length l.marks.items ≡ length l.kinds.items
+  pub ends : EndsAreMarked l.kinds.items l.marks.items
+  pub replies : AreReplies (table (table_of_lists l)) l.replies.items
+  pub small : length l.kinds.items ≤ 16384

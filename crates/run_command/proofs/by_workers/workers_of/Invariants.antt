@@ -1,7 +1,0 @@
-use Rattle.std.proofs.Common.{◌≡◌, map}
-use Rattle.run_command.specs.Workers.{new_worker}
-use Rattle.run_command.proofs.by_workers.workers_of.Given as goal
-
--- the seats so far have workers
-abbrev pub invariant-loop-seat : goal.invariant-loop-seat
-invariant-loop-seat g l = l.workers.items ≡ map new_worker l.yielded

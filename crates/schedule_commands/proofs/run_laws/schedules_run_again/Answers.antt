@@ -1,5 +1,0 @@
-use Rattle.schedule_commands.proofs.RunsAgain.{rounds_again, moves_again}
-use Rattle.schedule_commands.proofs.run_laws.schedules_run_again.Goals as goal
-
-pub returns : goal.returns
-returns c = record { rounds = rounds_again; moves = moves_again }
