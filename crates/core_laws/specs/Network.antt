@@ -19,7 +19,7 @@ use Rattle.channel_number.specs.Ports.{injection_channel, ejection_channel, inpu
 use Rattle.wormhole.specs.Net.{Net, Parcel}
 use Rattle.wormhole.specs.Events.{NetEvent, InjectHead, InjectRest, Latch, ForwardHead, ForwardRest, Return}
 use Rattle.wormhole.specs.Delivery.{accept}
-use Rattle.core_laws.specs.TorusNet as wormhole_torus
+use Rattle.core_laws.specs.TorusNet as torus_network
 use Rattle.router.specs.Table.{RouterState, router_wants, latch_of, output_for}
 use Rattle.router.specs.Beginning.{router_wiring}
 use Rattle.one_order.specs.ProcessorRecord.{ready, request_of}
@@ -37,11 +37,11 @@ use Rattle.core_laws.specs.Delivery.{next_flit, responses_made}
 
 -- the network of a machine, by the channels' numbers
 unfoldable pub net_of : Design → Net
-net_of d = wormhole_torus.torus_net d.shape d.depth
+net_of d = torus_network.torus_net d.shape d.depth
 
 -- a packet as the network has it
 unfoldable pub parcel_of : Shape → Packet → Parcel
-parcel_of s p = wormhole_torus.torus_parcel s p 0 (next_flit (flits_of p)) (rest (flits_of p))
+parcel_of s p = torus_network.torus_parcel s p 0 (next_flit (flits_of p)) (rest (flits_of p))
 
 abbrev pub request_parcel : Shape → Request → Parcel
 request_parcel s r = parcel_of s (packet.Request r)
