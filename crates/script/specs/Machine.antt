@@ -13,6 +13,7 @@ use Rattle.script.specs.declared.reason.Keyword.{Keyword}
 use Rattle.script.specs.declared.reason.Keyword.TheVariants as key
 use Rattle.script.specs.declared.reason.TextReason.{TextReason}
 use Rattle.script.specs.declared.reason.TextReason.TheVariants as reason
+use Rattle.script_lines.specs.Machine.{MachineSpec}
 use Rattle.script.specs.Outcome.{unless, by_fault}
 use Rattle.script.specs.Reasons.{fault_of, setting_named}
 use Rattle.script.specs.Settings.{Settings, no_settings, number_at, value_at, one_index, few_indexes, spread, last_digits}

@@ -1,9 +1,6 @@
--- What the program's lists of lines stand for.
-use Rattle.std.specs.Prelude.{◌≡◌, ℕ, ◌<◌, List, map, length, slice_index}
-use Rattle.script_lines.specs.declared.line.Line.{Line}
-use Rattle.script_lines.specs.declared.lists.LineList.{LineList}
+-- The scripts so far, whose counts go with them.
 use Rattle.script.specs.declared.progress.Progress.{Progress}
-use Rattle.script_lines.specs.Lines.{AreAcceptedScripts, script_of, operation_count, total_count}
+use Rattle.script_lines.specs.Views.{AreCounted, lists_of}
 
 abbrev pub IsCounted : {A : Type 0} → Progress A → Type 0
 IsCounted p = AreCounted p.words (lists_of p.lists.items) p.counts.items p.total

@@ -1,18 +1,12 @@
 -- The script text: what each line makes of what the lines before it made, and what the whole text
 -- is.
-use Rattle.std.specs.Prelude.{◌≡◌, ℕ, ◌+◌, ◌^◌, ◌<◌, ◌≤◌, ◌&&◌, ◌||◌, ◌==◌, Bool, true, false, not, nat_le, nat_lt, List}
-use Rattle.std.specs.Prelude.{[], ◌∷◌, ◌++◌, length, take, replicate, sum_by, slice_get, slice_set, Option, Some, None, Result, Ok}
-use Rattle.std.specs.Prelude.{Err, if◌then◌else◌}
-use Rattle.std.specs.List.{slice_index_or}
+use Rattle.std.specs.Prelude.{ℕ, ◌+◌, ◌&&◌, ◌==◌, not, nat_le, nat_lt, List, [], ◌∷◌, ◌++◌, length, replicate, slice_set}
+use Rattle.std.specs.Prelude.{Option, Some, None, Result, Ok, Err, if◌then◌else◌}
 use Rattle.torus.specs.declared.fault.Fault.{Fault}
 use Rattle.torus.specs.Shape.{tiles_of}
 use Rattle.lexer.specs.Words.{words_of, begins_comment}
 use Rattle.script.specs.declared.fault.LineFault.{LineFault}
 use Rattle.script_lines.specs.declared.line.Line.{Line}
-use Rattle.script_lines.specs.declared.line.Line.TheVariants.{Load, Store, Swap, Cas, Add, And, Or, Xor, Max, Min, Fence}
-use Rattle.script_lines.specs.declared.line.Line.TheVariants.{Spin}
-use Rattle.script_lines.specs.declared.line.Value.{Value as Operand}
-use Rattle.script_lines.specs.declared.line.Value.TheVariants.{Number, Last}
 use Rattle.lexer.specs.Outcome.{◌>>=◌, then_lines}
 use Rattle.lexer.specs.declared.refusal.Refusal.{Refusal}
 use Rattle.script.specs.declared.reason.TextReason.{TextReason}
@@ -21,6 +15,7 @@ use Rattle.script.specs.Outcome.{unless, by_fault, line_by_fault}
 use Rattle.script.specs.Reasons.{fault_of}
 use Rattle.script.specs.Settings.{number_at}
 use Rattle.script.specs.Form.{form_of, line_of_form}
+use Rattle.script_lines.specs.Lines.{ScriptsSpec, operation_count, mentions_last, script_of, script_with, scripts_with}
 use Rattle.script_lines.specs.Machine.{MachineSpec}
 
 -- why a line may not stand at the end of the script of a processor: no `last` where no operation
