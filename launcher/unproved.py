@@ -14,9 +14,9 @@ from typing import Callable
 
 import look
 import words
+from bitcode import ENDED, NotKept, NotMade
 from build import PROGRAM, Interrupted, say
 from crates import ROOT
-from look import ENDED, NOTE
 
 # The seconds that a command may take, once it is compiled.
 SECONDS = 600
@@ -44,13 +44,13 @@ def run(name: str, given: list[str], told: Callable[[words.Answer], int]) -> int
     fault = words.unread(asked) if asked else None
     if fault is not None:
         return told(fault)
-    say(NOTE)
+    say(look.NOTE)
     try:
         try:
-            path = look.kept_look()
-        except look.NotMade as why:
+            path = look.look_for(name)
+        except NotMade as why:
             return look.told(why)
-        except look.NotKept as why:
+        except NotKept as why:
             say(f"the look can't be kept ({why}), so the program is compiled for this one run")
             return tried(name, asked)
     except Interrupted:
