@@ -14,7 +14,7 @@ from typing import Callable
 
 import look
 import words
-from bitcode import ENDED, NotKept, NotMade
+from bitcode import ENDED, NotKept, NotMade, started
 from build import PROGRAM, Interrupted, say
 from crates import ROOT
 
@@ -75,10 +75,11 @@ def tried(name: str, asked: words.Job | None) -> int:
             files += ["--data", f"file{place}={path}"]
             line[place] = f"file{place}"
         command = ["rt", "try", "--seconds", str(SECONDS), *files, "--", *line]
-        ran = subprocess.run(command, cwd=f"{ROOT}/crates/{name}", stdin=subprocess.DEVNULL, capture_output=True)
-    ended = ENDED.search(ran.stderr)
-    its_own = ITS_OWN.search(ran.stderr)
-    errors = ran.stderr[: its_own.start()] if ended and its_own else ran.stderr
+        with started(*command, cwd=f"{ROOT}/crates/{name}", stdout=subprocess.PIPE, stderr=subprocess.PIPE) as ran:
+            output, errors = ran.communicate()
+    ended = ENDED.search(errors)
+    its_own = ITS_OWN.search(errors)
+    errors = errors[: its_own.start()] if ended and its_own else errors
     sys.stderr.buffer.write(errors)
     sys.stderr.flush()
     if ended is None:
@@ -86,7 +87,7 @@ def tried(name: str, asked: words.Job | None) -> int:
         say(f"{SECONDS} seconds and prints at most 1 MiB: use {PROVED}")
         return ran.returncode or 2
     try:
-        sys.stdout.buffer.write(ran.stdout)
+        sys.stdout.buffer.write(output)
         sys.stdout.flush()
     except OSError:
         os.dup2(os.open(os.devnull, os.O_WRONLY), 1)
