@@ -46,11 +46,16 @@ def both(tree, kinds):
     return tree.edits(kinds, True) + tree.edits(kinds, False)
 
 
+def tests(tree):
+    """How many tests stand below tests/."""
+    return sum(len(re.findall(r"(?m)^#\[test\]$", read(it))) for it in tree.files if it.startswith("tests/") and it.endswith(".rattle"))
+
+
 # Each: the pages of which exactly one has the sentence, once; its words with one group for the number (digits or a
 # word); and how it is counted. A row whose sentence is gone for good leaves this table.
 NUMBERS = [
     (BOTH, r"tries (\d+) edits", lambda t: both(t, GATED)),
-    (BOTH, r"(\d+) edits one by one", lambda t: both(t, GATED[:1])),
+    (BOTH, r"has (\d+) tests of public calls", tests),
     (BOTH, r"Another (\d+) wrong bodies", lambda t: t.edits(FURTHER, False)),
     (BOTH, r"(\d+) changed definitions", lambda t: t.edits(FURTHER, True)),
     (FRONT, r"(\d+) C functions that the program's proof reaches", lambda t: len(trusted("torusmem"))),

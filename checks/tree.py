@@ -82,7 +82,9 @@ class Tree:
 
     def take(self, path):
         top, _, rest = path.partition("/")
-        if top in ("checks", "tools", "bench", "include", "wrappers") or path.startswith(("examples/golden/", "examples/runtime/")):
+        if top == "tests":
+            self.others.add(rest.partition("/")[0])
+        if top in ("checks", "tools", "bench", "include", "wrappers", "tests") or path.startswith(("examples/golden/", "examples/runtime/")):
             self.others |= set(re.findall(r"\w+", read(path)))
         if top != "crates" or not path.endswith((".rt", ".antt")):
             return
