@@ -20,17 +20,18 @@ RECORD, NEW = "checks/refused.txt", "out/refused.txt"
 FOLDERS = ("wrong-bodies", "must-fail-in-batches", "must-fail")
 # The parts of a toolchain on which a verdict depends.
 KIT_PARTS = ("bin", "rlibs", "logic_built", "rattle/logic")
-HEAD = """# The edits that the prover has refused. A section for each toolchain: what `rt version` prints, and a sum of the prover and of
-# the files of its libraries. In it a line for each edit: the crate, the edit, and a sum of checks/judging.py, of the edit, and of
-# the line of crates.txt, of src, specs and proofs of the crate and of those below it. `checks/wrong_bodies` reads and writes it.
+HEAD = """# The edits that the prover has refused. A section for each toolchain: what `rt version` prints, and a sum of the prover and
+# of the files of its libraries. In it a line for each edit: the crate, the edit, and a sum of checks/judging.py, of the edit,
+# and of the line of crates.txt, of src, specs and proofs of the crate and of those below it. `checks/wrong_bodies` reads and
+# writes it.
 """
 
 
 def kit() -> str:
     """Which toolchain this is: what `rt version` prints, and a sum of the prover, and of the names and sizes of the files of
     its libraries."""
-    said = subprocess.run(["rt", "version"], cwd=ROOT, stdin=subprocess.DEVNULL, stdout=subprocess.PIPE, stderr=subprocess.DEVNULL,
-                          encoding="utf-8", errors="replace", check=False).stdout
+    said = subprocess.run(["rt", "version"], cwd=ROOT, stdin=subprocess.DEVNULL, stdout=subprocess.PIPE,
+                          stderr=subprocess.DEVNULL, encoding="utf-8", errors="replace", check=False).stdout
     folder = os.path.dirname(os.path.dirname(os.path.realpath(shutil.which("rt") or "")))
     total = hashlib.sha256()
     for name in ("KIT-ID", "bin/rattle"):
@@ -40,7 +41,8 @@ def kit() -> str:
     for part in KIT_PARTS:
         for at, folders, names in os.walk(f"{folder}/{part}"):
             folders.sort()
-            rows = [(os.path.relpath(f"{at}/{it}", folder), os.lstat(f"{at}/{it}").st_size) for it in sorted(names) if not it.endswith(".pyc")]
+            paths = [f"{at}/{it}" for it in sorted(names) if not it.endswith(".pyc")]
+            rows = [(os.path.relpath(it, folder), os.lstat(it).st_size) for it in paths]
             total.update(repr(rows).encode())
     return " ".join([*said.split(), "files", total.hexdigest()[:16]])
 
