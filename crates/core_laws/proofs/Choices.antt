@@ -36,7 +36,7 @@ use Rattle.core_laws.proofs.AgentSteps.{option_map_some}
 use Rattle.core_laws.specs.Attempts.{step_op}
 use Rattle.core_laws.specs.Waking.{wiring_at, wanted, Meets, Disturbs}
 use Rattle.core_laws.specs.Operations.{woken_by_operation}
-use Rattle.core_laws.specs.Choices.{can_enable, OtherChoicesSleep, choices_woken}
+use Rattle.core_laws.specs.ChoicesAsleep.{can_enable, OtherChoicesSleep, choices_woken}
 use Rattle.core_laws.proofs.Operations.{op_is, accesses, in_memory_after, operations_tell}
 use Rattle.core_laws.proofs.PortsMet.{none_of, true_isnt}
 use Rattle.core_laws.proofs.RouterWants.{Seeks, seeks}

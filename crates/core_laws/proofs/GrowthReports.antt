@@ -29,7 +29,7 @@ use Rattle.core_laws.proofs.Reached.{reports_counted}
 use Rattle.core_laws.specs.Machine.{Core, IsAfter}
 use Rattle.core_laws.specs.Appended.{changed_at, tile_with, state_with, IsUnreported, IsNoReport}
 use Rattle.core_laws.proofs.Places.{get_other, get_map, set_other, set_same, written_other, written_same}
-use Rattle.core_laws.proofs.Tiles.{other_agent, pair_with}
+use Rattle.core_laws.proofs.HandedTiles.{other_agent, pair_with}
 
 -- at first nobody has
 pub first_unreported : (l : Load) (p : ℕ) → p < length l.scripts → IsUnreported (first_state l) p

@@ -20,7 +20,7 @@ use Rattle.core_laws.proofs.AgentSteps.{option_map_some}
 use Rattle.core_laws.specs.Machine.{event_in}
 use Rattle.core_laws.specs.Appended.{changed_at, tile_with, state_with, IsUnreported}
 use Rattle.core_laws.proofs.Places.{get_other, get_same, set_other, set_same, part_same, map_changed, written_other, written_same}
-use Rattle.core_laws.proofs.Tiles.{same_step}
+use Rattle.core_laws.proofs.HandedTiles.{same_step}
 
 -- the records of the processors with the line
 records_with : (s : State) (p : ℕ) (line : Line)

@@ -159,7 +159,7 @@ pub mod PortsKept
 pub mod PortsAlike
 pub mod Choices
 mod WakeExamples
-pub mod Tiles
+pub mod HandedTiles
 pub mod Places
 pub mod GrowthSteps
 pub mod GrowthRuns

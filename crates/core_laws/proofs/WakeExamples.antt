@@ -8,7 +8,7 @@ use Rattle.flit_buffer.specs.declared.word_op.WordOp.TheVariants.{Store}
 use Rattle.core_laws.specs.Agent.TheVariants.{Processor}
 use Rattle.core_laws.specs.Tile.{Design}
 use Rattle.core_laws.specs.Agents.{wiring_of}
-use Rattle.core_laws.specs.Choices.{can_enable}
+use Rattle.core_laws.specs.ChoicesAsleep.{can_enable}
 use Rattle.core_laws.specs.Operations.{woken_by_operation}
 use Rattle.core_laws.specs.Routers.{PortFlags, frees_put, ports_woken, router_moved}
 use Rattle.core_laws.specs.Sleep.{choices_of}

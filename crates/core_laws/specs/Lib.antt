@@ -35,7 +35,7 @@ pub mod Sleep
 pub mod Watch
 pub mod Routers
 pub mod Operations
-pub mod Choices
+pub mod ChoicesAsleep
 pub mod Appended
 pub mod Doings
 pub mod Reopened

@@ -20,7 +20,7 @@ ghost use Rattle.core_laws.specs.Waking.{receiver_of, sender_of, Disturbs, woken
 ghost use Rattle.core_laws.specs.Sleep.{IsAsleep, OthersSleep, attempts_at, has_moved};
 ghost use Rattle.core_laws.specs.Operations.{woken_by_operation};
 ghost use Rattle.core_laws.specs.Watch.{Watch, round_awake};
-ghost use Rattle.core_laws.specs.Choices.{OtherChoicesSleep, choices_woken, can_enable};
+ghost use Rattle.core_laws.specs.ChoicesAsleep.{OtherChoicesSleep, choices_woken, can_enable};
 ghost use Rattle.core_laws.specs.Routers.{PortFlags, OtherPortsSleep, of_router, ports_woken};
 ghost use Rattle.core_laws.specs.Routers.{router_moved, latch_at};
 

@@ -18,7 +18,7 @@ use Rattle.tile.specs.Choices.{has_choice}
 use Rattle.tile.proofs.AgentNumbers.{number_is, kind_of_number}
 use Rattle.core_laws.specs.Core.{Load, State, design_of, after}
 use Rattle.core_laws.specs.Runs.{IsAcceptedLoad}
-use Rattle.core_laws.specs.Choices.{OtherChoicesSleep}
+use Rattle.core_laws.specs.ChoicesAsleep.{OtherChoicesSleep}
 use Rattle.core_laws.proofs.PortsMet.{none_of}
 use Rattle.core_laws.specs.Operations.{woken_by_operation}
 use Rattle.core_laws.specs.Routers.{PortFlags, OtherPortsSleep, of_router, ports_woken, router_moved}

@@ -20,7 +20,7 @@ use Rattle.core_laws.specs.Row.{row_of}
 use Rattle.core_laws.specs.Attempts.{step_op, LeavesRow, MovesRow, IsWordOperation}
 use Rattle.core_laws.proofs.RowOfRuns.{is_operation, all_steps}
 use Rattle.core_laws.specs.Operations.{woken_by_operation}
-use Rattle.core_laws.specs.Choices.{OtherChoicesSleep, choices_woken, can_enable}
+use Rattle.core_laws.specs.ChoicesAsleep.{OtherChoicesSleep, choices_woken, can_enable}
 use Rattle.core_laws.proofs.Choices as choices
 use Rattle.core_laws.proofs.PortsMet.{none_of}
 use Rattle.fabric_rule.specs.Known.{tile_of, known, enabled, op_of, moves}

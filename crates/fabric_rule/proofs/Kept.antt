@@ -12,7 +12,7 @@ use Rattle.tile.specs.Agents.{TilePlace, agent_number, agent_kind}
 use Rattle.tile.proofs.AgentNumbers.{tile_of_number, kind_of_number}
 use Rattle.core_laws.specs.Core.{Load, design_of}
 use Rattle.core_laws.specs.Runs.{IsAcceptedLoad}
-use Rattle.core_laws.specs.Choices.{choices_woken}
+use Rattle.core_laws.specs.ChoicesAsleep.{choices_woken}
 use Rattle.core_laws.specs.Routers.{PortFlags, of_router, brings_flit, returns_credit, empties, fills, frees_put, full_after, ports_woken, router_moved}
 use Rattle.core_laws.proofs.PortsMet.{none_of}
 use Rattle.fabric_rule.specs.Known.{tile_of, known, enabled, op_of}

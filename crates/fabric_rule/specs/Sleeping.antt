@@ -7,7 +7,7 @@ use Rattle.torus.specs.declared.step.Choice.TheVariants.{Look, TakeFrom, CreditO
 use Rattle.tile.specs.declared.agent.Agent.TheVariants.{Router}
 use Rattle.tile.specs.Agents.{agent_number, agent_kind, agent_tile}
 use Rattle.core_laws.specs.Core.{Load, design_of, after}
-use Rattle.core_laws.specs.Choices.{OtherChoicesSleep}
+use Rattle.core_laws.specs.ChoicesAsleep.{OtherChoicesSleep}
 use Rattle.core_laws.specs.Routers.{PortFlags, OtherPortsSleep}
 use Rattle.fabric_rule.specs.Groups.{In}
 use Rattle.fabric_rule.specs.Inner.{IsInner}

@@ -14,7 +14,7 @@ ghost use Rattle.tile.specs.Agents.{TilePlace, agent_number, agent_kind, agent_t
 ghost use Rattle.tile.specs.Choices.{has_choice};
 ghost use Rattle.core_laws.specs.Core.{Load, design_of, after};
 ghost use Rattle.core_laws.specs.Runs.{IsAcceptedLoad};
-ghost use Rattle.core_laws.specs.Choices.{choices_woken};
+ghost use Rattle.core_laws.specs.ChoicesAsleep.{choices_woken};
 ghost use Rattle.core_laws.specs.Routers.{PortFlags, of_router, latch_at, ports_woken, router_moved};
 ghost use Rattle.machine_parts.specs.Awake.{choice_rested};
 ghost use Rattle.machine_parts.specs.Ports.{take_rested, put_rested, credit_rested};

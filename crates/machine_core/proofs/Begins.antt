@@ -30,7 +30,7 @@ use Rattle.machine_parts.proofs.ReachedRows.{seen_state}
 use Rattle.machine_parts.specs.Awake.{Awake, is_choice_awake}
 use Rattle.machine_parts.specs.Ports.{flags_of, fresh_ports}
 use Rattle.machine_parts.specs.Routers.{PortFlags, OtherPortsSleep}
-use Rattle.machine_parts.specs.Choices.{OtherChoicesSleep}
+use Rattle.machine_parts.specs.ChoicesAsleep.{OtherChoicesSleep}
 use Rattle.machine_parts.proofs.KeptSleepers.{fresh}
 use Rattle.machine_core.specs.declared.machine.Machine.TheInside.{Inside}
 use Rattle.machine_core.specs.Inside.{design_in, places_in, core_of, HaveRoom, HasRoomForScripts, IsMachine}

@@ -10,7 +10,7 @@ use Rattle.machine_parts.specs.Appended.{state_with, appended}
 use Rattle.machine_parts.proofs.GrowthReports.{others_step}
 use Rattle.machine_parts.specs.Reopened.{reopened}
 use Rattle.machine_parts.specs.Handed.{handed, has_reported}
-use Rattle.machine_parts.specs.Choices.{OtherChoicesSleep}
+use Rattle.machine_parts.specs.ChoicesAsleep.{OtherChoicesSleep}
 use Rattle.machine_parts.specs.Awake.{Awake, is_choice_awake, roused}
 use Rattle.machine_parts.proofs.KeptSleepers.{choice_roused, every_choice}
 use Rattle.machine_parts.specs.Grown.{tiles_given, AreAsReported}

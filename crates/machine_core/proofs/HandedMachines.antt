@@ -21,7 +21,7 @@ use Rattle.machine_parts.proofs.EveryRun.{holds_in}
 use Rattle.machine_parts.specs.Machine.{Core, IsAfter}
 use Rattle.machine_parts.specs.Seen.{IsShown, state_seen}
 use Rattle.machine_parts.proofs.ReachedRows.{seen_state}
-use Rattle.machine_parts.specs.Choices.{OtherChoicesSleep}
+use Rattle.machine_parts.specs.ChoicesAsleep.{OtherChoicesSleep}
 use Rattle.machine_parts.specs.Awake.{Awake, is_choice_awake, roused}
 use Rattle.machine_parts.specs.Ports.{flags_of}
 use Rattle.machine_parts.specs.Routers.{OtherPortsSleep}

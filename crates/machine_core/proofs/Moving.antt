@@ -41,7 +41,7 @@ use Rattle.machine_parts.specs.Awake.{Awake, is_choice_awake, awake_after as aft
 use Rattle.machine_parts.specs.Ports.{AwakePorts, flags_of}
 use Rattle.machine_parts.specs.Routers.{PortFlags, OtherPortsSleep}
 use Rattle.machine_core.proofs.RouterFlags.{FollowMove, ports_kept}
-use Rattle.machine_parts.specs.Choices.{OtherChoicesSleep}
+use Rattle.machine_parts.specs.ChoicesAsleep.{OtherChoicesSleep}
 use Rattle.machine_core.proofs.Fields.{Led, state_at, records_shown, with_parts, core_by}
 use Rattle.machine_core.proofs.Standing.{design_is, book_is, tiles_counted}
 use Rattle.machine_parts.proofs.KeptSleepers as kept

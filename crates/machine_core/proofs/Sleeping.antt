@@ -18,7 +18,7 @@ use Rattle.machine_parts.specs.Machine.{Core, IsAfter, built_to, event_in, core_
 use Rattle.machine_parts.proofs.Moves.{left_after}
 use Rattle.machine_parts.specs.Awake.{Awake, is_awake, is_choice_awake, rested, choice_rested}
 use Rattle.machine_parts.specs.Sleep.{IsAsleep, choices_of, attempts_at, has_moved}
-use Rattle.machine_parts.specs.Choices.{OtherChoicesSleep}
+use Rattle.machine_parts.specs.ChoicesAsleep.{OtherChoicesSleep}
 use Rattle.machine_parts.proofs.Sleepers.{falls, same_machine}
 use Rattle.machine_parts.proofs.KeptSleepers.{rests, agents_sleep, choice_rests}
 use Rattle.machine_core.specs.declared.machine.Machine.TheInside.{Inside}

@@ -12,7 +12,7 @@ use Rattle.machine_parts.specs.Placed.{PlacedTile}
 use Rattle.machine_parts.specs.Core.{Load, design_of, after as state_after_steps}
 use Rattle.machine_parts.specs.Seen.{IsShown, state_seen}
 use Rattle.machine_parts.specs.Machine.{Core, IsAfter}
-use Rattle.machine_parts.specs.Choices.{OtherChoicesSleep}
+use Rattle.machine_parts.specs.ChoicesAsleep.{OtherChoicesSleep}
 use Rattle.machine_parts.specs.Routers.{OtherPortsSleep}
 use Rattle.machine_parts.specs.Awake.{is_choice_awake}
 use Rattle.machine_parts.specs.Ports.{flags_of}

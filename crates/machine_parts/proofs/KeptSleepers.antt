@@ -23,7 +23,7 @@ use Rattle.core_laws.proofs.AgentChoices.{other_choice}
 use Rattle.core_laws.specs.Attempts.{step_op}
 use Rattle.core_laws.specs.Operations.{woken_by_operation}
 use Rattle.core_laws.specs.Sleep.{OthersSleep, attempts_at, has_moved}
-use Rattle.core_laws.specs.Choices.{can_enable, OtherChoicesSleep}
+use Rattle.core_laws.specs.ChoicesAsleep.{can_enable, OtherChoicesSleep}
 use Rattle.core_laws.proofs.Choices.{kept}
 use Rattle.core_laws.proofs.Sleepers.{falls}
 use Rattle.machine_parts.specs.Awake.{Awake, bit_of, bits_at, bits_by, is_awake, is_choice_awake, awake_after as after_move, rested, roused, all_roused}

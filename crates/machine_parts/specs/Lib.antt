@@ -11,7 +11,7 @@ pub use Rattle.core_laws.specs.Notes
 pub use Rattle.core_laws.specs.Row
 pub use Rattle.core_laws.specs.Seen
 pub use Rattle.core_laws.specs.Taken
-pub use Rattle.core_laws.specs.Choices
+pub use Rattle.core_laws.specs.ChoicesAsleep
 pub use Rattle.core_laws.specs.Routers
 pub use Rattle.core_laws.specs.Sleep
 pub use Rattle.one_order.specs.EventBook

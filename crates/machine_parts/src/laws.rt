@@ -14,7 +14,7 @@ ghost use Rattle.core_laws.specs.Core.{Load, State, design_of, step, after};
 ghost use Rattle.core_laws.specs.Runs.{IsAcceptedLoad};
 ghost use Rattle.core_laws.specs.Attempts.{step_op};
 ghost use Rattle.core_laws.specs.Sleep.{OthersSleep, attempts_at, has_moved};
-ghost use Rattle.core_laws.specs.Choices.{OtherChoicesSleep};
+ghost use Rattle.core_laws.specs.ChoicesAsleep.{OtherChoicesSleep};
 ghost use Rattle.machine_parts.specs.Awake.{Awake, is_awake, is_choice_awake, awake_after, rested};
 ghost use Rattle.machine_parts.specs.Awake.{roused, all_roused, choice_rested};
 
