@@ -111,7 +111,7 @@ module _ (words : ℕ) (all : List Access) (ops : List Operation) (writes : List
             (sym (cond-false (is_load (operation_at ops x).kind) (source_at ops writes x) (slice_index writes (place x - 1)) (elim (cases_Bool (is_load
             (operation_at ops x).kind)) [
               | inl bad ↦ absurd (load_is_no_write (at x).kind (sym (ap is_load same) ∙ bad) write)
-              | inr no ↦ no
+              | inr other ↦ other
             ])))
             (write_found x low write late)
       ]

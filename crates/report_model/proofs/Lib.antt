@@ -7,3 +7,4 @@ pub mod Answered
 pub mod Scripted
 pub mod Walked
 pub mod Answering
+pub mod Bare
