@@ -8,7 +8,7 @@ LEFT_OUT, LIBRARY = "Used above and not printed here: ", "## Words of the toolch
 NAME = re.compile(r"[A-Za-z_]\w*(?:::[A-Za-z_]\w*)*\Z")
 TOKEN = re.compile(r"(?<![\w.])[A-Z]\w+")  # of a statement: what isn't a field of something
 # What the page explains, and what the toolchain's language has without an import; and types of Rust that no statement speaks of.
-OWN = {"Type", "Unit", "Self", "Vec", "Allocator", "Copy", "Clone", "Debug", "PartialEq", "Eq"}
+OWN = {"Type", "Unit", "u32", "u64", "Self", "Vec", "Allocator", "Copy", "Clone", "Debug", "PartialEq", "Eq"}
 
 
 def blocks(text):
@@ -30,15 +30,18 @@ def printed(tail):
     return found
 
 
+def foreign(tail):
+    """The words of the library, and what a definition calls by another name."""
+    _, _, library = tail.partition(LIBRARY)
+    found = set(re.findall(r"(?<= )`(\w+)`", library.partition("\n## ")[0]))
+    return found | set(re.findall(r"`(\w+)` is `", " ".join(re.findall(r"(?m)^Here (`.*)\.$", tail))))
+
+
 def known(head, tail):
     """The names that need no more: printed, listed, of the library, or said to be another one; and links."""
     listed = re.findall(rf"(?m)^{LEFT_OUT}(.*)\.$", tail)
     found = printed(tail) | {part for it in re.findall(r"`([\w:]+)`", " ".join(listed)) for part in (it, it.split("::")[-1])}
-    _, _, library = tail.partition(LIBRARY)
-    found |= set(re.findall(r"(?<= )`(\w+)`", library.partition("\n## ")[0]))
-    renamed = re.findall(r"(?m)^Here (`.*)\.$", tail)
-    found |= set(re.findall(r"`(\w+)` is `", " ".join(renamed)))
-    return found | {it.split("::")[-1] for it in re.findall(r"\[`([\w:]+)`\]\(", head)} | OWN
+    return found | foreign(tail) | {it.split("::")[-1] for it in re.findall(r"\[`([\w:]+)`\]\(", head)} | OWN
 
 
 def unknown(crates):

@@ -1,70 +1,18 @@
 -- What fences of a trace change: an order with them is one without them, and where all program order is kept, the other way round.
-use Rattle.std.proofs.Common.{◌≡◌, ◌⊎◌, inl, inr, ℕ, zero, suc, ◌+◌, ◌*◌, ◌<◌, ◌≤◌, ◌==◌, ◌&&◌, max, nat_le, Bool, true, false, cond, List, length}
-use Rattle.std.proofs.Common.{refl, sym, ◌∙◌, ap, subst, arith, slice_index, eq-eqb, eqb-true, mul-le-mul_right, suc-mul}
-use Rattle.std.proofs.lemmas.Bool.{cases_Bool, cases_order, cond-true, cond-false, and_parts, and_from, le-leb, leb-true}
+use Rattle.std.proofs.Common.{◌≡◌, ◌⊎◌, inl, inr, ℕ, zero, suc, ◌+◌, ◌*◌, ◌<◌, ◌≤◌, ◌==◌, ◌&&◌, nat_le, Bool, true, List, length}
+use Rattle.std.proofs.Common.{refl, sym, ◌∙◌, ap, subst, arith, slice_index, eq-eqb, eqb-true, mul-le-mul_right}
+use Rattle.std.proofs.lemmas.Bool.{cases_order, and_parts, and_from, le-leb, leb-true}
 use Rattle.memory_models.specs.declared.kinds.Kind.{Kind}
-use Rattle.memory_models.specs.declared.kinds.Kind.TheVariants.{Load, Store, Atomic, Fence}
+use Rattle.memory_models.specs.declared.kinds.Kind.TheVariants.{Fence}
 use Rattle.memory_models.specs.declared.kinds.Operation.{Operation}
 use Rattle.memory_models.specs.declared.kinds.Rule.{Rule}
 use Rattle.memory_models.specs.Trace.{has, is_load, is_write, uses_word, operation_at, source_at, rule_at, writes_rule, rule_key}
 use Rattle.memory_models.specs.Trace.{IsOwn, AreOnOne, IsMemoryTrace}
 use Rattle.memory_models.specs.Order.{Applies, KeepsOrder, IsMemoryOrder}
-use Rattle.memory_models.specs.Models.{sequential, coherent, but_fences}
+use Rattle.memory_models.specs.Models.{sequential, coherent}
 use Rattle.report_model.specs.Bare.{IsWithoutFences}
-
--- the greatest value of those below n that pass a test
-abbrev top : (ℕ → Bool) → (ℕ → ℕ) → ℕ → ℕ
-top test value zero = 0
-top test value (suc n) = max (cond (test n) (value n) 0) (top test value n)
-
-top_at : (test : ℕ → Bool) (value : ℕ → ℕ) (n x : ℕ) → x < n → test x ≡ true → value x ≤ top test value n
-top_at test value zero x low h = absurd (omega arith)
-top_at test value (suc n) x low h = elim (cases_order x n) [
-  | inl same ↦ (let is : cond (test n) (value n) 0 ≡ value n = cond-true (test n) (value n) 0 (ap test (sym same) ∙ h) in
-      let e : value x ≡ value n = ap value same in omega (arith, is, e))
-  | inr (inl less) ↦ (let rest = top_at test value n x less h in omega (arith, rest))
-  | inr (inr more) ↦ absurd (omega (arith, low, more))
-]
-
-top_below : (test : ℕ → Bool) (value : ℕ → ℕ) (n b : ℕ) → ((x : ℕ) → x < n → test x ≡ true → value x ≤ b) → top test value n ≤ b
-top_below test value zero b h = omega arith
-top_below test value (suc n) b h =
-    let rest = top_below test value n b (λ x low t. h x (omega (arith, low)) t) in
-    elim (cases_Bool (test n)) [
-      | inl passes ↦ (let is : cond (test n) (value n) 0 ≡ value n = cond-true (test n) (value n) 0 passes in
-          let here = h n (omega arith) passes in omega (arith, is, here, rest))
-      | inr fails ↦ (let is : cond (test n) (value n) 0 ≡ 0 = cond-false (test n) (value n) 0 fails in omega (arith, is, rest))
-    ]
-
-is_any : (k : Kind) → has (record { load = true; store = true; atomic = true; fence = true }) k ≡ true
-is_any Load = refl
-is_any Store = refl
-is_any Atomic = refl
-is_any Fence = refl
-
-write_is_no_fence : (k : Kind) → is_write k ≡ true → k ≡ Fence → ⊥
-write_is_no_fence Load h e = cc
-write_is_no_fence Store h e = cc
-write_is_no_fence Atomic h e = cc
-write_is_no_fence Fence h e = cc
-
-load_is_no_fence : (k : Kind) → is_load k ≡ true → k ≡ Fence → ⊥
-load_is_no_fence Load h e = cc
-load_is_no_fence Store h e = cc
-load_is_no_fence Atomic h e = cc
-load_is_no_fence Fence h e = cc
-
-word_is_no_fence : (k : Kind) → has but_fences k ≡ true → k ≡ Fence → ⊥
-word_is_no_fence Load h e = cc
-word_is_no_fence Store h e = cc
-word_is_no_fence Atomic h e = cc
-word_is_no_fence Fence h e = cc
-
-written_is_no_fence : (k : Kind) → has writes_rule.from k ≡ true → k ≡ Fence → ⊥
-written_is_no_fence Load h e = cc
-written_is_no_fence Store h e = cc
-written_is_no_fence Atomic h e = cc
-written_is_no_fence Fence h e = cc
+use Rattle.report_model.proofs.Latest.{top, top_at, top_below, product_less, is_any, write_is_no_fence, load_is_no_fence}
+use Rattle.report_model.proofs.Latest.{word_is_no_fence, written_is_no_fence}
 
 -- what is kept is of one processor
 own_of : (rules : List Rule) (ops : List Operation) (x y : ℕ) → KeepsOrder rules ops x y → IsOwn ops x y
@@ -73,11 +21,6 @@ own_of rules ops x y (inr a) = a.own
 
 all_kept : (ops : List Operation) (x y : ℕ) → IsOwn ops x y → KeepsOrder sequential ops x y
 all_kept ops x y own = inl (0, omega arith, record { own = own; from = is_any (operation_at ops x).kind; to = is_any (operation_at ops y).kind; key = refl })
-
-product_less : (n k m : ℕ) → k < m → k * n + n ≤ m * n
-product_less n k m less =
-    let more : suc k * n ≤ m * n = mul-le-mul_right n less in
-    let step = suc-mul k n in omega (arith, more, step)
 
 module _ (words : ℕ) (bare : List Operation) (bare_writes : List ℕ) (ops : List Operation) (writes : List ℕ)
     (t : IsMemoryTrace words bare bare_writes) (w : IsWithoutFences bare bare_writes ops writes) where
