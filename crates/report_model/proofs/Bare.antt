@@ -12,15 +12,7 @@ use Rattle.memory_models.specs.Order.{Applies, KeepsOrder, IsMemoryOrder}
 use Rattle.memory_models.specs.Models.{sequential, coherent}
 use Rattle.report_model.specs.Bare.{IsWithoutFences}
 use Rattle.report_model.proofs.Latest.{top, top_at, top_below, product_less, is_any, write_is_no_fence, load_is_no_fence}
-use Rattle.report_model.proofs.Latest.{word_is_no_fence, written_is_no_fence}
-
--- what is kept is of one processor
-own_of : (rules : List Rule) (ops : List Operation) (x y : ℕ) → KeepsOrder rules ops x y → IsOwn ops x y
-own_of rules ops x y (inl (k, low, a)) = a.own
-own_of rules ops x y (inr a) = a.own
-
-all_kept : (ops : List Operation) (x y : ℕ) → IsOwn ops x y → KeepsOrder sequential ops x y
-all_kept ops x y own = inl (0, omega arith, record { own = own; from = is_any (operation_at ops x).kind; to = is_any (operation_at ops y).kind; key = refl })
+use Rattle.report_model.proofs.Latest.{word_is_no_fence, written_is_no_fence, own_of, all_kept}
 
 module _ (words : ℕ) (bare : List Operation) (bare_writes : List ℕ) (ops : List Operation) (writes : List ℕ)
     (t : IsMemoryTrace words bare bare_writes) (w : IsWithoutFences bare bare_writes ops writes) where

@@ -1,11 +1,14 @@
--- The greatest of some numbers, and kinds of operations that are no fences.
-use Rattle.std.proofs.Common.{◌≡◌, inl, inr, ℕ, zero, suc, ◌+◌, ◌*◌, ◌<◌, ◌≤◌, max, Bool, true, cond}
+-- The greatest of some numbers, kinds of operations that are no fences, and what models keep in order.
+use Rattle.std.proofs.Common.{◌≡◌, inl, inr, ℕ, zero, suc, ◌+◌, ◌*◌, ◌<◌, ◌≤◌, max, Bool, true, cond, List}
 use Rattle.std.proofs.Common.{refl, sym, ◌∙◌, ap, arith, mul-le-mul_right, suc-mul}
 use Rattle.std.proofs.lemmas.Bool.{cases_Bool, cases_order, cond-true, cond-false}
 use Rattle.memory_models.specs.declared.kinds.Kind.{Kind}
 use Rattle.memory_models.specs.declared.kinds.Kind.TheVariants.{Load, Store, Atomic, Fence}
-use Rattle.memory_models.specs.Trace.{has, is_load, is_write, writes_rule}
-use Rattle.memory_models.specs.Models.{but_fences}
+use Rattle.memory_models.specs.declared.kinds.Operation.{Operation}
+use Rattle.memory_models.specs.declared.kinds.Rule.{Rule}
+use Rattle.memory_models.specs.Trace.{has, is_load, is_write, writes_rule, operation_at, IsOwn}
+use Rattle.memory_models.specs.Order.{KeepsOrder}
+use Rattle.memory_models.specs.Models.{but_fences, sequential}
 
 -- the greatest value of those below n that pass a test
 abbrev pub top : (ℕ → Bool) → (ℕ → ℕ) → ℕ → ℕ
@@ -65,3 +68,11 @@ written_is_no_fence Load h e = cc
 written_is_no_fence Store h e = cc
 written_is_no_fence Atomic h e = cc
 written_is_no_fence Fence h e = cc
+
+-- what is kept is of one processor
+pub own_of : (rules : List Rule) (ops : List Operation) (x y : ℕ) → KeepsOrder rules ops x y → IsOwn ops x y
+own_of rules ops x y (inl (k, low, a)) = a.own
+own_of rules ops x y (inr a) = a.own
+
+pub all_kept : (ops : List Operation) (x y : ℕ) → IsOwn ops x y → KeepsOrder sequential ops x y
+all_kept ops x y own = inl (0, omega arith, record { own = own; from = is_any (operation_at ops x).kind; to = is_any (operation_at ops y).kind; key = refl })
