@@ -222,8 +222,30 @@ def named_in(text: str, here: Module, crate: str, path: str, own: str) -> list[N
     return list(found)
 
 
+def variants_of(path: str) -> str:
+    """The type whose variants a module has; nothing where it has others."""
+    parts = path.split("/")
+    return parts[-2] if parts[-1] == "TheVariants" else ""
+
+
+def renamed_in(text: str, here: Module) -> list[str]:
+    """What a text calls by another name than its own, in order, as a sentence says it."""
+    found: OrderedDict[str, None] = OrderedDict()
+    code = "\n".join(re.sub(r"--.*|///.*|//.*", "", row) for row in text.split("\n"))
+    for token in TOKEN.findall(code):
+        base, _, rest = token.partition(".")
+        if base in here.aliases and rest:
+            crate, path = here.aliases[base]
+            of = f"the variants of `{variants_of(path)}`" if variants_of(path) else f"names of `{crate}`"
+            found[f"`{base}.` stands before {of}"] = None
+        elif base in here.imports and here.imports[base].name != base:
+            own = here.imports[base]
+            found[f"`{base}` is `{variants_of(own.module) or own.crate}::{own.name}`"] = None
+    return list(found)
+
+
 def text_of(name: Name) -> tuple[Name, Module, str] | None:
-    """A definition's own name, module and text; a variant is that of its type."""
+    """A definition's own name, module and text; a variant or a constructor is that of its type."""
     here = module(name.crate, name.module)
     if here is None:
         return None
@@ -234,4 +256,5 @@ def text_of(name: Name) -> tuple[Name, Module, str] | None:
         return name, here, here.texts[name.name]
     if name.name in here.imports:
         return text_of(here.imports[name.name])
-    return None
+    kind = next((it for it, text in here.texts.items() if re.search(rf"(?m)^(pub )?data(?s:.*)^ +{re.escape(name.name)} :", text)), None)
+    return (Name(name.crate, name.module, kind), here, here.texts[kind]) if kind else None

@@ -1,9 +1,10 @@
 -- What is said of a trace that is judged (this project's own format).
-use Rattle.std.specs.Prelude.{ℕ, List, ◌∷◌, ◌++◌, Option, Some, None, Result, Ok, Err, codes, Bool}
+use Rattle.std.specs.Prelude.{ℕ, List, ◌∷◌, ◌++◌, Option, Some, None, Result, Ok, Err, codes, Bool, true, false}
 use Rattle.std.specs.Prelude.{decimal, if◌then◌else◌}
 use Rattle.model_answer.specs.declared.judged.Obeys.{Obeys}
 use Rattle.model_answer.specs.declared.model.MemoryModel.{MemoryModel}
 use Rattle.model_answer.specs.declared.model.MemoryModel.TheVariants.{Coherent, Fenced, Pso, Tso, Sc}
+use Rattle.model_answer.specs.Texts.{is_told}
 use Rattle.command_verdicts.specs.declared.model.Modelled.{Modelled}
 use Rattle.command_verdicts.specs.declared.model.Modelled.TheVariants.{Obeys as ObeysModels, WithoutFences, Wrong}
 use Rattle.command_verdicts.specs.declared.model.Modelled.TheVariants.{OtherShape, OtherOperation}
@@ -57,12 +58,17 @@ is_obeyed obeys Pso = obeys.pso
 is_obeyed obeys Tso = obeys.tso
 is_obeyed obeys Sc = obeys.sc
 
+-- the status by a model: 0 where a log obeys it, 1 where it doesn't, 5 where neither is told
+abbrev pub told_status : Bool → Bool → ℕ
+told_status true obeyed = if obeyed then 0 else 1
+told_status false obeyed = 5
+
 -- the status that the program ends with where a log or a report was judged: a report doesn't say where
 -- fences stand
 abbrev pub modelled_status : Modelled → MemoryModel → ℕ
 modelled_status (ObeysModels obeys) model = if is_obeyed obeys model then 0 else 1
-modelled_status (WithoutFences obeys) Fenced = 5
-modelled_status (WithoutFences obeys) model = if is_obeyed obeys model then 0 else 1
+modelled_status (WithoutFences obeys) model =
+    told_status (is_told false obeys model) (is_obeyed obeys model)
 modelled_status (Wrong wrong) model = 1
 modelled_status (OtherShape line) model = 1
 modelled_status (OtherOperation line p passed) model = 1

@@ -20,7 +20,7 @@ use torus::Fault;
 pub enum Modelled {
     /// Its replies are due, it obeys these models, and the answer is printed.
     Obeys(Obeys),
-    /// The same of a report. It doesn't say where fences stand, so their rule isn't judged.
+    /// The same of a report. It doesn't say where fences stand, so what one may forbid isn't told.
     WithoutFences(Obeys),
     /// This reply isn't the one that is due, so no model is asked, and nothing is printed.
     Wrong(WrongReply),
@@ -72,7 +72,7 @@ pub fn is_report(text: &[u8]) -> bool
 }
 
 /// Judges the operations of a report by memory models, as `model_text` does those of a log. A report has
-/// no fences, so their rule isn't judged.
+/// no fences, so where one may forbid what it shows there is neither yes nor no.
 ///
 /// Errors: its first bad line, F5 at its last line where it has entries and no order lines, or out of
 /// memory; and nothing was written then. If the output fails, a beginning was written.

@@ -3,10 +3,10 @@
 
 ghost use Rattle.std.specs.Prelude.{◌≡◌, option_map};
 ghost use Rattle.command_verdicts.specs.Told.{judged_status, unfit_text, verdict_text_of};
-ghost use Rattle.command_verdicts.specs.Told.{is_obeyed, modelled_status};
+ghost use Rattle.command_verdicts.specs.Told.{is_obeyed, modelled_status, told_status};
 
 use crate::{Judged, Modelled};
-use model_answer::{MemoryModel, Obeys};
+use model_answer::{MemoryModel, Obeys, is_told};
 use program_fault::{ProgramFault, status_of};
 use trace_answer::{LineText, Unfit, not_linearizable, undecided};
 use trace_text::Unfound;
@@ -72,17 +72,23 @@ fn is_obeyed(obeys: Obeys, model: MemoryModel) -> bool
     }
 }
 
+/// The status by a model: 0 where a log obeys it, 1 where it doesn't, 5 where neither is told.
+fn told_status(told: bool, obeyed: bool) -> u8
+    ensures { result ≡ told_status told obeyed }
+{
+    if told { u8::from(!obeyed) } else { 5 }
+}
+
 /// The status that the program ends with where a log or a report was judged: 0 where it obeys the model,
-/// 1 where it doesn't or a reply is wrong, 5 where a report would need fences.
+/// 1 where it doesn't or a reply is wrong, 5 where it is a report whose fences may forbid what it shows.
 pub fn model_status(modelled: Modelled, model: MemoryModel) -> u8
     ensures { result ≡ modelled_status modelled model }
 {
     match modelled {
         Modelled::Obeys(obeys) => u8::from(!is_obeyed(obeys, model)),
-        Modelled::WithoutFences(obeys) => match model {
-            MemoryModel::Fenced => 5,
-            _ => u8::from(!is_obeyed(obeys, model)),
-        },
+        Modelled::WithoutFences(obeys) => {
+            told_status(is_told(false, obeys, model), is_obeyed(obeys, model))
+        }
         Modelled::Wrong(_) => 1,
         Modelled::OtherShape { .. } => 1,
         Modelled::OtherOperation { .. } => 1,

@@ -5,7 +5,7 @@ use Rattle.std.proofs.lemmas.Bool.{cases_order}
 use Rattle.packet.specs.declared.kinds.Op.{Op}
 use Rattle.packet.specs.declared.kinds.Op.TheVariants as op
 use Rattle.packet.specs.declared.kinds.Reply.{Reply}
-use Rattle.packet.specs.Memory.{new_word}
+use Rattle.packet.specs.Memory.{new_word, reply_to}
 use Rattle.home_bank.specs.declared.entry.Entry.{Entry}
 use Rattle.one_order.specs.Scripts.{reply_number}
 use Rattle.packet.specs.declared.kinds.Operation.{Operation as Asked}
@@ -97,6 +97,10 @@ unserved_is_left_out = refl
 -- the flag's load replied what the flag's store left, and an addition leaves the sum with what it replied
 flag_replied : reply_of_row passing (row 0 1 1 0 8) ≡ Some (Old (new_word (operation_of_row passing (row 0 0 0 1 6)).op (reply_number Stored)))
 flag_replied = refl
+
+-- an addition that finds 2 replies 2
+sum_replies_what_it_found : reply_to (op.Add 5) 2 ≡ Old 2
+sum_replies_what_it_found = refl
 
 sum_is_left : new_word (op.Add 5) (reply_number (Old 2)) ≡ 7
 sum_is_left = refl

@@ -11,6 +11,7 @@ pub mod Built
 pub mod Apart
 pub mod OneTag
 pub mod Words
+pub mod Found
 pub mod Replied
 pub mod OfRuns
 mod Examples

@@ -1,4 +1,4 @@
--- Each load of a run's trace replied the word that its source left.
+-- Each operation of a run replied what is due where it finds the word that the last write before it left.
 use Rattle.std.proofs.Common.{◌≡◌, inl, inr, ℕ, ◌%◌, ◌<◌, ◌≤◌, true}
 use Rattle.std.proofs.Common.{List, length, take, Some, refl, sym, ◌∙◌, ap, subst, arith}
 use Rattle.std.proofs.Common.{slice_get, slice_index}
@@ -8,11 +8,9 @@ use Rattle.std.proofs.lemmas.Option.{same_Some, slice_get_within}
 use Rattle.packet.specs.declared.kinds.Op.TheVariants as op
 use Rattle.packet.specs.declared.kinds.Operation.{Operation as Asked}
 use Rattle.packet.specs.declared.kinds.Reply.{Reply}
-use Rattle.packet.specs.declared.kinds.Reply.TheVariants.{Old}
 use Rattle.packet.specs.Memory.{new_word, reply_to, memory_after}
 use Rattle.script_lines.specs.declared.line.Line.{Line}
-use Rattle.memory_models.specs.declared.kinds.Operation.{Operation}
-use Rattle.memory_models.specs.Trace.{is_load, is_write, operation_at, source_at}
+use Rattle.memory_models.specs.Trace.{is_write}
 use Rattle.model_text.specs.Kinds.{kind_of_op}
 use Rattle.one_order.specs.Scripts.{reply_number}
 use Rattle.home_bank.specs.declared.entry.Entry.{Entry}
@@ -24,7 +22,7 @@ use Rattle.one_order.proofs.Lists.{within_length, list_within}
 use Rattle.one_order.proofs.EventNumbers.{numbers}
 use Rattle.one_order.specs.AbstractScripts.{FollowScripts}
 use Rattle.core_models.specs.Accesses.{Access, opening_store, operation_of_row}
-use Rattle.core_models.specs.Traces.{access_at, IsTraceOf}
+use Rattle.core_models.specs.Traces.{access_at, IsLastWriteBefore}
 use Rattle.core_models.specs.Values.{reply_of_row, RepliesWordOf}
 use Rattle.core_models.proofs.Rising.{place_of}
 use Rattle.core_models.proofs.Ranges.{index_of_get, get_of_map}
@@ -33,7 +31,7 @@ use Rattle.core_models.proofs.Rows.{point, row_operation, served_some}
 use Rattle.core_models.proofs.Served as seen
 use Rattle.core_models.proofs.Served.{at_access}
 use Rattle.core_models.proofs.Known.{has_row}
-use Rattle.core_models.proofs.Words.{load_replies, left_is, reply_at_place, word_kept, word_left}
+use Rattle.core_models.proofs.Words.{left_is, reply_at_place, word_kept, word_left}
 
 module _ (tiles tags : ℕ) (opening : List ℕ) (run : Run) (n : ℕ) (rows : List Ordered) (one : HasOneOrder tiles tags opening run n rows)
     (scripts : List (List Line)) (follow : FollowScripts run n scripts) (all_there : length scripts ≡ tiles) where
@@ -75,19 +73,13 @@ module _ (tiles tags : ℕ) (opening : List ℕ) (run : Run) (n : ℕ) (rows : L
   rises : (j k : ℕ) (x y : Ordered) → j < k → slice_get rows j ≡ Some x → slice_get rows k ≡ Some y → x.served < y.served
   rises j k x y less here there = (numbers tiles tags opening run n rows one).rising j k x y less here there
 
-  module _ (ops : List Operation) (writes : List ℕ) (t : IsTraceOf shown ops writes) (x k : ℕ) (row : Ordered)
-      (here : slice_get shown x ≡ Some (made_by row)) (at : slice_get rows k ≡ Some row) (load : is_load (made_by row).kind ≡ true) where
+  module _ (x k : ℕ) (row : Ordered) (here : slice_get shown x ≡ Some (made_by row)) (at : slice_get rows k ≡ Some row)
+      (f : ℕ) (found : IsLastWriteBefore shown f x) where
     low : x < length shown
     low = slice_get_within shown x (made_by row) here
 
     is_row : access_at shown x ≡ made_by row
     is_row = same_Some (access_at shown x) (made_by row) (sym (at_access shown x low) ∙ here)
-
-    loads : is_load (access_at shown x).kind ≡ true
-    loads = ap (λ (a : Access). is_load a.kind) is_row ∙ load
-
-    abbrev source : ℕ
-    source = source_at ops writes x
 
     abbrev word : ℕ
     word = (ask k row at).address
@@ -97,7 +89,7 @@ module _ (tiles tags : ℕ) (opening : List ℕ) (run : Run) (n : ℕ) (rows : L
 
     -- each earlier write on the word was served no later than the source
     no_later : (i : ℕ) (q : Asked) → i < k → slice_get asked i ≡ Some q → q.address ≡ word → is_write (kind_of_op q.op) ≡ true
-        → (other : Ordered) × (slice_get rows i ≡ Some other) × (other.served ≤ (access_at shown source).served)
+        → (other : Ordered) × (slice_get rows i ≡ Some other) × (other.served ≤ (access_at shown f).served)
     no_later i q less there same write =
         let within = slice_get_within rows k row at in
         let row_i = within_length rows i (omega (arith, less, within)) in
@@ -115,35 +107,33 @@ module _ (tiles tags : ℕ) (opening : List ℕ) (run : Run) (n : ℕ) (rows : L
         let time : (access_at shown place.0).served ≡ other.served = ap (λ (a : Access). a.served) is in
         let end : (access_at shown x).served ≡ row.served = ap (λ (a : Access). a.served) is_row in
         let rise = rises i k other row less row_i.1 at in
-        let last = t.last x place.0 low inside loads (record {
+        let last = found.last place.0 inside (record {
           write = ap (λ (a : Access). is_write a.kind) is ∙ (ap (λ (o : Asked). is_write (kind_of_op o.op)) mine ∙ write);
           word = ap (λ (a : Access). a.word) is ∙ (ap (λ (o : Asked). o.address) mine ∙ (same ∙ sym word_is));
           before = omega (arith, time, end, rise);
         }) in
         (other, row_i.1, omega (arith, time, last))
 
-    -- what the row replied is the word before it
-    replied_word : (w : ℕ) → slice_index (before_place k) word ≡ w → reply_of_row (run n) row ≡ Some (Old w)
+    -- what the row replied is due where it finds the word before it
+    replied_word : (w : ℕ) → slice_index (before_place k) word ≡ w → reply_of_row (run n) row ≡ Some (reply_to (operation_of_row (run n) row).op w)
     replied_word w is = row_replied k row at
-        ∙ (ap Some (load_replies (ask k row at).op (slice_index (before_place k) word)
-        (sym (ap (λ (o : Asked). is_load (kind_of_op o.op)) (row_op k row at)) ∙ load)) ∙ ap (λ v. Some (Old v)) is)
+        ∙ (ap (λ v. Some (reply_to (ask k row at).op v)) is ∙ ap (λ (o : Asked). Some (reply_to o.op w)) (sym (row_op k row at)))
 
-    pub source_left : RepliesWordOf opening (run n) rows (access_at shown source) row
-    source_left =
-        let it = t.source x low loads in
-        let source_low = t.low (operation_at ops x).place (t.place x low loads) in
-        elim (seen.used_is tiles tags opening run n rows one scripts follow (access_at shown source) (write_uses (access_at shown source).kind it.write)
-        (seen.fact_at tiles tags opening run n rows one scripts follow source source_low)) [
-          | inl h ↦ (let none : (access_at shown source).served ≡ 0 = ap (λ (a : Access). a.served) h.2 in
-              let named : (access_at shown source).word ≡ h.0 = ap (λ (a : Access). a.word) h.2 in
+    pub found_left : RepliesWordOf opening (run n) rows (access_at shown f) row
+    found_left =
+        let it = found.before in
+        elim (seen.used_is tiles tags opening run n rows one scripts follow (access_at shown f) (write_uses (access_at shown f).kind it.write)
+        (seen.fact_at tiles tags opening run n rows one scripts follow f found.low)) [
+          | inl h ↦ (let none : (access_at shown f).served ≡ 0 = ap (λ (a : Access). a.served) h.2 in
+              let named : (access_at shown f).word ≡ h.0 = ap (λ (a : Access). a.word) h.2 in
               let kept = word_kept asked opening word k (λ i q less there same write. (let other = no_later i q less there same write in
               let some = served_some tiles tags opening run n rows one i other.0 other.1 in let bound = other.2 in omega (arith, some, bound, none))) in
-              let at_word : word ≡ (access_at shown source).word = sym word_is ∙ sym it.word in (
-                slice_index opening (access_at shown source).word,
+              let at_word : word ≡ (access_at shown f).word = sym word_is ∙ sym it.word in (
+                slice_index opening (access_at shown f).word,
                 inl (h.2 ∙ ap opening_store (sym named), refl),
-                replied_word (slice_index opening (access_at shown source).word) (kept ∙ ap (slice_index opening) at_word),
+                replied_word (slice_index opening (access_at shown f).word) (kept ∙ ap (slice_index opening) at_word),
               ))
-          | inr h ↦ (let time : (access_at shown source).served ≡ h.row.served = ap (λ (a : Access). a.served) h.is in
+          | inr h ↦ (let time : (access_at shown f).served ≡ h.row.served = ap (λ (a : Access). a.served) h.is in
               let end : (access_at shown x).served ≡ row.served = ap (λ (a : Access). a.served) is_row in
               let before = it.before in
               let less : h.k < k = elim (cases_order h.k k) [

@@ -7,7 +7,7 @@ use Rattle.packet.specs.declared.kinds.Op.{Op}
 use Rattle.packet.specs.declared.kinds.Op.TheVariants as op
 use Rattle.packet.specs.declared.kinds.Operation.{Operation}
 use Rattle.packet.specs.Memory.{new_word, reply_to, memory_after_one, reply_of_one, memory_after, replies}
-use Rattle.memory_models.specs.Trace.{is_write, is_load}
+use Rattle.memory_models.specs.Trace.{is_write}
 use Rattle.model_text.specs.Kinds.{kind_of_op}
 use Rattle.one_order.specs.Scripts.{reply_number}
 
@@ -40,19 +40,6 @@ no_write (op.Or v) w none = absurd (none refl)
 no_write (op.Xor v) w none = absurd (none refl)
 no_write (op.Max v) w none = absurd (none refl)
 no_write (op.Min v) w none = absurd (none refl)
-
--- what a load replies
-pub load_replies : (o : Op) (w : ℕ) → is_load (kind_of_op o) ≡ true → reply_to o w ≡ reply_to op.Load w
-load_replies op.Load w h = refl
-load_replies (op.Store v) w h = absurd (cc)
-load_replies (op.Swap v) w h = absurd (cc)
-load_replies (op.Cas e n) w h = absurd (cc)
-load_replies (op.Add v) w h = absurd (cc)
-load_replies (op.And v) w h = absurd (cc)
-load_replies (op.Or v) w h = absurd (cc)
-load_replies (op.Xor v) w h = absurd (cc)
-load_replies (op.Max v) w h = absurd (cc)
-load_replies (op.Min v) w h = absurd (cc)
 
 -- a reply tells what an operation left
 pub left_is : (o : Op) (w : ℕ) → new_word o (reply_number (reply_to o w)) ≡ new_word o w

@@ -1,5 +1,5 @@
 pub mod Programs
 pub mod Accesses
 pub mod Traces
-pub mod Runs
 pub mod Values
+pub mod Runs

@@ -1,6 +1,7 @@
 -- The memory trace that accesses make: each word's writes stand in the order of their services, and
 -- a load reads the last one before it.
-use Rattle.std.specs.Prelude.{◌≡◌, ◌⊎◌, ℕ, ◌<◌, ◌≤◌, true, List, length, slice_index, slice_index_or}
+use Rattle.std.specs.Prelude.{◌≡◌, ◌⊎◌, ℕ, ◌-◌, ◌<◌, ◌≤◌, true, if◌then◌else◌, List, length, slice_index}
+use Rattle.std.specs.Prelude.{slice_index_or}
 use Rattle.memory_models.specs.declared.kinds.Kind.TheVariants.{Fence}
 use Rattle.memory_models.specs.declared.kinds.Operation.{Operation}
 use Rattle.memory_models.specs.Trace.{is_load, is_write, operation_at, source_at}
@@ -50,3 +51,28 @@ pub record IsTraceOf (accesses : List Access) (ops : List Operation) (writes : L
         → is_load (access_at accesses x).kind ≡ true
         → IsWriteBefore (access_at accesses w) (access_at accesses x)
         → (access_at accesses w).served ≤ (access_at accesses (source_at ops writes x)).served
+
+-- the write that an operation of a trace finds: a load the one that it read, and a write the one
+-- before it in its word's order
+abbrev pub found_at : List Operation → List ℕ → ℕ → ℕ
+found_at ops writes x =
+    if is_load (operation_at ops x).kind then source_at ops writes x
+    else slice_index writes ((operation_at ops x).place - 1)
+
+-- an access is the last write on another one's word that is served before that one
+pub record IsLastWriteBefore (accesses : List Access) (w x : ℕ) : Type 0 where
+  pub low : w < length accesses
+  pub before : IsWriteBefore (access_at accesses w) (access_at accesses x)
+  pub last : (v : ℕ) → v < length accesses
+      → IsWriteBefore (access_at accesses v) (access_at accesses x)
+      → (access_at accesses v).served ≤ (access_at accesses w).served
+
+-- an access is the last write on another one's word that has its turn before that one
+pub record IsLastWriteInTurn (accesses : List Access) (turn : ℕ → ℕ) (w x : ℕ) : Type 0 where
+  pub low : w < length accesses
+  pub write : is_write (access_at accesses w).kind ≡ true
+  pub word : (access_at accesses w).word ≡ (access_at accesses x).word
+  pub before : turn w < turn x
+  pub last : (v : ℕ) → v < length accesses → is_write (access_at accesses v).kind ≡ true
+      → (access_at accesses v).word ≡ (access_at accesses x).word → turn v < turn x
+      → turn v ≤ turn w

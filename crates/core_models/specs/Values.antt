@@ -1,8 +1,7 @@
--- The words that accesses leave, and the replies of loads.
+-- The words that accesses leave, and the replies to operations that find them.
 use Rattle.std.specs.Prelude.{◌≡◌, ◌⊎◌, ℕ, List, Option, Some, option_map, length, slice_get, slice_index}
 use Rattle.packet.specs.declared.kinds.Reply.{Reply}
-use Rattle.packet.specs.declared.kinds.Reply.TheVariants.{Old}
-use Rattle.packet.specs.Memory.{new_word}
+use Rattle.packet.specs.Memory.{new_word, reply_to}
 use Rattle.one_order.specs.Scripts.{reply_number}
 use Rattle.one_order.specs.declared.ordered.Ordered.{Ordered}
 use Rattle.one_order.specs.Observed.{Observed, list_at}
@@ -29,7 +28,8 @@ abbrev pub LeavesWord : List ℕ → Observed → List Ordered → Access → �
 LeavesWord opening s rows a w =
     ((a ≡ opening_store a.word) × (w ≡ slice_index opening a.word)) ⊎ LeavesByRow opening s rows a w
 
--- the operation of a row replied the word that an access left
+-- the operation of a row replied what is due where it finds the word that an access left: a load, a
+-- swap, a compare-and-swap or a fetch-and-op that word
 abbrev pub RepliesWordOf : List ℕ → Observed → List Ordered → Access → Ordered → Type 0
-RepliesWordOf opening s rows a row =
-    (w : ℕ) × LeavesWord opening s rows a w × (reply_of_row s row ≡ Some (Old w))
+RepliesWordOf opening s rows a row = (w : ℕ) × LeavesWord opening s rows a w
+    × (reply_of_row s row ≡ Some (reply_to (operation_of_row s row).op w))

@@ -66,12 +66,12 @@ weakest_broken o =
     else (if not o.sc then Some Sc
     else None))))
 
--- the strongest model that it obeys; the rule of fences counts only where the log has its fences
+-- the strongest model that it obeys; what a fence may forbid counts only where the log has its fences
 abbrev pub strongest_obeyed : Bool → Obeys → Option MemoryModel
 strongest_obeyed fences o =
     if o.sc then Some Sc
-    else (if o.tso then Some Tso
-    else (if o.pso then Some Pso
+    else (if o.tso && fences then Some Tso
+    else (if o.pso && fences then Some Pso
     else (if o.fenced && fences then Some Fenced
     else (if o.coherent then Some Coherent
     else None))))

@@ -1,5 +1,5 @@
 -- What is printed of the models that a log obeys (this project's own format).
-use Rattle.std.specs.Prelude.{ℕ, ◌==◌, Bool, true, false, if◌then◌else◌, List, [], ◌∷◌, ◌++◌}
+use Rattle.std.specs.Prelude.{ℕ, ◌==◌, ◌||◌, Bool, true, false, not, if◌then◌else◌, List, [], ◌∷◌, ◌++◌}
 use Rattle.std.specs.Prelude.{Option, Some, None, codes, decimal, length, nat_lt, slice_index_or}
 use Rattle.std.specs.List.{flat_map, range_with_len}
 use Rattle.packet.specs.declared.kinds.Operation.{Operation as Asked}
@@ -26,15 +26,27 @@ abbrev pub model_line : MemoryModel → Bool → List ℕ
 model_line model true = model_word model ++ codes " yes\n"
 model_line model false = model_word model ++ codes " no\n"
 
--- the line on fences; a log that doesn't say where they stand gets neither yes nor no
-abbrev pub fenced_line : Bool → Bool → List ℕ
-fenced_line true obeyed = model_line Fenced obeyed
-fenced_line false obeyed = codes "fenced not told: a report has no fences\n"
+-- whether there is a yes or a no of a model, where a log has its fences or not: a fence may turn a
+-- yes into a no by the rules of fences and of buffers, but no no into a yes, and nothing where the
+-- log is sequentially consistent
+abbrev pub is_told : Bool → Obeys → MemoryModel → Bool
+is_told fences o Coherent = true
+is_told fences o Fenced = (fences || o.sc) || not o.fenced
+is_told fences o Pso = (fences || o.sc) || not o.pso
+is_told fences o Tso = (fences || o.sc) || not o.tso
+is_told fences o Sc = true
+
+-- the line of a model, with a yes or a no or neither
+abbrev pub told_line : MemoryModel → Bool → Bool → List ℕ
+told_line model true obeyed = model_line model obeyed
+told_line model false obeyed = model_word model ++ codes " not told: a report has no fences\n"
 
 -- the lines of the models, weakest first
 abbrev pub obeys_text : Bool → Obeys → List ℕ
-obeys_text fences o = model_line Coherent o.coherent ++ fenced_line fences o.fenced
-    ++ model_line Pso o.pso ++ model_line Tso o.tso ++ model_line Sc o.sc
+obeys_text fences o = model_line Coherent o.coherent
+    ++ told_line Fenced (is_told fences o Fenced) o.fenced
+    ++ told_line Pso (is_told fences o Pso) o.pso
+    ++ told_line Tso (is_told fences o Tso) o.tso ++ model_line Sc o.sc
 
 -- some values, each behind a space
 abbrev pub values_text : List ℕ → List ℕ

@@ -22,8 +22,8 @@ use std::alloc::{AllocError, Allocator, Global};
 pub struct Options {
     /// An order of the strongest model that the log obeys.
     pub order: bool,
-    /// Whether the log says where fences stand. If not, the line on fences has neither yes nor no, and no
-    /// order by their rule is printed.
+    /// Whether the log says where fences stand. If not, the line of a model has neither yes nor no where a
+    /// fence may forbid what the log shows, and no order by its rules is printed.
     pub fences: bool,
 }
 

@@ -16,3 +16,4 @@ pub use answer::{Answer, NoAnswer, Options, answer_to_log, model_answer};
 pub use judged::{Obeys, Verdicts, verdicts_of};
 pub use model::MemoryModel;
 pub use sentence::{LogSentence, WrongSentence};
+pub use text::is_told;

@@ -14,17 +14,18 @@ use model_text::trace::logged_at;
 use model_text::{LogTrace, Logged};
 use std::alloc::{AllocError, Allocator};
 
-/// The strongest model that a trace obeys. The rule of fences counts only where the log has its fences.
+/// The strongest model that a trace obeys. What a fence may forbid counts only where the log has its
+/// fences.
 pub fn strongest_obeyed(fences: bool, obeys: Obeys) -> Option<MemoryModel>
     ensures { result ≡ strongest_obeyed fences obeys }
 {
     if obeys.sc {
         return Some(MemoryModel::Sc);
     }
-    if obeys.tso {
+    if obeys.tso && fences {
         return Some(MemoryModel::Tso);
     }
-    if obeys.pso {
+    if obeys.pso && fences {
         return Some(MemoryModel::Pso);
     }
     if obeys.fenced && fences {

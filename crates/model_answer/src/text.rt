@@ -1,7 +1,8 @@
 //! The text of an answer.
 
 ghost use Rattle.std.specs.Prelude.{◌≡◌, ◌++◌, OnOk, decimal, codes};
-ghost use Rattle.model_answer.specs.Texts.{model_line, obeys_text, fenced_line, operation_text, values_text};
+ghost use Rattle.model_answer.specs.Texts.{model_line, obeys_text, told_line, operation_text, values_text};
+ghost use Rattle.model_answer.specs.Texts.{is_told};
 ghost use Rattle.packet.specs.Names.{values_listed};
 ghost use Rattle.model_answer.specs.Texts.{step_text, fence_or_operation};
 
@@ -52,18 +53,35 @@ pub fn put_verdict<A: Allocator>(
     }
 }
 
-/// Adds the line on fences. A log that doesn't say where they stand gets neither yes nor no.
-fn put_fenced<A: Allocator>(
+/// Whether there is a yes or a no of a model, where a log says where its fences stand or not. A fence
+/// may turn a yes into a no, but not of coherence, nor where the log is sequentially consistent; and it
+/// turns no no into a yes.
+pub fn is_told(fences: bool, obeys: Obeys, model: MemoryModel) -> bool
+    ensures { result ≡ is_told fences obeys model }
+{
+    match model {
+        MemoryModel::Coherent => true,
+        MemoryModel::Fenced => fences || obeys.sc || !obeys.fenced,
+        MemoryModel::Pso => fences || obeys.sc || !obeys.pso,
+        MemoryModel::Tso => fences || obeys.sc || !obeys.tso,
+        MemoryModel::Sc => true,
+    }
+}
+
+/// Adds the line of a model, with a yes or a no or neither.
+fn put_told<A: Allocator>(
     text: &mut Vec<u8, A>,
-    fences: bool,
+    model: MemoryModel,
+    told: bool,
     yes: bool,
 ) -> Result<(), AllocError>
-    ensures { OnOk result (text.new.items ≡ text.old.items ++ fenced_line fences yes) }
+    ensures { OnOk result (text.new.items ≡ text.old.items ++ told_line model told yes) }
 {
-    if fences {
-        put_verdict(text, MemoryModel::Fenced, yes)
+    if told {
+        put_verdict(text, model, yes)
     } else {
-        put(text, b"fenced not told: a report has no fences\n")
+        put(text, model.word().as_bytes())?;
+        put(text, b" not told: a report has no fences\n")
     }
 }
 
@@ -76,9 +94,12 @@ pub(crate) fn put_obeys<A: Allocator>(
     ensures { OnOk result (text.new.items ≡ text.old.items ++ obeys_text fences obeys) }
 {
     put_verdict(text, MemoryModel::Coherent, obeys.coherent)?;
-    put_fenced(text, fences, obeys.fenced)?;
-    put_verdict(text, MemoryModel::Pso, obeys.pso)?;
-    put_verdict(text, MemoryModel::Tso, obeys.tso)?;
+    let fenced_told = is_told(fences, obeys, MemoryModel::Fenced);
+    put_told(text, MemoryModel::Fenced, fenced_told, obeys.fenced)?;
+    let pso_told = is_told(fences, obeys, MemoryModel::Pso);
+    put_told(text, MemoryModel::Pso, pso_told, obeys.pso)?;
+    let tso_told = is_told(fences, obeys, MemoryModel::Tso);
+    put_told(text, MemoryModel::Tso, tso_told, obeys.tso)?;
     put_verdict(text, MemoryModel::Sc, obeys.sc)
 }
 

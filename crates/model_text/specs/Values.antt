@@ -43,10 +43,14 @@ word_met steps ops writes x = word_of_writes steps writes (writes_before ops x)
 abbrev pub reply_due : List Logged → List Operation → List ℕ → ℕ → Reply
 reply_due steps ops writes x = reply_to (op_logged steps x) (word_met steps ops writes x)
 
--- each reply of the log is the one that is due
-abbrev pub AreDueReplies : List Logged → List Operation → List ℕ → Type 0
-AreDueReplies steps ops writes = (x : ℕ) (told : Told) → x < length steps
+-- each reply to the first operations of the trace, so many, is the one that is due
+abbrev pub AreDueBefore : List Logged → List Operation → List ℕ → ℕ → Type 0
+AreDueBefore steps ops writes count = (x : ℕ) (told : Told) → x < count
     → (logged_at steps x).told ≡ Some told → told.reply ≡ reply_due steps ops writes x
+
+-- each reply of the log is
+abbrev pub AreDueReplies : List Logged → List Operation → List ℕ → Type 0
+AreDueReplies steps ops writes = AreDueBefore steps ops writes (length steps)
 
 -- the line of the last of the first writes; 0 where there is none, and where it is an opening store
 abbrev pub line_left : List Logged → List ℕ → ℕ → ℕ
@@ -54,7 +58,7 @@ line_left steps writes count =
     fold (λ l x. (logged_at steps x).line) 0 (take count writes)
 
 -- a reply of the log isn't the one that is due
-pub record IsWrongReply (steps : List Logged) (ops : List Operation) (writes : List ℕ)
+pub record IsUndueReply (steps : List Logged) (ops : List Operation) (writes : List ℕ)
     (wrong : WrongReply) : Type 0
   where
     pub operation : wrong.operation < length steps
@@ -63,7 +67,14 @@ pub record IsWrongReply (steps : List Logged) (ops : List Operation) (writes : L
     pub line : wrong.line ≡ line_left steps writes (writes_before ops wrong.operation)
     pub differs : wrong.told.reply ≢ reply_due steps ops writes wrong.operation
 
--- no reply is wrong, or one is
+-- the first that isn't, by the processors of the trace and by the program of each
+pub record IsWrongReply (steps : List Logged) (ops : List Operation) (writes : List ℕ)
+    (wrong : WrongReply) : Type 0
+  where
+    pub undue : IsUndueReply steps ops writes wrong
+    pub first : AreDueBefore steps ops writes wrong.operation
+
+-- no reply is wrong, or this is the first that is
 abbrev pub AreRepliesOr : List Logged → List Operation → List ℕ → Option WrongReply → Type 0
 AreRepliesOr steps ops writes None = AreDueReplies steps ops writes
 AreRepliesOr steps ops writes (Some wrong) = IsWrongReply steps ops writes wrong

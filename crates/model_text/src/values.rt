@@ -7,7 +7,7 @@ ghost use Rattle.packet.specs.Memory.{reply_to};
 ghost use Rattle.model_text.specs.declared.logged.Told.{Told};
 ghost use Rattle.model_text.specs.Traces.{logged_at};
 ghost use Rattle.model_text.specs.Values.{op_of_step, word_of_writes, word_met, reply_due};
-ghost use Rattle.model_text.specs.Values.{writes_before, line_left, IsWrongReply, AreRepliesOr, writes_before_one};
+ghost use Rattle.model_text.specs.Values.{writes_before, line_left, IsUndueReply, AreRepliesOr, writes_before_one};
 
 use crate::logged::{Logged, Told};
 use crate::trace::{LogTrace, logged_at};
@@ -137,8 +137,9 @@ fn wrong_reply<A: Allocator>(trace: &LogTrace<A>, words: &[u64], x: usize) -> Op
         → (logged_at trace.now.steps.items x).told ≡ Some told
         → told.reply ≡ reply_due trace.now.steps.items trace.now.operations.items
         trace.now.writes.items x) }
+    ensures place { IfSome result (λ wrong. wrong.operation ≡ x) }
     ensures some { IfSome result
-        (IsWrongReply trace.now.steps.items trace.now.operations.items trace.now.writes.items) }
+        (IsUndueReply trace.now.steps.items trace.now.operations.items trace.now.writes.items) }
 {
     let step = logged_at(&trace.steps, x);
     match step.told {
@@ -158,9 +159,9 @@ fn wrong_reply<A: Allocator>(trace: &LogTrace<A>, words: &[u64], x: usize) -> Op
     }
 }
 
-/// The first reply of a trace that isn't the one that is due, by what its operation does to the word
-/// that it finds: a load finds what its source left, and a write what the one before it in its word's
-/// order left. `None` where each reply is.
+/// The first reply of a trace that isn't the one that is due, by processors and in program order: by what
+/// its operation does to the word that it finds. A load finds what its source left, and a write what the
+/// one before it in its word's order left. `None` where each reply is due.
 ///
 /// Errors: memory.
 pub fn replies_of<A: Allocator + Copy>(
@@ -173,9 +174,9 @@ pub fn replies_of<A: Allocator + Copy>(
 {
     let words = words_left(alloc, &trace.steps, &trace.writes)?;
     for x in 0..trace.steps.len() {
-        let wrong = wrong_reply(trace, &words, x);
-        if wrong.is_some() {
-            return Ok(wrong);
+        match wrong_reply(trace, &words, x) {
+            None => {}
+            Some(wrong) => return Ok(Some(wrong)),
         }
     }
     Ok(None)

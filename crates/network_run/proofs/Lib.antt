@@ -2,3 +2,4 @@ pub mod SevenWords
 pub mod Refused
 pub mod Locking
 pub mod Telling
+pub mod Numberless

@@ -1,8 +1,9 @@
 -- Runs after which a network is locked, as events of a wormhole network.
 -- Dally and Towles, Principles and Practices of Interconnection Networks, 2004, chapter 14.
-use Rattle.std.specs.Prelude.{◌≡◌, ℕ, List, map}
+use Rattle.std.specs.Prelude.{◌≡◌, ℕ, ◌<◌, List, map}
 use Rattle.wormhole.specs.Events.{NetEvent}
 use Rattle.network_judge.specs.LockUps.{IsLockUp}
+use Rattle.network_judge.specs.TableNet.{Flits, table_network}
 use Rattle.network_text.specs.Network.{NetworkSpec}
 use Rattle.network_machine.specs.declared.moves.Move.{Move}
 use Rattle.network_machine.specs.Moves.{event_move}
@@ -15,3 +16,9 @@ abbrev pub MovesLockUp : NetworkSpec → ℕ → List Move → Type 0
 MovesLockUp n depth moves = (number : ℕ → ℕ) (top : ℕ)
     → (events : List NetEvent) × (map event_move events ≡ moves)
     × IsLockUp (plain_network n.table number top depth) n.replies events
+
+-- no run of the network locks it up, whatever numbers its channels are given, whatever their depth
+-- and whatever the format of the flits (Dally and Towles, chapter 14: it is free of deadlock)
+abbrev pub HasNoLockUp : NetworkSpec → Type 0
+HasNoLockUp n = (number : ℕ → ℕ) (top depth : ℕ) (flits : Flits) (events : List NetEvent)
+    → 0 < depth → IsLockUp (table_network n.table number top depth flits) n.replies events → ⊥

@@ -7,3 +7,5 @@ pub mod Answered
 pub mod Scripted
 pub mod Walked
 pub mod Answering
+pub mod Latest
+pub mod Bare

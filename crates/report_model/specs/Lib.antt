@@ -4,3 +4,4 @@ pub mod Indexes
 pub mod Entries
 pub mod Programs
 pub mod Answers
+pub mod Bare

@@ -6,6 +6,7 @@ pub mod answer;
 mod entries;
 pub mod fenced;
 mod indexes;
+pub mod laws;
 mod made;
 mod program;
 pub mod row;
