@@ -2,9 +2,9 @@
 
 Every tool prints to standard output only when all of its work is done. On a fault it prints one line on
 standard error, and of a text that torusmem refuses its reason on the next. Its status is 0, or 1 (a text can't be read or is
-refused), 2 (the words of the command line are wrong), 4 (standard output failed), or 130 (interrupted). A tool that judges has 1 for
-a no alone, 2 for a text or a file that is refused, too, and 5 for what isn't decided. Where the reader of its output goes away, as
-`head` does, it ends without a word by SIGPIPE.
+refused), 2 (the words of the command line are wrong), 4 (standard output failed), or 130 (interrupted). from_csv, which judges,
+has 1 for a no alone, 2 for a text or a file that is refused, too, and 5 for what isn't decided. Where the reader of its output
+goes away, as `head` does, it ends without a word by SIGPIPE.
 """
 from __future__ import annotations
 
@@ -83,8 +83,8 @@ def bad_word(why: str) -> Exception:
 
 
 def run(tool: str, work: Callable[[], str], status: int = 1) -> NoReturn:
-    """Does a tool's work, prints the text that it answers, and ends the process with its status: this one where a text or a file is
-    refused."""
+    """Does a tool's work, prints the text that it answers, and ends the process with its status: this one where a text or a file
+    is refused."""
     try:
         text = work()
     except HelpAsked as asked:

@@ -83,7 +83,8 @@ class Calls:
             if it.split(" ", 2)[1] in counted and marks:
                 name = next(name for name, mark in self.names.values.items() if mark == marks[0])
                 value = f"the value `{name}`" if literals.looks_odd(name) else "a value"
-                raise command.Refusal(f"{self.path}, line {self.issues[at]}: {value} is no number, and other operations count with it")
+                why = f"{value} is no number, and other operations count with it"
+                raise command.Refusal(f"{self.path}, line {self.issues[at]}: {why}")
 
     def refuse_unclear(self) -> None:
         """Refuses `true` and `false` as replies of cas where values are named so: they could be the word that it found."""
@@ -91,7 +92,8 @@ class Calls:
         if named and self.yes_or_no:
             line, word = self.yes_or_no
             also = f"a value is named {named} in line {self.names.value_lines[named]}"
-            raise command.Refusal(f"{self.path}, line {line}: the reply {word} of a cas isn't clear, since {also}: write ok or fail")
+            why = f"the reply {word} of a cas is not clear, since {also}: write ok or fail"
+            raise command.Refusal(f"{self.path}, line {line}: {why}")
 
     def opening(self, given: Dict[int, int], word: Optional[str]) -> Dict[int, int]:
         """The words that aren't 0 at first: those given, and for every other key the word, or nil where a value is named."""

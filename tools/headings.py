@@ -5,11 +5,11 @@ import difflib
 from typing import Dict, List, Sequence
 
 ELSEWHERE: Dict[str, Sequence[str]] = {
-    "processor": ("core", "thread", "proc", "cpu", "hart", "client", "process", "worker", "tid", "pid", "source", "initiator", "id"),
+    "processor": ("core", "thread", "proc", "cpu", "hart", "client", "process", "worker", "tid", "pid", "source", "id"),
     "operation": ("op", "kind", "type", "cmd", "command", "request", "f", "access"),
     "address": ("addr", "adr", "key", "register", "location", "loc", "object"),
-    "values": ("value", "data", "write", "written", "wdata", "write_data", "argument", "arguments", "args", "input", "new", "expected"),
-    "reply": ("read", "rdata", "read_data", "result", "returned", "return", "response", "resp", "found", "output", "old", "data", "value"),
+    "values": ("value", "data", "write", "written", "wdata", "write_data", "argument", "arguments", "args", "input", "new"),
+    "reply": ("read", "rdata", "read_data", "result", "returned", "return", "response", "resp", "found", "output", "old", "data"),
     "issued": ("start", "begin", "started", "issue", "invoke", "invoked", "call", "called", "request_time", "time", "start_time"),
     "answered": ("end", "finish", "finished", "ended", "done", "complete", "completed", "response_time", "end_time", "time_end"),
     "served": ("service", "effect", "commit", "committed", "time"),

@@ -1,5 +1,5 @@
-"""Writes what a tool judged as a JUnit file, one test case for each verdict, as build systems read it (the common form of Ant's task
-`junit`, https://github.com/testmoapp/junitxml).
+"""Writes what a tool judged as a JUnit file, one test case for each verdict, as build systems read it (the form of Ant's task
+`junit`: https://github.com/testmoapp/junitxml).
 """
 from __future__ import annotations
 

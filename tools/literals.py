@@ -1,5 +1,5 @@
-"""Reads whole numbers as programs, chips and data frames write them in a table: `17`, `+17`, `17.0`, `1_000`, `0x1f`, `0b1_0001`; and
-where a table's columns are bare hexadecimal `00ff`.
+"""Reads whole numbers as programs, chips and data frames write them in a table: `17`, `+17`, `17.0`, `1_000`, `0x1f`, `0b1_0001`;
+and `00ff` where a table's columns are bare hexadecimal.
 """
 from __future__ import annotations
 
@@ -16,7 +16,8 @@ BARE = re.compile(rf"\+?(?:0[xX])?({HEX})", re.ASCII)
 ENDLESS = 2**300
 # What looks like a number and isn't one: digits, a sign, a point, an exponent or a base.
 ODD = re.compile(
-    r"[+-]?(?:[0-9][0-9A-Fa-f_]*|[0-9]*\.?[0-9]+(?:[eE][+-]?[0-9]+)?|[0-9]+\.[0-9]*)|\"?[+-]?0[xXbBoO]\w*\"?|[0-9]*'[sS]?[hHbBdDoO]\w*", re.ASCII
+    r"[+-]?(?:[0-9][0-9A-Fa-f_]*|[0-9]*\.?[0-9]+(?:[eE][+-]?[0-9]+)?|[0-9]+\.[0-9]*)"
+    r"|\"?[+-]?0[xXbBoO]\w*\"?|[0-9]*'[sS]?[hHbBdDoO]\w*", re.ASCII,
 )
 
 
@@ -44,8 +45,9 @@ def looks_odd(word: str) -> bool:
 
 
 def is_bare(word: str) -> bool:
-    """Whether a word, in quotes or not, is a number where bare digits are hexadecimal."""
-    return BARE.fullmatch(word.strip('"')) is not None
+    """Whether a word, in quotes or not, is a number of 64 bits where bare digits are hexadecimal."""
+    found = literal(word.strip('"'), True)
+    return found is not None and found <= MASK
 
 
 def number(word: str, least: int, most: int, what: str, is_hex: bool = False) -> int:

@@ -24,8 +24,8 @@ MARK = re.compile("[@~][0-9]+")
 
 @dataclass
 class Names:
-    """The words that stand for keys and for values, each with its mark, and what each mark became. Of numbers in another base than
-    ten how they are spelled first, and of each name the line that has it first."""
+    """The words that stand for keys and for values, each with its mark, and what each mark became. Of numbers in another base
+    than ten how they are spelled first, and of each name the line that has it first."""
 
     keys: Dict[str, str] = field(default_factory=dict)
     values: Dict[str, str] = field(default_factory=lambda: {NIL: "~0"})
@@ -112,7 +112,7 @@ class Names:
             self.numbers.update(zip(self.values.values(), self.value_names))
 
     def left(self) -> List[str]:
-        """What is said of words that were left as names: those that look like numbers, and others in a column that has numbers."""
+        """What is said of words that are names: those that look like numbers, and others in a column that has numbers."""
         said = []
         for column, lines in (("values", self.value_lines), ("addresses", self.key_lines)):
             has_bare = any(literals.looks_odd(it) and literals.is_bare(it) for it in lines)

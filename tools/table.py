@@ -118,7 +118,7 @@ def mark_of(head: bytes) -> tuple[bytes, str]:
 
 
 def with_commas(text: bytes, path: str) -> bytes:
-    """A table with commas in place of the semicolons or tabs between its columns. Refused where commas or quotes stand, too."""
+    """A table with commas in place of the semicolons or tabs between its columns. Refused where it has commas or quotes."""
     mark, name = mark_of(first_line(text))
     if mark == b",":
         return text
