@@ -1,9 +1,10 @@
 """What the tools of this folder share: their command lines, files, streams and statuses, and calls of torusmem.
 
 Every tool prints to standard output only when all of its work is done. On a fault it prints one line on
-standard error, and of a text that torusmem refuses its reason on the next. Its status is 0, or 1 (a text can't be read or is refused), 2 (the words of the command line
-are wrong), 4 (standard output failed), or 130 (interrupted). Where the reader of its output goes away, as `head`
-does, it ends without a word by SIGPIPE.
+standard error, and of a text that torusmem refuses its reason on the next. Its status is 0, or 1 (a text can't be read or is
+refused), 2 (the words of the command line are wrong), 4 (standard output failed), or 130 (interrupted). from_csv, which judges,
+has 1 for a no alone, 2 for a text or a file that is refused, too, and 5 for what isn't decided. Where the reader of its output
+goes away, as `head` does, it ends without a word by SIGPIPE.
 """
 from __future__ import annotations
 
@@ -26,9 +27,18 @@ MOST_BYTES = (5 * 65536 + 3) * 128
 
 
 class Refusal(Exception):
-    """A text can't be read, or is not what it must be: the line that says so, and lines that say why."""
+    """A text can't be read, or is not what it must be: the line that says so, and lines that say why, or that say it in a file
+    alone. The status is the tool's, but for a verdict that has its own."""
 
     lines: Sequence[str] = ()
+    story: Sequence[str] = ()
+    status: Optional[int] = None
+
+
+class No(Refusal):
+    """What is judged is wrong."""
+
+    status = 1
 
 
 class WrongWords(Exception):
@@ -72,8 +82,9 @@ def bad_word(why: str) -> Exception:
     return argparse.ArgumentTypeError(why)
 
 
-def run(tool: str, work: Callable[[], str]) -> NoReturn:
-    """Does a tool's work, prints the text that it answers, and ends the process with its status."""
+def run(tool: str, work: Callable[[], str], status: int = 1) -> NoReturn:
+    """Does a tool's work, prints the text that it answers, and ends the process with its status: this one where a text or a file
+    is refused."""
     try:
         text = work()
     except HelpAsked as asked:
@@ -84,11 +95,11 @@ def run(tool: str, work: Callable[[], str]) -> NoReturn:
         say(tool, str(refused))
         for line in refused.lines:
             put_line(line)
-        leave(tool, 1)
+        leave(tool, status if refused.status is None else refused.status)
     except OSError as fault:
-        leave(tool, 1, str(fault))
+        leave(tool, status, str(fault))
     except MemoryError:
-        leave(tool, 1, "there is no memory left")
+        leave(tool, status, "there is no memory left")
     except KeyboardInterrupt:
         leave(tool, 130, "interrupted")
     put(tool, text)

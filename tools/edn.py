@@ -1,6 +1,6 @@
 """Reads forms of EDN, the notation of Clojure's data (https://github.com/edn-format/edn), as logs have them.
 
-A number is an int; a list or a vector a list; a map a dict; nil is None. A keyword, a string and every other word stay text, as
+A number is an int, also where it is spelled `0x1f`, `0b11`, `1_000` or `17.0`; a list or a vector a list; a map a dict; nil is None. A keyword, a string and every other word stay text, as
 they are written: `:ok`, `"a b"`, `true`. A tag, as `#jepsen.history.Op`, is passed over.
 """
 from __future__ import annotations
@@ -9,6 +9,8 @@ import functools
 import re
 from typing import List, Tuple
 
+import literals
+from operations import MASK
 from report import BadLine
 
 TOKEN = re.compile(r'[\s,]*([{}\[\]()]|:[^\s,{}\[\]()"]+|"(?:[^"\\]|\\.)*"|[^\s,{}\[\]()":]+)')
@@ -30,6 +32,11 @@ def atom(token: str) -> object:
     digits = token[1:] if token[:1] in ("-", "+") else token
     if digits.isascii() and digits.isdigit():
         return int(token) if len(token) <= 21 else token
+    number = literals.literal(token)
+    if number is not None and number > MASK:
+        raise BadLine(f"the number {token} is above {MASK}")
+    if number is not None:
+        return number
     if re.fullmatch(r"[A-Za-z*!_?$%&=<>.][^\s]*", token):
         return token
     raise BadLine(f"`{token}` is not understood" if token else "it ends too soon")

@@ -9,8 +9,9 @@ from itertools import chain
 from typing import Callable, Dict, Iterable, List, Optional, Set, Tuple
 
 import command
-import report
-from numbered import LAST_PROCESSOR, MOST_WORDS, NIL, Names, is_number, processors
+import literals
+from numbered import LAST_PROCESSOR, MOST_WORDS, NIL, Names, processors
+from operations import MASK
 
 COUNTING = {"add", "and", "or", "xor", "max", "min"}
 # What an operation is called whose failure says that it did not happen.
@@ -37,6 +38,8 @@ class Calls:
     names: Names = field(default_factory=Names)
     who: str = "processor"
     spelled: Dict[str, str] = field(default_factory=dict)
+    # The first line of a cas whose reply is `true` or `false`, as it is spelled there.
+    yes_or_no: Optional[Tuple[int, str]] = None
     times: Callable[[int], Tuple[str, str]] = lambda at: ("", "")
 
     def add(self, processor: str, asked: str, line: int) -> int:
@@ -63,6 +66,7 @@ class Calls:
         names = self.names
         if names.has_values():
             self.refuse_counting()
+            self.refuse_unclear()
         if not names.keys and not names.has_values():
             return
         parts = [it.split(" ") for it in self.asked]
@@ -75,16 +79,34 @@ class Calls:
         """Refuses the first operation that counts on a key whose values aren't all numbers."""
         counted = {it.split(" ", 2)[1] for it in self.asked if it.split(" ", 1)[0] in COUNTING}
         for at, it in enumerate(self.asked if counted else []):
-            if it.split(" ", 2)[1] in counted and (it.find("~") > 0 or self.replies[at][:1] == "~"):
-                raise command.Refusal(f"{self.path}, line {self.issues[at]}: a value is no number, and other operations count with it")
+            marks = [mark for mark in [*it.split(" ")[2:], self.replies[at]] if mark[:1] == "~"]
+            if it.split(" ", 2)[1] in counted and marks:
+                name = next(name for name, mark in self.names.values.items() if mark == marks[0])
+                value = f"the value `{name}`" if literals.looks_odd(name) else "a value"
+                why = f"{value} is no number, and other operations count with it"
+                raise command.Refusal(f"{self.path}, line {self.issues[at]}: {why}")
+
+    def refuse_unclear(self) -> None:
+        """Refuses `true` and `false` as replies of cas where values are named so: they could be the word that it found."""
+        named = next((it for it in self.names.value_lines if it.lower() in ("true", "false")), None)
+        if named and self.yes_or_no:
+            line, word = self.yes_or_no
+            also = f"a value is named {named} in line {self.names.value_lines[named]}"
+            why = f"the reply {word} of a cas is not clear, since {also}: write ok or fail"
+            raise command.Refusal(f"{self.path}, line {line}: {why}")
 
     def opening(self, given: Dict[int, int], word: Optional[str]) -> Dict[int, int]:
         """The words that aren't 0 at first: those given, and for every other key the word, or nil where a value is named."""
         names = self.names
         known = {name: number for number, name in names.value_names.items()}
-        first = known.get(word, word) if word is not None else known.get(NIL, "0")
-        if not is_number(first):
-            raise command.Refusal(f"{self.path} has no value `{word}`: --opening is a number, or spelled as there")
+        first = known.get(NIL if word is None else word, "0" if word is None else "")
+        if not first and word is not None:
+            number = literals.literal(word, names.is_hex)
+            if number is None or number > MASK:
+                raise command.Refusal(f"{self.path} has no value `{word}`: --opening is a number, or spelled as there")
+            first = str(number)
+            if literals.is_other_base(word, names.is_hex):
+                names.spelled_values.setdefault(first, word)
         if first == "0":
             return given
         counted = {it.split(" ", 2)[1] for it in self.asked if it.split(" ", 1)[0] in COUNTING} if word is None else set()
@@ -176,9 +198,9 @@ def trace_of(calls: Calls, words: int, opening: Dict[int, int], asks: Iterable[i
 
 def processor_of(word: str) -> int:
     """The number of a processor."""
-    return report.number(word, 0, LAST_PROCESSOR, "the processor")
+    return literals.number(word, 0, LAST_PROCESSOR, "the processor")
 
 
-def address_of(word: str) -> int:
+def address_of(word: str, is_hex: bool) -> int:
     """An address."""
-    return report.number(word, 0, MOST_WORDS - 1, "the address")
+    return literals.number(word, 0, MOST_WORDS - 1, "the address", is_hex)

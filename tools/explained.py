@@ -159,10 +159,10 @@ def on_paper(told: Told, on: Paper, tool: str) -> str:
     return on.svg(tool, on.room(), low + 8, parts)
 
 
-def picture(text: bytes, path: str, first: int | None, last: int | None, tool: str, on: Paper | None) -> str:
+def picture(text: bytes, path: str, first: int | None, last: int | None, tool: str, on: Paper | None, is_hex: bool) -> str:
     """The picture of a table or of a log: of the key at fault, or of its whole trace."""
     told = Progress(tool)
-    calls = tabled.read(text, path, False, told)
+    calls = tabled.read(text, path, False, told, is_hex)
     opening = calls.opening({}, None)
     judge = verdict.Judge(calls, max([calls.greatest_address(), *opening]) + 1, opening, [], told)
     try:
@@ -172,8 +172,8 @@ def picture(text: bytes, path: str, first: int | None, last: int | None, tool: s
             return on_paper(Told(why), on, tool) if on else drawn(Told(why))
     finally:
         told.clear()
-        if left_out := calls.left_out(is_placed=True):
-            command.say(tool, left_out)
+        for it in filter(None, (calls.left_out(is_placed=True), *calls.names.left())):
+            command.say(tool, it)
     trace = judge.trace({})
     read = traced.read(trace.text().encode("ascii"), path)
     read.times = {number: calls.times(it if it >= 0 else ~it)[it < 0] for number, it in enumerate(trace.events, 1)}

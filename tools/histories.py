@@ -10,6 +10,7 @@ from typing import Dict, Optional, Tuple
 
 import command
 import edn
+import literals
 import table
 from events import Calls
 from numbered import NIL
@@ -70,6 +71,8 @@ def quoted(it: object) -> object:
         return [quoted(each) for each in it]
     if isinstance(it, bool):
         return "true" if it else "false"
+    if isinstance(it, float) and it.is_integer() and abs(it) < 2**53:
+        return int(it)
     if isinstance(it, str):
         return json.dumps(it, ensure_ascii=False)
     return it
@@ -93,19 +96,32 @@ class Log:
     """The calls of a log, those that are open, by process, and whether it has pairs of a register and its value."""
 
     calls: Calls
+    is_hex: bool = False
     is_open: Dict[str, int] = field(default_factory=dict)
     has_pairs: Optional[bool] = None
+
+    def number(self, it: object) -> Optional[int]:
+        """The number of 64 bits that a value or a key is; with --hex also a string of hexadecimal digits."""
+        if self.is_hex and isinstance(it, str) and it[:1] == '"':
+            it = literals.literal(it[1:-1], True)
+        return it if isinstance(it, int) and 0 <= it <= MASK else None
 
     def word(self, value: object) -> str:
         """A value."""
         if isinstance(value, (list, dict, float)):
             raise BadLine("a value is no number of 64 bits and no string")
-        return self.calls.names.value(NIL if value is None else str(value))
+        number = self.number(value)
+        return self.calls.names.named_value(NIL if value is None else str(value)) if number is None else str(number)
+
+    def key(self, it: object) -> str:
+        """A key."""
+        number, names = self.number(it), self.calls.names
+        return names.named_key(NIL if it is None else str(it)) if number is None else names.numbered_key(number)
 
     def split(self, said: Said) -> Tuple[str, object]:
         """The key that is named by an issue, and what is said of it."""
         if said.key is not None:
-            return self.calls.names.key(str(said.key)), said.value
+            return self.key(said.key), said.value
         pair = said.value if isinstance(said.value, list) and len(said.value) == 2 else None
         is_pair = pair is not None and (said.operation != "cas" or isinstance(pair[1], list))
         if self.has_pairs not in (None, is_pair):
@@ -115,7 +131,7 @@ class Log:
             return "0", said.value
         if isinstance(pair[0], (list, dict, float)):
             raise BadLine("a register is no number and no string")
-        return self.calls.names.key(NIL if pair[0] is None else str(pair[0])), pair[1]
+        return self.key(pair[0]), pair[1]
 
     def asked(self, said: Said) -> str:
         """The operation that a line invokes."""
@@ -152,12 +168,13 @@ class Log:
             raise BadLine(f"`{said.operation}` is answered, but `{self.calls.spelled[kind]}` is open, of line {self.calls.issues[at]}")
         told = said.value[:1] if self.has_pairs and isinstance(said.value, list) and len(said.value) == 2 else []
         told = told if said.key is None else [said.key]
-        if said.kind == "ok" and told and self.calls.names.key(NIL if told[0] is None else str(told[0])) != key:
+        if said.kind == "ok" and told and self.key(told[0]) != key:
             raise BadLine(f"it answers for the key {told[0]}, and line {self.calls.issues[at]} asks for another")
 
     def take(self, said: Said, line: int) -> None:
         """Takes what a line says."""
         process, calls = said.process, self.calls
+        calls.names.line = line
         if said.kind not in TYPES:
             raise BadLine(f"`{said.kind}` is no type: invoke, ok, fail or info")
         if isinstance(process, str) and (process[0] == ":" or process == '"nemesis"'):
@@ -191,9 +208,9 @@ def is_log(text: bytes) -> Tuple[bool, bool]:
     return begin[:1] == b"{" or bool(TAG.match(begin)), bool(IS_LINE.search(begin))
 
 
-def of_log(text: bytes, path: str, is_map: bool, progress: Progress) -> Calls:
+def of_log(text: bytes, path: str, is_map: bool, is_hex: bool, progress: Progress) -> Calls:
     """The calls of a log, in the order of time."""
-    log = Log(Calls(path, who="process"))
+    log = Log(Calls(path, who="process"), is_hex)
     try:
         lines = text.decode("utf-8-sig").split("\n")
     except UnicodeDecodeError:

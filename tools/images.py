@@ -1,28 +1,28 @@
 """The words of a memory at its beginning and at its end, as the command line and texts give them, for tools/from_csv."""
 from __future__ import annotations
 
-import re
 from argparse import Namespace
 
 import command
-import report
+import literals
 import table
+from operations import MASK
 from pieces import Image, Memory
 from report import BadLine
 
 
-def add_word(image: Image, address: str, word: str, last: int, line: int) -> None:
+def add_word(image: Image, address: str, word: str, limits: table.Limits, line: int) -> None:
     """Adds a word to those of a text, in which it stands in the line, or to those of the command line (line 0)."""
-    at = report.number(address, 0, last, "the address")
+    at = literals.number(address, 0, limits.last_address(), "the address", limits.is_hex)
     if at in image.words:
         where = f", in line {image.lines[at]}" if at in image.lines else ""
         raise BadLine(f"the address {at} is given already{where}")
-    image.words[at] = report.value(word)
+    image.words[at] = literals.number(word, 0, MASK, "a value", limits.is_hex)
     if line:
         image.lines[at] = line
 
 
-def read_image(image: Image, path: str, last: int) -> None:
+def read_image(image: Image, path: str, limits: table.Limits) -> None:
     """Adds the words of a text. Refused with the first line that can't be understood."""
     for line, text in enumerate(command.contents(path).decode("utf-8", "replace").split("\n"), 1):
         words = text.split()
@@ -30,26 +30,26 @@ def read_image(image: Image, path: str, last: int) -> None:
             if len(words) not in (0, 2):
                 raise BadLine("a line is an address and a word")
             if words:
-                add_word(image, words[0], words[1], last, line)
+                add_word(image, words[0], words[1], limits, line)
         except BadLine as why:
             raise command.Refusal(f"{path}, line {line}: {why}") from None
 
 
 def memory_of(given: Namespace, limits: table.Limits) -> Memory:
     """The words that the command line gives."""
-    opening, last = Image(), limits.last_address()
+    opening = Image()
     for word in given.init:
         if not isinstance(word, str):
             try:
-                add_word(opening, *word, last, 0)
+                add_word(opening, *word, limits, 0)
             except BadLine as why:
                 raise command.WrongWords(f"--init {' '.join(word)}: {why}") from None
     for word in given.init:
         if isinstance(word, str):
-            read_image(opening, word, last)
+            read_image(opening, word, limits)
     closing = Image(given.final) if given.final else None
     if closing:
-        read_image(closing, given.final, last)
+        read_image(closing, given.final, limits)
     return Memory(opening, closing)
 
 
@@ -57,7 +57,7 @@ def words_given(words: list[str]) -> list[str]:
     """The words of the command line, with the two numbers behind an --init in one word."""
     made: list[str] = []
     for word in words:
-        if made[-2:-1] == ["--init"] and re.fullmatch("[0-9]+", made[-1]):
+        if made[-2:-1] == ["--init"] and literals.literal(made[-1]) is not None:
             made[-1] += f" {word}"
         else:
             made.append(word)
@@ -66,4 +66,5 @@ def words_given(words: list[str]) -> list[str]:
 
 def opening_of(word: str) -> str | list[str]:
     """The reader of what stands behind --init: a text, or an address and a word."""
-    return word.split() if re.fullmatch("[0-9]+ .*", word) else word
+    first, space, _ = word.partition(" ")
+    return word.split() if space and literals.literal(first) is not None else word

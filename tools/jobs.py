@@ -5,7 +5,7 @@ import gc
 import os
 import signal
 from multiprocessing import connection, get_context
-from typing import Callable, Dict, Iterator, List, NoReturn, TypeVar
+from typing import Callable, Dict, Iterator, List, NoReturn, Optional, TypeVar
 
 import command
 
@@ -63,18 +63,20 @@ def told(
     try:
         for at in mine:
             try:
-                pipe.send((at, work(tasks[at]), ""))
-            except (command.Refusal, OSError) as why:
-                pipe.send((at, None, str(why)))
+                pipe.send((at, work(tasks[at]), None))
+            except command.Refusal as why:
+                pipe.send((at, None, why))
+            except OSError as why:
+                pipe.send((at, None, command.Refusal(str(why))))
             except MemoryError:
-                pipe.send((at, None, "there is no memory left"))
+                pipe.send((at, None, command.Refusal("there is no memory left")))
     finally:
         os._exit(0)
 
 
 def in_order(pipes: List[connection.Connection], count: int) -> Iterator[Answer]:
     """The answers to so many tasks, in the order of the tasks, as they come out of the pipes."""
-    early: Dict[int, tuple[Answer, str]] = {}
+    early: Dict[int, tuple[Answer, Optional[command.Refusal]]] = {}
     for at in range(count):
         while at not in early:
             if not pipes:
@@ -87,5 +89,5 @@ def in_order(pipes: List[connection.Connection], count: int) -> Iterator[Answer]
                     pipes.remove(pipe)
         answer, why = early.pop(at)
         if why:
-            raise command.Refusal(why)
+            raise why
         yield answer

@@ -9,8 +9,9 @@ from typing import Dict, Iterator, List, Optional, Tuple
 
 import command
 import events
+import junit
+import literals
 import operations
-import report
 import table
 from report import BadLine
 
@@ -76,16 +77,18 @@ class Table:
                 yield it.line, f"read {it.processor} {it.index} {told}"
 
 
-def row_of(said: Dict[str, str], line: int, index: int) -> Row:
-    """The operation of a row of a table."""
-    kind, found = said["operation"], Row(line, events.processor_of(said["processor"]), index, said["operation"])
+def row_of(said: Dict[str, str], line: int, counts: Dict[int, int], is_hex: bool) -> Row:
+    """The operation of a row of a table, where so many of each processor stand before it."""
+    processor = events.processor_of(said["processor"])
+    kind, found = said["operation"], Row(line, processor, counts.get(processor, 0), said["operation"])
     if kind == "fence":
         if any(said.get(it) for it in ("address", "values", "reply", "order", "source")):
             raise BadLine("a fence has no address, values, reply, order and source")
         return found
-    found.address, found.values = events.address_of(said["address"]), table.values_of(kind, said["values"].split())
+    found.address = events.address_of(said["address"], is_hex)
+    found.values = table.values_of(kind, said["values"].split(), is_hex)
     if said["reply"]:
-        found.reply, found.is_answered = table.reply_of(kind, said["reply"]), True
+        found.reply, found.is_answered = table.reply_of(kind, said["reply"], found.values, is_hex), True
     if said.get("order"):
         found.order = table.moment(said["order"], "`order`")
     elif "order" in said and kind != "load":
@@ -93,25 +96,25 @@ def row_of(said: Dict[str, str], line: int, index: int) -> Row:
     if said.get("source"):
         if kind != "load":
             raise BadLine("a write has a `source`, and only loads have one")
-        found.source = 0 if said["source"] == "opening" else report.number(said["source"], 2, 10**12, "the source")
+        found.source = 0 if said["source"] == "opening" else literals.number(said["source"], 2, 10**12, "the source")
     return found
 
 
-def read(text: bytes, path: str, opening: Dict[int, int]) -> Table:
+def read(text: bytes, path: str, opening: Dict[int, int], is_hex: bool) -> Table:
     """The operations of a table. Refused with the first line that can't be understood."""
-    rows = table.cut(text, path)
+    rows = table.cut(table.with_commas(text, path), path)
     columns = next(rows, (0, []))[1]
     if missing := [it for it in COLUMNS if it not in columns]:
-        raise table.unnamed(path, missing)
-    found, counts = Table(), {}
+        raise table.unnamed(path, missing, columns, [*COLUMNS, "order", "source"])
+    found, counts = Table(), {}  # type: Table, Dict[int, int]
     for line, fields in rows:
         try:
             table.refuse_count(len(fields), len(columns))
             said = dict(zip(columns, fields))
-            it = row_of(said, line, counts.get(said["processor"], 0))
+            it = row_of(said, line, counts, is_hex)
         except BadLine as why:
             raise command.Refusal(f"{path}, line {line}: {why}") from None
-        counts[said["processor"]] = it.index + 1
+        counts[it.processor] = it.index + 1
         found.rows.append(it)
     order_writes(found, path)
     find_sources(found, path, opening)
@@ -191,5 +194,15 @@ def judged(lines: List[Tuple[int, str]], path: str) -> Tuple[str, bool]:
         try:
             said = command.torusmem("model", name, fine=(0, 1)) or command.torusmem("model", name)
         except command.Refusal as refused:
-            raise command.Refusal(f"{path}: {at(str(refused))}") from None
+            made = command.No if str(refused).startswith("reply ") else command.Refusal
+            raise made(f"{path}: {at(str(refused))}") from None
     return at(said), "\nsc yes\n" in said
+
+
+def cases_of(said: str, path: str) -> List[junit.Case]:
+    """A case for each model that was judged. The cycle, which is one of the weakest that isn't obeyed, says why."""
+    lines = said.rstrip("\n").split("\n")
+    models = [it.split(" ", 1) for it in lines if re.fullmatch("[a-z]+ (yes|no)", it)]
+    cycle = lines[len(models) :]
+    why = lambda name: cycle if cycle and cycle[0].startswith(f"no order of {name}") else []
+    return [junit.Case(f"{path}: {name}", int(it == "no"), f"{name} {it}", why(name)) for name, it in models]

@@ -16,16 +16,18 @@ LAST_INDEX = 4095
 
 @dataclass
 class Trace:
-    """A table: its operations, with times where an entry has event numbers, and how many weren't served."""
+    """A table: its operations, with times where an entry has event numbers, how many weren't served, and whether bare digits of
+    addresses and words are hexadecimal."""
 
     radices: list[int]
     words: int
     entries: list[Entry]
     unserved: int = 0
+    is_hex: bool = False
 
     def limits(self) -> table.Limits:
         """What a report has room for."""
-        return table.Limits(report.product(self.radices), self.words, LAST_INDEX)
+        return table.Limits(report.product(self.radices), self.words, LAST_INDEX, self.is_hex)
 
 
 def read(text: bytes, path: str, trace: Trace) -> None:

@@ -174,6 +174,20 @@ def possible(calls: Calls, reasons: List[str]) -> str:
     return re.sub("[0-9]+(?! others?)", lambda it: calls.names.shown(it[0]), found[1]) if found else ""
 
 
+def left_lines(found: Story, teller: Teller, reasons: List[str]) -> List[str]:
+    """A line where the reply is what the operation leaves in a word that it could have found: perhaps the log has that word."""
+    it, match = found.failed, re.search(r" can be (.*)$", reasons[0]) if reasons else None
+    if it.kind in ("load", "store") or match is None:
+        return []
+    words = [int(word) for word in re.findall("[0-9]+(?! others?)", match[1])]
+    for word in words:
+        if operations.written(it.kind, it.values, word) == found.value:
+            shown = teller.names.shown
+            leaves = f"where it finds {shown(str(word))} it leaves {shown(str(found.value))}"
+            return [f"{found.calls.path}: {leaves}, and a reply is the word before: does the log have the new word?"]
+    return []
+
+
 def told(calls: Calls, trace: Trace, event: int, reasons: List[str], is_failed_cas: bool) -> List[str]:
     """The lines of the story."""
     if event >= 0:
@@ -186,7 +200,7 @@ def told(calls: Calls, trace: Trace, event: int, reasons: List[str], is_failed_c
         lines = [teller.put(found.failed, f"it failed, so the word was not {expected}{could}", True)]
         writer = found.last_writer()
         return lines + ([teller.put(writer, f"wrote {expected}")] if writer else []) + open_lines(found, teller)
-    lines = [teller.put(found.failed, f"it found {value}{could}", True)]
+    lines = [teller.put(found.failed, f"it found {value}{could}", True), *left_lines(found, teller, reasons)]
     writer = found.last_writer()
     if writer:
         count = len(found.writers)

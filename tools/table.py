@@ -11,9 +11,11 @@ import csv
 import io
 import re
 from dataclasses import dataclass, field
-from typing import Iterator, List, Optional, Tuple
+from typing import Iterator, List, Optional, Sequence, Tuple
 
 import command
+import headings
+import literals
 import report
 from operations import MASK
 from report import BadLine, Entry
@@ -48,17 +50,23 @@ SAID = {
         "a carriage return stands alone, and lines end with a line feed",
     "',' expected after '\"'": "behind a closing quote stands neither a comma nor the end of the line",
 }
+# What a cas replies that found what it expected, and one that didn't.
+FOUND, FOUND_ANOTHER = ("ok", "true"), ("fail", "false")
+# What stands between the columns of other tables.
+MARKS = ((b";", "semicolons"), (b"\t", "tabs"))
 # Of each kind how many values there are, and whether the reply is `ok`.
 PLAIN_KINDS = {(kind, count, kind == "store") for kind, count in report.VALUES.items()}
 
 
 @dataclass
 class Limits:
-    """What a table may have: so many tiles and words, where that is known, and indexes up to the last."""
+    """What a table may have: so many tiles and words, where that is known, and indexes up to the last; and whether bare digits of
+    addresses and words are hexadecimal."""
 
     tiles: Optional[int]
     words: Optional[int]
     last_index: int = MASK
+    is_hex: bool = False
 
     def last_tile(self) -> int:
         """The greatest number of a processor or of a bank."""
@@ -97,9 +105,35 @@ def cut(text: bytes, path: str, before: int = 0) -> Iterator[tuple[int, list[str
         raise command.Refusal(f"{path}, line {before + begun}: {why}") from None
 
 
-def unnamed(path: str, missing: List[str]) -> command.Refusal:
-    """The refusal of a table whose first line doesn't name these columns."""
-    return command.Refusal(f"{path}: the first line doesn't name the column{'s' * (len(missing) > 1)} {','.join(missing)}")
+def first_line(text: bytes) -> bytes:
+    """The first line of a text that isn't empty."""
+    found = HEAD.match(text)
+    return found[0].lstrip(b"\xef\xbb\xbf \r\n") if found else b""
+
+
+def mark_of(head: bytes) -> tuple[bytes, str]:
+    """What stands between the columns of a table with this first line, and what that is called."""
+    marks = [it for it in MARKS if head.count(it[0]) > 1] if b"," not in head else []
+    return marks[0] if marks else (b",", "commas")
+
+
+def with_commas(text: bytes, path: str) -> bytes:
+    """A table with commas in place of the semicolons or tabs between its columns. Refused where it has commas or quotes."""
+    mark, name = mark_of(first_line(text))
+    if mark == b",":
+        return text
+    for other, called in ((b",", "a comma"), (b'"', "a quote")):
+        at = text.find(other)
+        if at >= 0:
+            line = bytes(text[:at]).count(b"\n") + 1
+            raise command.Refusal(f"{path}, line {line}: {called} stands in a table whose columns {name} part: part them by commas")
+    return bytes(text[:]).replace(mark, b",")
+
+
+def unnamed(path: str, missing: List[str], columns: List[str], wanted: List[str]) -> command.Refusal:
+    """The refusal of a table whose first line doesn't name these columns of the wanted ones."""
+    hint = headings.hint(missing, columns, wanted)
+    return command.Refusal(f"{path}: the first line doesn't name the column{'s' * (len(missing) > 1)} {','.join(missing)}{hint}")
 
 
 def refuse_count(count: int, wanted: int) -> None:
@@ -109,23 +143,27 @@ def refuse_count(count: int, wanted: int) -> None:
         raise BadLine(f"{has} in place of {wanted}")
 
 
-def values_of(kind: str, words: list[str]) -> tuple[int, ...]:
+def values_of(kind: str, words: list[str], is_hex: bool) -> tuple[int, ...]:
     """The values of an operation, as many as it has."""
     if kind not in report.VALUES:
         raise BadLine(f"there is no operation `{kind}`" if kind else "there is no operation")
     if len(words) != report.VALUES[kind]:
         wanted = ("no value", "one value", "two values")[report.VALUES[kind]]
         raise BadLine(f"{kind} takes {wanted}, and here {'is' if len(words) == 1 else 'are'} {len(words)}")
-    return tuple(map(report.value, words))
+    return tuple(literals.number(it, 0, MASK, "a value", is_hex) for it in words)
 
 
-def reply_of(kind: str, word: str) -> int | None:
-    """The reply of an operation."""
+def reply_of(kind: str, word: str, values: Sequence[int], is_hex: bool) -> int | None:
+    """The reply of an operation with these values: of a cas that says that it found what it expected that word."""
+    if kind == "cas" and word.lower() in FOUND:
+        return values[0]
+    if kind == "cas" and word.lower() in FOUND_ANOTHER:
+        raise BadLine(f"the reply {word} of a cas doesn't say which word it found, which is wanted here (--trace takes it)")
     if (kind == "store") != (word == "ok"):
         raise BadLine("the reply is `ok` for a store, and a number for every other operation")
     if not word:
         raise BadLine("there is no reply")
-    return report.number(word, 0, MASK, "the reply") if word != "ok" else None
+    return literals.number(word, 0, MASK, "the reply", is_hex) if word != "ok" else None
 
 
 def moment(word: str, what: str) -> int:
@@ -135,8 +173,10 @@ def moment(word: str, what: str) -> int:
     whole, point, part = word.partition(".")
     is_fine = part.isascii() and part.isdigit() and len(part) <= 9 if point else True
     if not (is_fine and whole.isascii() and whole.isdigit()):
-        raise BadLine(f"{what} is no number as 1000 or 2.5, with at most nine digits behind the point")
-    return report.number(whole, 0, LATEST, what) * BILLION + int(part.ljust(9, "0"))
+        if literals.literal(word) is None:
+            raise BadLine(f"{what} is no number as 1000 or 2.5, with at most nine digits behind the point")
+        return literals.number(word, 0, LATEST, what) * BILLION
+    return literals.number(whole, 0, LATEST, what) * BILLION + int(part.ljust(9, "0"))
 
 
 def moment_text(moment: int) -> str:
@@ -151,16 +191,16 @@ def entry_of(fields: list[str], limits: Limits) -> Entry | None:
     row = dict(zip(COLUMNS, fields))
     if not row["served"] and not row["answered"]:
         return None
-    tile = lambda name, word: report.number(word, 0, limits.last_tile(), f"the {name}")
+    tile = lambda name, word: literals.number(word, 0, limits.last_tile(), f"the {name}")
     time = lambda name: moment(row[name], f"the time `{name}`")
-    address = report.number(row["address"], 0, limits.last_address(), "the address")
+    address = literals.number(row["address"], 0, limits.last_address(), "the address", limits.is_hex)
     kind = row["operation"]
     bank = tile("bank", row["bank"] or str(address % (limits.tiles or 1)))
     source = tile("processor", row["processor"])
-    tag = report.number(row["tag"] or "0", 0, 15, "the tag")
-    values = values_of(kind, row["values"].split())
-    made = Entry(bank, 0, source, tag, kind, address, values, reply_of(kind, row["reply"]))
-    made.index = report.number(row["index"], 0, limits.last_index, "the index")
+    tag = literals.number(row["tag"] or "0", 0, 15, "the tag")
+    values = values_of(kind, row["values"].split(), limits.is_hex)
+    made = Entry(bank, 0, source, tag, kind, address, values, reply_of(kind, row["reply"], values, limits.is_hex))
+    made.index = literals.number(row["index"], 0, limits.last_index, "the index")
     made.issued, made.served = time("issued"), time("served")
     made.answered = time("answered") if row["answered"] else None
     return made
@@ -168,8 +208,10 @@ def entry_of(fields: list[str], limits: Limits) -> Entry | None:
 
 def first_row(text: bytes, path: str) -> None:
     """Refuses a table whose first line doesn't name its columns."""
-    if next(cut(text, path), (0, []))[1] != COLUMNS:
-        raise command.Refusal(f"{path}: the first line isn't {','.join(COLUMNS)}")
+    columns = next(cut(text, path), (0, []))[1]
+    if columns != COLUMNS:
+        hint = headings.hint([it for it in COLUMNS if it not in columns], columns, COLUMNS)
+        raise command.Refusal(f"{path}: the first line isn't {','.join(COLUMNS)}{hint}")
 
 
 def entries_of(text: bytes, path: str, limits: Limits) -> Iterator[tuple[int, Entry | None]]:
@@ -202,7 +244,8 @@ class Rows:
             found = entry_of(fields, self.limits)
             home = found and self.limits.tiles and found.address % self.limits.tiles
             if found and home is not None and found.bank != home:
-                raise BadLine(f"the bank is {found.bank}, and the home of address {found.address} is {home}")
+                why = f"the bank is {found.bank}, and the home of address {found.address} is {home}"
+                raise command.No(f"{self.path}, line {line}: {why}")
         except BadLine as why:
             raise command.Refusal(f"{self.path}, line {line}: {why}") from None
         if found is None:
@@ -246,7 +289,7 @@ class Rows:
     def take_text(self, text: bytes, before: int) -> None:
         """Takes the rows of a text, where so many lines stand before it."""
         try:
-            if b'"' in text:
+            if b'"' in text or self.limits.is_hex:
                 self.take_all(text, before)
             else:
                 self.take_plain(text.decode("utf-8"), before)

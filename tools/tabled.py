@@ -10,13 +10,15 @@ import os
 import re
 from itertools import repeat
 from operator import lt
-from typing import Iterable, Iterator, List, Optional, Set, Tuple
+from typing import Iterable, Iterator, List, Optional, Tuple
 
 import command
 import histories
+import literals
 import report
 import table
 from events import COUNTING, Calls
+from operations import MASK
 from progress import Progress
 from report import BadLine
 from table import BILLION
@@ -104,42 +106,51 @@ class Reader:
         """What an operation asks."""
         names, words = self.calls.names, [values] if kind in ("store", "swap") and values else values.split()
         if kind not in report.VALUES or kind in COUNTING or len(words) != report.VALUES[kind]:
-            table.values_of(kind, values.split())
+            table.values_of(kind, values.split(), names.is_hex)
         return " ".join([kind, names.key(address), *map(names.value, words)])
 
-    def reply(self, kind: str, word: str) -> str:
-        """A reply that isn't `fail`."""
-        if kind == "store" or word in ("ok", "") or kind in COUNTING:
-            told = table.reply_of(kind, word)
-            return "ok" if told is None else str(told)
-        return self.calls.names.value(word)
+    def reply(self, kind: str, asked: str, word: str) -> str:
+        """A reply that tells of no failure: of a cas that says that it found what it expected that word."""
+        if kind == "cas" and word.lower() in table.FOUND:
+            return asked.split(" ")[2]
+        if not word or (kind == "store") != (word == "ok"):
+            wanted = f"the reply of a {kind} is `ok`" if kind == "store" else "there is no reply"
+            wanted = f"the reply of {kind} is the word that was there before, and not `ok`" if word == "ok" else wanted
+            raise BadLine(wanted + ("" if word == "ok" else "; where none came, `answered` is empty"))
+        if kind in COUNTING:
+            return str(literals.number(word, 0, MASK, "the reply", self.calls.names.is_hex))
+        return word if kind == "store" else self.calls.names.value(word, "reply")
 
     def take(self, line: int, fields: List[str]) -> None:
         """Takes a row, field by field."""
         table.refuse_count(len(fields), len(self.columns))
         said = dict(zip(self.columns, fields))
-        kind, calls = said["operation"], self.calls
+        kind, calls, word = said["operation"], self.calls, said["reply"]
+        calls.names.line = line
         if not said["processor"]:
             raise BadLine("there is no processor")
         asked, issued = self.asked(kind, said["address"], said["values"]), self.time(said["issued"], "issued")
         is_over = bool(said["answered"])
         answered = self.time(said["answered"], "answered") if is_over else OPEN
-        reply = self.reply(kind, said["reply"]) if is_over and said["reply"] != "fail" else ""
-        if said["reply"] == "fail" and not is_over:
+        is_failed = word == "fail" or kind == "cas" and word.lower() in table.FOUND_ANOTHER
+        reply = self.reply(kind, asked, word) if is_over and not is_failed else ""
+        if is_failed and not is_over:
             raise BadLine("it failed, and has no time `answered`")
+        if kind == "cas" and word.lower() in ("true", "false") and is_over:
+            calls.yes_or_no = calls.yes_or_no or (line, word)
         if is_over and answered < issued:
             raise BadLine("it is answered before it is issued")
         at = calls.add(said["processor"], asked, line)
         calls.replies[at], calls.answers[at] = reply, line if is_over else 0
         self.issued.append(issued)
         self.answered.append(answered)
-        if is_over and said["reply"] == "fail":
+        if is_failed:
             calls.fail(at, line, False)
 
     def take_text(self, text: str, before: int) -> None:
         """Takes lines without quotes, before which so many lines stand."""
-        rows = self.plain.findall(text)
-        if rows and not self.take_plain(rows, before):
+        rows = [] if self.calls.names.is_hex else self.plain.findall(text)
+        if not rows or not self.take_plain(rows, before):
             for line, row in enumerate(text.split("\n"), before + 1):
                 if row.strip("\r ,\t"):
                     self.take_fields(line, row.split(","))
@@ -208,13 +219,14 @@ def in_order(begins: List[int], ends: List[int], is_strict: bool) -> List[int]:
     return [events[it] for it in sorted(range(len(keys)), key=keys.__getitem__)]
 
 
-def of_table(text: bytes, path: str, is_strict: bool, progress: Progress) -> Calls:
+def of_table(text: bytes, path: str, is_strict: bool, is_hex: bool, progress: Progress) -> Calls:
     """The calls of a table."""
     calls = Calls(path)
+    calls.names.is_hex = is_hex
     rows = table.cut(text, path)
     first, columns = next(rows, (0, []))
     if missing := [it for it in COLUMNS if it not in columns]:
-        raise table.unnamed(path, missing)
+        raise table.unnamed(path, missing, columns, table.COLUMNS)
     reader = Reader(calls, columns, b"." in text)
     if b'"' in text or len(set(columns)) < len(columns):
         for line, fields in rows:
@@ -244,12 +256,14 @@ def times_of(text: bytes, path: str, columns: List[str], calls: Calls, at: int) 
     return said["issued"], said["answered"]
 
 
-def read(text: bytes, path: str, is_strict: bool, progress: Progress) -> Calls:
+def read(text: bytes, path: str, is_strict: bool, progress: Progress, is_hex: bool = False) -> Calls:
     """The calls of a table or of a log, with numbers for what is named."""
     is_map, is_line = histories.is_log(text)
     is_named = text[: text.find(b"\n") % 2**16].count(b",") >= 6
-    is_history = is_map or is_line and not is_named
-    calls = histories.of_log(text, path, is_map, progress) if is_history else of_table(text, path, is_strict, progress)
+    if is_map or is_line and not is_named:
+        calls = histories.of_log(text, path, is_map, is_hex, progress)
+    else:
+        calls = of_table(table.with_commas(text, path), path, is_strict, is_hex, progress)
     calls.settle()
     return calls
 
@@ -265,15 +279,17 @@ def begin_of(path: str) -> bytes:
         return b""
 
 
-def columns_of(begin: bytes) -> Set[str]:
-    """What the first line of a text names, with commas between."""
-    return {it.strip(' "\r') for it in begin.split(b"\n", 1)[0].decode("utf-8-sig", "replace").split(",")}
+def columns_of(begin: bytes) -> List[str]:
+    """What the first line of a text names, with commas, semicolons or tabs between."""
+    head = begin.split(b"\n", 1)[0]
+    mark = table.mark_of(head)[0].decode("ascii")
+    return [it.strip(' "\r') for it in head.decode("utf-8-sig", "replace").split(mark)]
 
 
 def is_calls(path: str) -> bool:
     """Whether a file is a table of calls and replies, or a log."""
     begin = begin_of(path)
-    return any(histories.is_log(begin)) or columns_of(begin).issuperset(COLUMNS)
+    return any(histories.is_log(begin)) or set(COLUMNS) <= set(columns_of(begin))
 
 
 def refuse_other_table(path: str) -> None:
@@ -281,7 +297,7 @@ def refuse_other_table(path: str) -> None:
     columns = columns_of(begin_of(path))
     missing = [it for it in COLUMNS if it not in columns]
     if 0 < len(missing) < len(COLUMNS) - 1:
-        raise table.unnamed(path, missing)
+        raise table.unnamed(path, missing, columns, table.COLUMNS)
 
 
 def refuse_calls(path: str, is_log: bool) -> None:
@@ -291,5 +307,5 @@ def refuse_calls(path: str, is_log: bool) -> None:
     is_map, is_line = histories.is_log(begin)
     if is_map or is_line and len(columns) < len(COLUMNS):
         raise command.Refusal(f"{path} is a log, and needs --trace (--help says more)")
-    if not is_log and columns.issuperset(COLUMNS) and "served" not in columns:
+    if not is_log and set(COLUMNS) <= set(columns) and "served" not in columns:
         raise command.Refusal(f"{path} has no column `served`, and needs --trace (--help says more)")

@@ -70,6 +70,7 @@ class NoOrder(command.Refusal):
     def __init__(self, calls: Calls, trace: Trace, said: Answer) -> None:
         assert said.event is not None
         self.calls, self.trace, self.event, self.reasons, self.is_undecided = calls, trace, said.event, said.reasons, said.is_undecided
+        self.status = 5 if said.is_undecided else 1
         at = ~said.event if said.event < 0 else said.event
         self.is_failed_cas = at in calls.failed
         shown = trace.shown(said.event)
@@ -83,7 +84,7 @@ def refused(calls: Calls, trace: Trace, said: Answer, wants_story: bool) -> NoOr
     """The same, with the story where it is wanted."""
     why = NoOrder(calls, trace, said)
     if wants_story and not said.is_undecided:
-        why.lines = story.told(calls, trace, why.event, said.reasons, why.is_failed_cas)
+        why.story = why.lines = story.told(calls, trace, why.event, said.reasons, why.is_failed_cas)
     return why
 
 
