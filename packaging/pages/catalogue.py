@@ -18,6 +18,7 @@ HEAD_OF_TYPE = re.compile(r"pub (struct|enum|trait|union) (\w+)")
 RUST_USE = re.compile(r"^\s*(?:pub )?use (\w+)::(?:.*?::)?(?:\{(.*)\}|(\w+));")
 OWN = r" \(this project's own format\)|; this project's own format"  # what most comments end with
 FIELD = re.compile(r"(?m)^\s+pub (\w+)\s*:")
+CASE = re.compile(r"(?m)^\s+(\w+) :")  # a constructor of a type of definitions
 
 
 @dataclass
@@ -112,6 +113,9 @@ class Catalogue:
             self.by_definition[item.crate, item.inside, item.name] = item
             for name in FIELD.findall(item.text):
                 self.fields.setdefault(name, []).append(item)
+            if re.search(r"(?m)^\s*(?:pub )?data ", item.text):
+                for name in CASE.findall(item.text):
+                    self.by_definition.setdefault((item.crate, item.inside, name), item)
         elif item.kind == "type":
             self.types.setdefault((item.crate, item.name), item)
         return item
@@ -162,9 +166,10 @@ class Catalogue:
         while name not in seen:
             seen.add(name)
             if name.module.startswith("declared/"):
-                parts = name.module.split("/")
-                return self.types.get((name.crate, parts[-2] if parts[-1] == "TheVariants" else parts[-1]))
-            item = self.by_definition.get((name.crate, name.module, name.name))
+                parts = [it for it in name.module.split("/") if it not in ("TheVariants", "TheInside")]
+                return self.types.get((name.crate, parts[-1]))
+            above, _, last = name.module.rpartition("/")
+            item = self.by_definition.get((name.crate, name.module, name.name)) or self.by_definition.get((name.crate, above, last))
             if item:
                 return item
             here = self.modules.get(name.crate, {}).get(name.module)
@@ -183,7 +188,7 @@ class Catalogue:
             return self.of_definition(Name(*here.aliases[base], rest.split(".")[0])), ""
         if base in here.imports:
             return self.of_definition(here.imports[base]), ""
-        if base in here.texts:
+        if base in here.texts or (item.crate, item.inside, base) in self.by_definition:
             return self.by_definition.get((item.crate, item.inside, base)), ""
         if base in here.library:
             return None, here.library[base]

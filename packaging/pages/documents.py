@@ -73,7 +73,7 @@ class Document:
         """A word in backticks: a link, where it names something that the site has."""
         if row != self.row:
             self.row, self.named = row, []
-        url = self.clause(word, row, at) or self.place(word, row, at)
+        url = self.clause(word, row) if CLAUSES.search(row[:at]) else self.place(word, row, at)
         shown = f"<code>{escape(word, quote=False)}</code>"
         return f'<a href="{escape(way(self.page, url))}">{shown}</a>' if url else shown
 
@@ -96,12 +96,11 @@ class Document:
         """Whether a plain word may be a name here, and isn't one of a format."""
         return self.path in INSIDE or bool(re.search(r"[A-Z_:]", word))
 
-    def clause(self, word: str, row: str, at: int) -> str:
-        """The place of a clause, by the contracts that were named before it."""
-        if not CLAUSES.search(row[:at]):
-            return ""
-        for item in reversed(self.named):
-            if item.contract and any(name.split()[-1] == word for name, _ in item.contract.clauses):
+    def clause(self, word: str, row: str) -> str:
+        """The place of a clause: of the contract that was named last and has it, else of the first one in the crates of the row."""
+        beside = [it for crate in re.findall(r"`(\w+)`", row) if crate in self.catalogue.rooms for it in self.catalogue.rooms[crate].items()]
+        for item in [*reversed(self.named), *beside]:
+            if item.contract and item.kind != "impl" and any(name.split()[-1] == word for name, _ in item.contract.clauses):
                 return f"{item.url}.{word}"
         return ""
 

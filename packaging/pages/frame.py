@@ -28,9 +28,9 @@ h1, h2, h3, h4 { line-height: 1.25; scroll-margin-top: 3.2em } h2 { margin-top: 
 a { color: #0550ae; text-decoration: none } a:hover { text-decoration: underline }
 p a, li a, td a { text-decoration: underline; text-decoration-color: #0550ae55 }
 code, pre { font: 13.5px/1.5 "DejaVu Sans Mono", Menlo, Consolas, monospace }
-:not(pre) > code { background: #f3f4f6; padding: 0 .2em; border-radius: 3px }
+h1 code, h2 code, h3 code { font-size: .92em } :not(pre) > code { background: #f3f4f6; padding: 0 .2em; border-radius: 3px }
 pre { background: #f6f8fa; border: 1px solid #d8dee4; border-radius: 5px; padding: .7em .9em; overflow-x: auto }
-pre.code { white-space: pre-wrap; word-break: break-word; padding-left: 2.4em; text-indent: -1.5em }
+pre.code { white-space: pre-wrap; word-break: break-word }
 pre .c { color: #5b6570 } a.l { color: #6e4506 } a.f { color: #1a6b3c }
 table { border-collapse: collapse; margin: 1em 0; display: block; overflow-x: auto }
 td, th { border: 1px solid #d0d7de; padding: .3em .6em; text-align: left; vertical-align: top } th:empty { padding: 0 }

@@ -16,7 +16,8 @@ WORD = re.compile(r"[^\W\d][\w']*\??(?:\.[^\W\d][\w']*)*")
 COMMENT = re.compile(r"\s*(--|///|//)")
 TAIL = re.compile(r"(.*?)(\s(?:--|//).*)?$")
 CLAUSE = re.compile(r"\s*(?:requires|ensures)\*? (?:(\w+) )?\{|\s*ghost (\w+) = \{")
-KEYWORDS = set("""abbrev pub record data unfoldable where let in module public field forall fn mut const unsafe extern impl for trait
+NAMED = re.compile(r"(?:\bfn|\bensures\*?|\brequires\*?|\bghost) $")  # what stands behind it is a name of its own
+KEYWORDS = set("""λ abbrev pub record data unfoldable where let in module public field forall fn mut const unsafe extern impl for trait
     struct enum requires ensures ghost self result now old new u8 u32 u64 usize bool Self dyn use if then else as Type""".split())
 Target = Callable[[Item], str]
 
@@ -43,20 +44,24 @@ class Linker:
         self.target = target or (lambda item: way(page, item.url))
         self.named: "OrderedDict[str, Item]" = OrderedDict()
         self.loose: List[Tuple[str, str]] = []
+        self.clauses: Set[str] = set()
 
-    def word(self, item: Item, word: str, locals_: Set[str], after: str) -> str:
-        """A word with the parts behind its points."""
+    def word(self, item: Item, word: str, locals_: Set[str], before: str) -> str:
+        """A word with the parts behind its points, by the code before it."""
         base, point, rest = word.partition(".")
         shown = escape(base)
-        if after == ".":  # a field of what stands before
+        if before.endswith("."):  # a field of what stands before
             shown = self.field(item, base)
+        elif NAMED.search(before):
+            pass
         elif base not in locals_ or base in item.text.split("\n")[0] and base == item.name:
             found, library = self.catalogue.of_word(item, word)
             if found and base in (item.module.aliases if item.module else {}):
                 base, point, rest = word, "", ""
                 shown = escape(word)
             if found and found is not item:
-                self.named[found.url] = found
+                if is_imported(item, word.partition(".")[0]):
+                    self.named[found.url] = found
                 shown = self.link(found, shown)
             elif library:
                 shown = f'<a class="l" href="{way(self.page, library_url(library))}" title="{escape(library)}">{shown}</a>'
@@ -84,10 +89,17 @@ class Linker:
         made, at = "", 0
         for found in WORD.finditer(code):
             made += escape(code[at:found.start()])
-            before = code[found.start() - 1:found.start()]
-            made += self.word(item, found[0], locals_, before)
+            made += self.word(item, found[0], locals_, code[:found.start()])
             at = found.end()
         return made + escape(code[at:]) + (f'<span class="c">{escape(comment)}</span>' if comment else "")
+
+    def clause_anchor(self, item: Item, name: str) -> str:
+        """The place of a clause; where two have one name, that of the second ends with another mark."""
+        anchor = f"{item.anchor}.{name}"
+        while anchor in self.clauses:
+            anchor += "'"
+        self.clauses.add(anchor)
+        return anchor
 
     def code(self, item: Item, anchors: bool = True) -> str:
         """The text of an item as a block; its clauses have anchors."""
@@ -96,9 +108,15 @@ class Linker:
             made = self.row(item, row, locals_)
             clause = CLAUSE.match(row) if item.contract and anchors else None
             if clause:
-                made = f'<span id="{escape(item.anchor)}.{clause[1] or clause[2] or "clause"}">{made}</span>'
+                made = f'<span id="{escape(self.clause_anchor(item, clause[1] or clause[2] or row.split()[0].rstrip("*")))}">{made}</span>'
             rows.append(made)
         return '<pre class="code">' + "\n".join(rows) + "</pre>"
+
+
+def is_imported(item: Item, base: str) -> bool:
+    """Whether a word is a definition by the file's own account, and not only a type of Rust."""
+    here = item.module
+    return here is not None and (base in here.imports or base in here.aliases or not item.path.endswith(".rt"))
 
 
 def bound(text: str) -> Set[str]:

@@ -8,10 +8,10 @@ import json
 import os
 import re
 from html import escape
-from typing import Dict, List, Tuple
+from typing import List, Tuple
 
-from catalogue import Catalogue, slug
-from documents import Document, commands, documents, page_of, read, rows_of_table
+from catalogue import Catalogue
+from documents import Document, commands, documents, read, rows_of_table
 from frame import framed
 from linked_code import way
 from rooms import crate_page, floor_page, heading, house_page, library_page
@@ -108,7 +108,6 @@ class Site:
         """The files that name each command, and each neighbour that CONTRIBUTING.md names."""
         asked = list(dict.fromkeys([*ASKED.findall(read("CONTRIBUTING.md")), *commands()]))
         words, page = Words(), "files.html"
-        place = lambda name: way(page, page_of("CONTRIBUTING.md")) + f"#{name}"
         made = ["<h1>How to add something</h1>", '<p><a href="CONTRIBUTING.html">CONTRIBUTING</a> says how to add an operation, a command, a model, '
                 "a topology or a check. Below stand, for a neighbour of each, the files of the repository that name it (edits of proofs and "
                 "pictures apart), as <code>tools/reading --where NAME</code> prints them.</p>",
@@ -118,7 +117,8 @@ class Site:
             self.rows.append(row(it, "files that name it", f"{page}#{it.lower()}", summary(paths)))
             rows = [f"<tr><td><code>{folder}</code></td><td>{' '.join(self.file_link(page, path, folder) for path in files)}</td></tr>"
                     for folder, files in by_folder(paths).items()]
-            made.append(f'<h2 id="{it.lower()}"><code>{it}</code></h2><p>{escape(summary(paths))}.</p><table>{"".join(rows)}</table>')
+            note = " It is an ordinary word too, so that not each of them has to do with it." if len(paths) > 150 else ""
+            made.append(f'<h2 id="{it.lower()}"><code>{it}</code></h2><p>{escape(summary(paths))}.{note}</p><table>{"".join(rows)}</table>')
         self.put(page, framed(page, "How to add something", "\n".join(made)))
 
     def file_link(self, page: str, path: str, folder: str) -> str:
