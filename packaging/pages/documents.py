@@ -18,9 +18,10 @@ from markdown import Markdown, anchor
 from sources import ROOT
 
 # Pages about the inside, where a plain small word in backticks may be a crate or a function; in others it is a word of a format.
-INSIDE = {"README.md", "CONTRIBUTING.md", "docs/PROVED.md", "docs/ARCHITECTURE.md", "docs/DECISIONS.md", "docs/DEFINITIONS.md", "docs/THEOREM.md"}
+INSIDE = {"docs/PROVED.md", "docs/ARCHITECTURE.md", "docs/DECISIONS.md", "docs/DEFINITIONS.md", "docs/THEOREM.md"}
 FIRST = ("law", "function", "definition", "type")
 CLAUSES = re.compile(r"clauses? (?:(?:on|about) \S+ )?(?:`\w+`(?:, | and | or ))*$")
+OWNER = re.compile(r"`(?:(?:,|,? and| or)(?: the)?(?: laws?)? `[^`]+`)* of `(\w+)`")  # behind a name: `judge` of `network_judge`
 PATH = re.compile(r"[\w.*-]+(/[\w.*-]+)+/?|[\w-]+\.(?:rt|antt|md)")
 
 
@@ -106,9 +107,14 @@ class Document:
 
     def item(self, word: str, row: str, at: int) -> Optional[Item]:
         """What a name means: of the crates that the row names the nearest one that has it, else of the heading's, or the only one."""
+        owner = OWNER.match(row[at + len(word) + 1:])
         word = word[:-2] if word.endswith("()") else word
         found = [it for it in self.catalogue.by_name.get(word, []) if it.kind in FIRST]
-        if not found or not self.may_be_small(word):
+        if owner and owner[1] in self.catalogue.rooms:
+            found = [it for it in found if it.crate == owner[1]]
+        elif not self.may_be_small(word):
+            return None
+        if not found:
             return None
         near = {it[1]: abs(it.start() - at) for it in reversed(list(re.finditer(r"`(\w+)(?:::\w+)*`", row))) if it[1] in self.catalogue.rooms}
         heading = self.markdown.headings[-1][1] if self.markdown.headings else ""
