@@ -9,12 +9,12 @@ import posixpath
 import re
 import shutil
 from html import escape
-from typing import Dict, List, Optional, Set, Tuple
+from typing import List, Optional, Set, Tuple
 
 from catalogue import Catalogue, Item
 from frame import framed
 from linked_code import way
-from markdown import Markdown, anchor
+from markdown import Markdown
 from sources import ROOT
 
 # Pages about the inside, where a plain small word in backticks may be a crate or a function; in others it is a word of a format.
@@ -82,7 +82,7 @@ class Document:
         """The place that a word names; empty where it names none."""
         asked = re.fullmatch(r"tools/reading --where ([\w-]+)", word)
         if asked:
-            return f"files.html#{asked[1].lower()}"
+            return f"files.html#{asked[1].lower()}" if asked[1] in neighbours() else ""
         asked = re.fullmatch(r"tools/reading (\w+::\S+)", word)
         if PATH.fullmatch(word):
             return self.file(word.rstrip("/"), row)
@@ -170,6 +170,6 @@ def commands() -> List[str]:
     return list(dict.fromkeys(it for first, _ in rows_of_table("README.md", "Commands") for it in re.findall(r"`([a-z]+)\b", first)))
 
 
-def anchors_of(path: str) -> Dict[str, str]:
-    """The headings of a page, and their anchors."""
-    return {it.lstrip("#").strip(): anchor(it.lstrip("#").strip().replace("`", "")) for it in read(path).split("\n") if re.match(r"#+ ", it)}
+def neighbours() -> List[str]:
+    """The words whose files the site lists: the neighbours that CONTRIBUTING.md names, and the commands."""
+    return list(dict.fromkeys([*re.findall(r"`tools/reading --where ([\w-]+)`", read("CONTRIBUTING.md")), *commands()]))

@@ -39,6 +39,7 @@ class Tree:
         self.catalogue, self.page = catalogue, page
         self.roots = [it for name in items for it in catalogue.by_name.get(name, [])[:1]]
         self.below: Dict[str, List[Item]] = {}
+        self.anchors: Dict[str, str] = {}
         seen, queue = {it.url for it in self.roots}, list(self.roots)
         while queue:
             one = queue.pop(0)
@@ -50,10 +51,12 @@ class Tree:
             queue += fresh
         self.linker = Linker(catalogue, page, lambda it: f"#{quote(self.anchor(it))}" if it.url in self.below else way(page, it.url))
 
-    @staticmethod
-    def anchor(item: Item) -> str:
-        """The item's anchor on this page."""
-        return f"{item.crate}::{item.name}" if item.kind != "type" else f"{item.crate}::type.{item.name}"
+    def anchor(self, item: Item) -> str:
+        """The item's anchor on this page; of two of one name the second has its module too."""
+        name = f"type.{item.name}" if item.kind == "type" else item.name
+        if self.anchors.setdefault(f"{item.crate}::{name}", item.url) != item.url:
+            name = f"{item.inside}.{name}"
+        return f"{item.crate}::{name}"
 
     def block(self, item: Item) -> str:
         """An item's text, and below it those that it names first."""

@@ -11,7 +11,7 @@ from html import escape
 from typing import List, Tuple
 
 from catalogue import Catalogue
-from documents import Document, commands, documents, read, rows_of_table
+from documents import Document, documents, neighbours, read, rows_of_table
 from frame import framed
 from linked_code import way
 from rooms import crate_page, floor_page, heading, house_page, library_page
@@ -23,7 +23,6 @@ KINDS = ["crate", "law", "function", "definition", "type", "word of the glossary
          "impl of a trait", "page", "floor"]
 CALLED = {"impl": "impl of a trait"}
 Row = Tuple[str, int, str, str]
-ASKED = re.compile(r"`tools/reading --where ([\w-]+)`")
 
 
 def row(name: str, kind: str, url: str, said: str = "") -> Row:
@@ -106,8 +105,7 @@ class Site:
 
     def files(self) -> None:
         """The files that name each command, and each neighbour that CONTRIBUTING.md names."""
-        asked = list(dict.fromkeys([*ASKED.findall(read("CONTRIBUTING.md")), *commands()]))
-        words, page = Words(), "files.html"
+        asked, words, page = neighbours(), Words(), "files.html"
         made = ["<h1>How to add something</h1>", '<p><a href="CONTRIBUTING.html">CONTRIBUTING</a> says how to add an operation, a command, a model, '
                 "a topology or a check. Below stand, for a neighbour of each, the files of the repository that name it (edits of proofs and "
                 "pictures apart), as <code>tools/reading --where NAME</code> prints them.</p>",
