@@ -6,6 +6,8 @@
 #     make dist          an archive for computers without the toolchain, in out/dist
 #     make deb           three packages of Debian, in out/dist
 #     make wheel         a wheel for Python with the library in it, in out/dist
+#     make site          pages to read all of it by: contracts, definitions, the theorem unfolded, in out/site. It
+#                        needs Python alone
 #
 # CC, CFLAGS, LDFLAGS and AR make the libraries. ./torusmem --library proves and builds the library, and any command
 # that makes threads the program: ./torusmem run examples/machine.txt examples/script.txt
@@ -22,12 +24,12 @@ export CFLAGS
 endif
 export LDFLAGS
 
-.PHONY: help install install-lib uninstall dist deb wheel
+.PHONY: help install install-lib uninstall dist deb wheel site
 help:
 	@sed -n 's/^# \?//p' Makefile
 
 install install-lib uninstall:
 	@packaging/install $@
 
-dist deb wheel:
+dist deb wheel site:
 	@packaging/$@

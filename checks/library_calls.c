@@ -263,7 +263,7 @@ static void operations_that_are_asked(torusmem_machine *m) {
   MUST(!m->full && live == 0);
 }
 
-/* Of two tiles, eight words, channels of four flits: see docs/NETWORK-FORMATS.md. */
+/* Of two tiles, eight words, channels of four flits: see docs/FLITS-AND-PORTS.md. */
 static void what_is_not_there(torusmem_machine *m) {
   torusmem_channel route[14];
   torusmem_attempt none[] = { { 0, TORUSMEM_SEND, 0 }, { 6, TORUSMEM_SEND, 0 }, { 0, UINT32_MAX, 0 } };

@@ -5,7 +5,7 @@ import sys
 
 from tree import ROOT, read
 
-PRINTED = {"docs/CONTRACTS.md": "--contracts", "docs/WORDS.md": "--words"}  # whole pages, and by which flag of tools/reading
+PRINTED = {"docs/pictures/floors.svg": "--floors"}  # whole files, and by which flag of tools/reading
 THEOREM, ARCHITECTURE = "docs/THEOREM.md", "docs/ARCHITECTURE.md"  # the end of the first is printed, behind a line that names the call
 TABLE = ("<!-- crates: printed by tools/reading --crates -->", "<!-- end -->")  # around the table of crates in the second
 

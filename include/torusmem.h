@@ -255,7 +255,7 @@ void torusmem_free(torusmem_machine *m);
 /* Attempts one choice of one agent: at most one operation on one word of the machine's row.
    OK, value 1: it was enabled and is made. OK, value 0: it was not enabled, and nothing has changed. NONE: there is no
    such agent, the agent has no such choice, or its router no such input or output; nothing has changed. EMPTY.
-   number: that of the router's input for TAKE_FROM and PUT, of its output for CREDIT_OF (docs/NETWORK-FORMATS.md, "Channels
+   number: that of the router's input for TAKE_FROM and PUT, of its output for CREDIT_OF (docs/FLITS-AND-PORTS.md, "Channels
    and ports"); not looked at for other choices. */
 torusmem_outcome torusmem_step(torusmem_machine *m, uint32_t agent, uint32_t choice, uint32_t number);
 
@@ -470,7 +470,7 @@ typedef struct torusmem_channel {
 torusmem_outcome torusmem_route(torusmem_machine *m, uint32_t src, uint32_t dst, uint32_t reply,
                                 torusmem_channel *out, size_t out_length) TORUSMEM_RESULT;
 
-/* The way on of a packet for tile dst that came to tile at by this input of its router (docs/NETWORK-FORMATS.md, "Channels and
+/* The way on of a packet for tile dst that came to tile at by this input of its router (docs/FLITS-AND-PORTS.md, "Channels and
    ports"). OK, value: the number of the router's output; NONE: no such tile or input; EMPTY. */
 torusmem_outcome torusmem_next(torusmem_machine *m, uint32_t at, uint32_t input, uint32_t dst) TORUSMEM_RESULT;
 

@@ -1,4 +1,4 @@
-"""The agents of a machine in plain Python, after the tables of docs/NETWORK-FORMATS.md: routers, banks and processors."""
+"""The agents of a machine in plain Python, after the tables of docs/FLITS-AND-PORTS.md: routers, banks and processors."""
 from __future__ import annotations
 
 from collections import deque

@@ -103,6 +103,7 @@ def contracts_in(file: str) -> list[Contract]:
         block = owner_of(row) if row and not row[0].isspace() else None
         if block:
             (owner, head, is_trait), members = block, None
+            owner = "" if row.endswith("{}") else owner
         elif row == "}":
             owner, is_trait = "", False
         member = MEMBER.match(row) if owner else None

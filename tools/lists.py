@@ -23,17 +23,17 @@ begins with `requires` is what a caller must see to; one with `ensures` is what 
 function that does nothing, whose contract states a theorem. Of an `impl` of a trait the page shows the members that say
 what the trait's functions do there. "No clause" means that of the function only this is proved: it is safe and ends.
 
-{link("WORDS")} has each definition that a clause names, and `tools/reading NAME` prints a contract with all definitions
+`tools/reading --words` prints each definition that a clause names, and `tools/reading NAME` a contract with all definitions
 behind it. {link("PROVED")} says what of all this is proved, what is only tested, and what is not covered.
 
-`tools/reading --contracts` prints this page from the sources; `checks/documents` compares."""
+`tools/reading --contracts` prints this page from the sources; `make site` prints them as pages whose words are links."""
 WORDS_HEAD = f"""# The words
 
 Each public definition that contracts stand on, by floor and crate, with the comment above it and its file.
 {link("DEFINITIONS")} explains the terms of the field and names their sources; `tools/reading CRATE::NAME` prints a
 definition with all that stand behind it.
 
-`tools/reading --words` prints this page from the sources; `checks/documents` compares."""
+`tools/reading --words` prints this page from the sources; `make site` prints them as pages whose words are links."""
 OWN = r" \(this project's own format\)|; this project's own format"  # what most comments end with
 PUBLIC = r"(?m)^\s*(?:pub record|pub data|abbrev pub|unfoldable pub) {}(?=[\s:{{(]|$)"
 

@@ -1,4 +1,4 @@
-"""Replays a schedule on a machine in plain Python, flit by flit, after the tables of docs/NETWORK-FORMATS.md.
+"""Replays a schedule on a machine in plain Python, flit by flit, after the tables of docs/FLITS-AND-PORTS.md.
 
 It reads texts that `torusmem steps` has accepted, and its events are compared with those of the report that
 `torusmem steps` prints of the same texts. So what a tool prints of channels holds for the proved run. The machine and its

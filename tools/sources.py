@@ -162,7 +162,7 @@ def module(crate: str, path: str) -> Module | None:
     here = MODULES[key] = Module(os.path.relpath(file, os.path.dirname(CRATES)))
     rows = lines_of(file)
     read_imports(here, rows)
-    start, comment, inside = None, None, ""
+    start, comment, inside, depth = None, None, "", 0
     for at, row in enumerate([*rows, ""]):
         head = HEAD.match(row)
         if row.startswith("module _"):
@@ -171,7 +171,8 @@ def module(crate: str, path: str) -> Module | None:
             inside = inside if head and head[1] else ""
         if row.strip().startswith("--") and start is None:
             comment = at if comment is None else comment
-        elif head:
+        elif head and not (start and len(head[1]) > depth):  # deeper, `record r { .. }` is a value of what is defined
+            depth = len(head[1])
             start = (head[2], at if comment is None else comment, inside if head[1] else "")
         elif not row.strip():
             if start:

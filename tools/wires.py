@@ -91,7 +91,7 @@ class Wire:
 
 
 def wires(shape: Shape) -> list[Wire]:
-    """All channels, in channel order (docs/NETWORK-FORMATS.md, Channels and ports)."""
+    """All channels, in channel order (docs/FLITS-AND-PORTS.md, Channels and ports)."""
     made = []
     for tile in range(shape.tiles):
         for place in range(8 * shape.dims):

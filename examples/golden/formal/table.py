@@ -5,7 +5,7 @@
     table.py verilog .. --tile 1                         # the same for one tile alone
     table.py verilog .. --wrapped                        # and a module `router` around it, for ../cosim/run --router
     table.py routes --shape 4 --datelines 3              # the output for each tile, input and destination
-    table.py page                                        # compares the words of table.txt with docs/NETWORK-FORMATS.md
+    table.py page                                        # compares the words of table.txt with docs/FLITS-AND-PORTS.md
 
 The module has the ports and registers of ../cosim/router.v, so that the two can be stepped side by side, and compared
 register by register. Its routes are a list, taken from the model in plain Python (wrappers/python/tests/model.py). Its
@@ -191,7 +191,7 @@ def verilog(table, shape, depth, tiles):
 
 
 def page(table, path):
-    """The lines of docs/NETWORK-FORMATS.md that are missing: rows of the table, or of the bits of a flit."""
+    """The lines of docs/FLITS-AND-PORTS.md that are missing: rows of the table, or of the bits of a flit."""
     with open(path, encoding="utf-8") as file:
         lines = file.read().split("\n")
     wanted = [f"| `{it['choice']}` | {it['does']} | {it['idle']} | {it['word']} |" for it in table.choices]
@@ -242,9 +242,9 @@ def main():
     given = made.parse_args()
     table = Table()
     if given.what == "page":
-        missing = page(table, os.path.join(ROOT, "docs", "NETWORK-FORMATS.md"))
+        missing = page(table, os.path.join(ROOT, "docs", "FLITS-AND-PORTS.md"))
         for line in missing:
-            print(f"docs/NETWORK-FORMATS.md has no line {line}")
+            print(f"docs/FLITS-AND-PORTS.md has no line {line}")
         return 1 if missing else 0
     shape, tiles = shape_of(made, given)
     if given.what == "routes":

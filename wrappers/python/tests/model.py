@@ -1,4 +1,4 @@
-"""A machine in plain Python, written after the tables of docs/NETWORK-FORMATS.md, to be stepped beside the library's.
+"""A machine in plain Python, written after the tables of docs/FLITS-AND-PORTS.md, to be stepped beside the library's.
 
 It is as slow and as plain as can be: lists, and a method for each row of the tables. It reads texts without faults.
 """

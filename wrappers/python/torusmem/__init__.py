@@ -12,7 +12,7 @@ A Machine is made of a machine text and a scripts text, then stepped, looked at 
     ...     torusmem.check(machine.report())
     True 12 17 17
 
-docs/FORMATS.md has the texts and reports, docs/NETWORK-FORMATS.md the channels and choices.
+docs/FORMATS.md has the texts and reports, docs/FLITS-AND-PORTS.md the channels and choices.
 
 Tile t has the agents 3t (its processor), 3t + 1 (its router) and 3t + 2 (its bank). What refuses a text or a report is an exception with the file, the line and
 the reason: TextFault, BadReport.

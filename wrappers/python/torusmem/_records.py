@@ -169,7 +169,7 @@ class Channel(NamedTuple):
 
 
 class Line(NamedTuple):
-    """A channel of the machine: its tile, its place among the channels there (docs/NETWORK-FORMATS.md, "Channels and ports"),
+    """A channel of the machine: its tile, its place among the channels there (docs/FLITS-AND-PORTS.md, "Channels and ports"),
     and the words at its places now: flits, and 0 where none is."""
 
     tile: int

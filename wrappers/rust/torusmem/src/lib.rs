@@ -1,7 +1,7 @@
 //! torusmem from Rust: a shared memory over a wormhole torus, proved to behave like one sequential memory.
 //!
 //! A [`Machine`] is made from a machine text and a script text, then stepped, looked at, and dropped. Texts, agents,
-//! choices, ports and reports are those of docs/FORMATS.md and docs/NETWORK-FORMATS.md.
+//! choices, ports and reports are those of docs/FORMATS.md and docs/FLITS-AND-PORTS.md.
 //!
 //! ```
 //! use torusmem::{check, Choice, Machine};
