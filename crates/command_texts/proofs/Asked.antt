@@ -14,7 +14,7 @@ use Rattle.machine_report.specs.Report.{machine_report}
 use Rattle.program_fault.specs.declared.fault.ProgramFault.{ProgramFault}
 use Rattle.program_fault.specs.declared.fault.ProgramFault.TheVariants as program
 use Rattle.program_fault.specs.Done.{Does, Output}
-use Rattle.command_texts.specs.Run.{Asked, HasRun, IsRunOfMachine, IsRunText, asked_of}
+use Rattle.command_texts.specs.Run.{AskedRun, HasRun, IsRunOfMachine, IsRunText, asked_of}
 
 -- all three are read
 pub all_read : (a b c : List (List ℕ)) (m : MachineSpec) (s : ScriptsSpec) (list : List Step) → machine_of a ≡ Ok m → scripts_of m b ≡ Ok s
@@ -23,7 +23,7 @@ pub all_read : (a b c : List (List ℕ)) (m : MachineSpec) (s : ScriptsSpec) (li
 all_read a b c m s list read scripts steps = rw (read, scripts, steps) refl
 
 -- the report of a machine that has made the steps is the report of the run
-pub run_printed : (asked : Result Asked LineFault) (c : Core) (finished : Bool) (text : List ℕ) → HasRun asked c → IsRunOfMachine c finished text
+pub run_printed : (asked : Result AskedRun LineFault) (c : Core) (finished : Bool) (text : List ℕ) → HasRun asked c → IsRunOfMachine c finished text
     → IsRunText asked finished text
 run_printed asked c finished text ran printed = record {
   run = ran.run;

@@ -11,7 +11,7 @@ use Rattle.program_fault.specs.declared.fault.ProgramFault.{ProgramFault}
 use Rattle.program_fault.specs.declared.fault.ProgramFault.TheVariants as program
 use Rattle.program_fault.specs.Done.{Does, Output}
 use Rattle.program_fault.specs.Outcome.{IsReadFault}
-use Rattle.command_texts.specs.Run.{Asked, HasMoved, IsNoFault}
+use Rattle.command_texts.specs.Run.{AskedRun, HasMoved, IsNoFault}
 use Rattle.command_texts.specs.Calls.{Call, Ended, Hears}
 use Rattle.command_texts.specs.Telling.{AreCallsOfCommand, AreRoundsCalls, AreRunCalls, AreStepsCalls, HearsSome, TellsCommand, TellsRounds, TellsSteps, answered_after, answered_by, round_calls}
 
@@ -87,7 +87,7 @@ run_told clocked asked most moves start loaded old mid new rounds made ended giv
     told_all (AreRunCalls clocked asked most) old new all gives before behind r done
 
 -- the end of a list of steps, where the report was written, or the output or memory for it failed
-pub steps_told : (asked : Result Asked LineFault) (moves : ℕ) (moved : HasMoved asked moves) (old new : List Call → Type 0)
+pub steps_told : (asked : Result AskedRun LineFault) (moves : ℕ) (moved : HasMoved asked moves) (old new : List Call → Type 0)
     → Hears old new (Ended moves ∷ [])
     → (gives : Bool → List ℕ → Type 0) (before behind : Output) (r : Result Bool ProgramFault) → Does gives IsNoFault before behind r
     → TellsSteps asked old new r

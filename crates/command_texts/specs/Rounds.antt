@@ -8,10 +8,10 @@ use Rattle.machine_core.specs.Fewest.{AreFewestFrom, rounds_from}
 use Rattle.program_fault.specs.declared.fault.ProgramFault.{ProgramFault}
 use Rattle.program_fault.specs.Done.{Does, Output}
 use Rattle.program_fault.specs.Outcome.{IsTextsFault}
-use Rattle.command_texts.specs.Run.{Asked, IsRunText}
+use Rattle.command_texts.specs.Run.{AskedRun, IsRunText}
 
 -- a load that is to make so many rounds, clocked or in order
-abbrev pub asked_rounds : Bool → Load → ℕ → Asked
+abbrev pub asked_rounds : Bool → Load → ℕ → AskedRun
 asked_rounds clocked l k = record { load = l; steps = rounds_from clocked l k }
 
 -- a machine has made the fewest rounds, clocked or in order, that finish every script, at most so

@@ -10,7 +10,7 @@ use Rattle.core_laws.specs.Machine.{Core, shown}
 use Rattle.program_fault.specs.declared.fault.ProgramFault.{ProgramFault}
 use Rattle.program_fault.specs.declared.fault.ProgramFault.TheVariants as program
 use Rattle.command_texts.specs.Calls.{Call, Wants, Made, Ended, Hears}
-use Rattle.command_texts.specs.Run.{Asked, HasMoved, core_of}
+use Rattle.command_texts.specs.Run.{AskedRun, HasMoved, core_of}
 use Rattle.machine_core.specs.Fewest.{AreFewestFrom, rounds_from}
 use Rattle.command_texts.specs.Rounds.{asked_rounds}
 
@@ -53,7 +53,7 @@ pub record AreRunCalls (clocked : Bool) (asked : Result Load LineFault) (most : 
 
 -- these are all calls of the run of the steps that were asked for: the end, once, with how many of
 -- them moved
-pub record AreStepsCalls (asked : Result Asked LineFault) (calls : List Call) : Type 0 where
+pub record AreStepsCalls (asked : Result AskedRun LineFault) (calls : List Call) : Type 0 where
   pub moves : ℕ
   pub moved : HasMoved asked moves
   pub ended : calls ≡ Ended moves ∷ []
@@ -83,6 +83,6 @@ abbrev pub TellsRounds : Bool → Result Load LineFault → ℕ → (List Call �
 TellsRounds clocked asked most = TellsCommand (AreRunCalls clocked asked most)
 
 -- a watcher of a run of steps is called at its end
-abbrev pub TellsSteps : Result Asked LineFault → (List Call → Type 0) → (List Call → Type 0)
+abbrev pub TellsSteps : Result AskedRun LineFault → (List Call → Type 0) → (List Call → Type 0)
     → Result Bool ProgramFault → Type 0
 TellsSteps asked = TellsCommand (AreStepsCalls asked)
