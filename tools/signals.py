@@ -78,7 +78,8 @@ def port(dump: dumped.Dump, name: str, processor: int) -> Port:
     width = int(share) if share.isdigit() else signal.width
     low = processor * width if share else 0
     if share and not share.isdigit() or low + width > signal.width or not width:
-        raise command.Refusal(f"{dump.path}: {name}: {base} has {signal.width} bits, and processor {processor} has none of it there")
+        raise command.Refusal(f"{dump.path}: {name}: {base} has {signal.width} bits, and processor {processor} has none of it "
+                              "there")
     return Port(signal, low + width - 1, low)
 
 
@@ -114,7 +115,8 @@ class Reader:
         it = self.ports[processor][key]
         found = it.value(bits)
         if found < 0:
-            raise command.Refusal(f"{self.dump.path}, time {time}: {it.signal.name}, the {key} of processor {processor}, is not known")
+            said = f"{it.signal.name}, the {key} of processor {processor}, is not known"
+            raise command.Refusal(f"{self.dump.path}, time {time}: {said}")
         return found
 
     def issue(self, p: int, bits: Dict[bytes, bytes], time: int) -> Tuple[int, Operation]:

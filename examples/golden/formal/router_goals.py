@@ -46,9 +46,10 @@ class Top:
 
 def goals_of(top, given):
     """What isn't so, as terms of Verilog, by goal."""
-    shape = table.Shape(given.shape, given.datelines)
+    shape, out_put = table.Shape(given.shape, given.datelines), top.wires["out_put"]
     ports, bad = range(shape.ports), {it: [] for it in GOALS}
-    own = {(i, o): f"({top.held(i, 'owns')} && {top.held(i, 'owned')} == {o})" for i in ports for o in ports if table.may_own(shape, i, o)}
+    own = {(i, o): f"({top.held(i, 'owns')} && {top.held(i, 'owned')} == {o})" for i in ports for o in ports
+           if table.may_own(shape, i, o)}
     for i in ports:
         held, full = top.held(i, "held"), top.held(i, "full")
         destination = f"{held}[56:51]"
@@ -58,13 +59,14 @@ def goals_of(top, given):
             if table.may_own(shape, i, output):
                 bad["routes"].append(f"({head} && {top.wires[f'inputs[{i}].wanted']} != {output})")
                 owners = [own[j, output] for j in ports if (j, output) in own]
-                bad["progress"].append(f"({head} && {room(top, output)} && !({' || '.join(owners)}) && !{top.wires['out_put']}[{output}])")
+                bad["progress"].append(f"({head} && {room(top, output)} && !({' || '.join(owners)}) && !{out_put}[{output}])")
         for o in ports:
             if (i, o) in own:
-                bad["progress"].append(f"({full} && !{held}[62] && {own[i, o]} && {room(top, o)} && !{top.wires['out_put']}[{o}])")
+                bad["progress"].append(f"({full} && !{held}[62] && {own[i, o]} && {room(top, o)} && !{out_put}[{o}])")
         used, at = top.held(i, "inbox.used"), top.held(i, "inbox.next_take")
         bad["progress"].append(f"({at} < {given.depth} && ({used} >> {at} & 1) && !{full} && !{top.wires['takes']}[{i}])")
-        left = {f"inputs[{i}].{it}": 0 for it in ("full", "owns", "inbox.used", "inbox.next_take", "inbox.next_put", "inbox.credit")}
+        names = ("full", "owns", "inbox.used", "inbox.next_take", "inbox.next_put", "inbox.credit")
+        left = {f"inputs[{i}].{it}": 0 for it in names}
         left[f"outputs[{i}].credits"] = given.depth
         bad["reset"] += [f"{top.wires[it + '.d']} != {value}" for it, value in left.items()]
     return bad
