@@ -124,6 +124,17 @@ def class_of(shape, port):
     return port // 2 % 2 if port < 8 * shape.dims else port - 8 * shape.dims
 
 
+def may_own(shape, source, target):
+    """Whether packets of an input may be on their way to an output: of one class, no dimension twice, and within one
+    neither round nor back from bit 1 to bit 0."""
+    hops = 8 * shape.dims
+    if class_of(shape, source) != class_of(shape, target):
+        return False
+    if source >= hops or target >= hops or target // 8 > source // 8:
+        return True
+    return target // 4 == source // 4 and target % 2 >= source % 2
+
+
 def channel_in(shape, tile, port):
     """The channel at an input, by its place among all channels."""
     if port >= 8 * shape.dims:
