@@ -1,14 +1,14 @@
 -- The loops that lower bounds.
 use Rattle.std.proofs.Common.{◌≡◌, ◌≢◌, ◌⊎◌, inl, inr, ⊎_elim, ℕ, zero, suc, ◌+◌, ◌<◌, ◌≤◌, List, [], ◌∷◌, ◌++◌, length, Option, Some, None, refl, sym, ◌∙◌, ap, subst, arith}
-use Rattle.std.proofs.Common.{slice_get}
-use Rattle.std.specs.Prelude.{MatchOption, drop}
-use Rattle.std.proofs.lemmas.Bool.{cases_eq}
+use Rattle.std.proofs.Common.{slice_get, append_assoc, max, cond, Bool, false}
+use Rattle.std.specs.Prelude.{MatchOption, drop, ◌==◌}
+use Rattle.std.proofs.lemmas.Bool.{cases_eq, eqb-true, false_from_ne_true}
 use Rattle.trace_laws.specs.declared.event.Call.{Call}
 use Rattle.trace_laws.proofs.Lists.{get_append_left, get_push, get_push_cases, get_within}
 use Rattle.trace_laws.specs.Configs.{IsIn}
 use Rattle.trace_watch.specs.declared.state.Effect.{Effect}
 use Rattle.trace_watch.specs.declared.state.Glimpse.{Glimpse}
-use Rattle.trace_watch.specs.States.{IsGlimpsed}
+use Rattle.trace_watch.specs.States.{IsGlimpsed, newest_number, other_words}
 use Rattle.trace_watch.specs.Lowered.{AreLowered, AreLoweredGlimpses, IsBounded, IsNewerFinder, IsNewestFinder, MayFind, NotesGlimpse}
 use Rattle.trace_watch.proofs.Sifting.{drop_at, drop_end}
 
@@ -209,3 +209,38 @@ notes_new calls h old new call newest pushed = subst (λ (gs : List Glimpse). No
   where
     n : Glimpse
     n = record { word = h.word; newest = call.id }
+
+-- the highest number so far, and that of the rest
+pub number_on : (calls : List Call) (i n : ℕ) (c : Call) → slice_get calls i ≡ Some c
+    → newest_number calls ≡ max n (newest_number (drop i calls))
+    → newest_number calls ≡ max (max c.id n) (newest_number (drop (i + 1) calls))
+number_on calls i n c here was =
+    let split : newest_number (drop i calls) ≡ newest_number (c ∷ drop (suc i) calls) =
+    ap (λ (cs : List Call). newest_number cs) (drop_at calls i c here) in
+    let one : suc i ≡ i + 1 = omega arith in
+    let rest : newest_number (drop (suc i) calls) ≡ newest_number (drop (i + 1) calls) =
+    ap (λ (k : ℕ). newest_number (drop k calls)) one in
+    omega (arith, was, split, rest)
+
+pub number_end : (calls : List Call) (i n : ℕ) → length calls ≤ i
+    → newest_number calls ≡ max n (newest_number (drop i calls)) → n ≡ newest_number calls
+number_end calls i n all was =
+    let none : newest_number (drop i calls) ≡ 0 = ap (λ (cs : List Call). newest_number cs) (drop_end calls i all) in
+    omega (arith, was, none)
+
+-- the glimpses of other words so far, and those of the rest
+pub others_on : (word : ℕ) (seen : List Glimpse) (i : ℕ) (g : Glimpse) (kept : List Glimpse) → slice_get seen i ≡ Some g
+    → g.word ≢ word → other_words word seen ≡ kept ++ other_words word (drop i seen)
+    → other_words word seen ≡ (kept ++ g ∷ []) ++ other_words word (drop (i + 1) seen)
+others_on word seen i g kept here ne was =
+    was ∙ (ap (λ (gs : List Glimpse). kept ++ other_words word gs) (drop_at seen i g here)
+    ∙ (ap (λ (b : Bool). kept ++ cond b (other_words word (drop (suc i) seen)) (g ∷ other_words word (drop (suc i) seen)))
+    (eqb-ne g.word word ne)
+    ∙ (sym (append_assoc kept (g ∷ []) (other_words word (drop (suc i) seen)))
+    ∙ ap (λ (k : ℕ). (kept ++ g ∷ []) ++ other_words word (drop k seen)) one)))
+  where
+    one : suc i ≡ i + 1
+    one = omega arith
+
+    eqb-ne : (a b : ℕ) → a ≢ b → (a == b) ≡ false
+    eqb-ne a b ne = false_from_ne_true (a == b) (λ t. ne (eqb-true a b t))
