@@ -8,8 +8,10 @@ from __future__ import annotations
 import glob
 import hashlib
 import os
+import re
 import shutil
 import subprocess
+import sys
 import threading
 from typing import Callable
 
@@ -22,9 +24,15 @@ FOLDERS = ("wrong-bodies", "must-fail-in-batches", "must-fail")
 KIT_PARTS = ("bin", "rlibs", "logic_built", "rattle/logic")
 HEAD = """# The edits that the prover has refused. A section for each toolchain: what `rt version` prints, and a sum of the prover and
 # of the files of its libraries. In it a line for each edit: the crate, the edit, and a sum of checks/judging.py, of the edit,
-# and of the line of crates.txt, of src, specs and proofs of the crate and of those below it. `checks/wrong_bodies` reads and
-# writes it.
+# and of the line of crates.txt, of src, specs and proofs of the crate and of those below it, without lines of comments. Of a
+# crate below, what only proves one function's body (Answers.antt and Invariants.antt in the function's folder) isn't summed,
+# for no other proof can rest on it. `checks/wrong_bodies` reads and writes it.
 """
+# A line that is a comment alone, by the ending of the file's name.
+COMMENT = {".rt": re.compile(r"(?m)^[ \t]*//.*\n"), ".antt": re.compile(r"(?m)^[ \t]*--(?: .*)?\n")}
+# A file of answers in the folder of its function, and an import of one.
+OF_ONE_BODY = re.compile(r"proofs/.+/(?:Answers|Invariants)\.antt$")
+TAKEN_FROM_ONE = re.compile(r"\bproofs\.[\w.]+\.(?:Answers|Invariants)\.")
 
 
 def kit() -> str:
@@ -47,13 +55,28 @@ def kit() -> str:
     return " ".join([*said.split(), "files", total.hexdigest()[:16]])
 
 
-def sources_sum(name: str, lines: dict[str, list[str]]) -> str:
-    """A sum of a crate's line in crates.txt and of its sources."""
-    total = hashlib.sha256(repr((name, lines[name])).encode())
+def without_comments(path: str) -> str:
+    """The text of a source without the lines that are comments alone. Where it has a text that goes over several lines, its
+    whole text, for a line of that could look like a comment."""
+    text = read(path)
+    pattern = COMMENT.get(os.path.splitext(path)[1])
+    left = pattern.sub("", text) if pattern else text
+    return left if all(it.count('"') % 2 == 0 for it in left.split("\n")) else text
+
+
+def sources_sums(name: str, lines: dict[str, list[str]]) -> tuple[str, str]:
+    """Two sums of a crate's line in crates.txt and of its sources: of all, and of what a crate above can rest on."""
+    whole, seen = (hashlib.sha256(repr((name, lines[name])).encode()) for _ in range(2))
     for path in sorted(it for part in PARTS for it in glob.glob(f"{ROOT}/crates/{name}/{part}/**", recursive=True)):
-        if os.path.isfile(path):
-            total.update(repr((os.path.relpath(path, ROOT), read(path))).encode())
-    return total.hexdigest()
+        if not os.path.isfile(path):
+            continue
+        text, at = without_comments(path), os.path.relpath(path, ROOT)
+        if TAKEN_FROM_ONE.search(text):
+            sys.exit(f"{at}: imports from a file that proves one function's body, which the sums of the record leave out")
+        whole.update(repr((at, text)).encode())
+        if not OF_ONE_BODY.search(at):
+            seen.update(repr((at, text)).encode())
+    return whole.hexdigest(), seen.hexdigest()
 
 
 class Sources:
@@ -62,7 +85,7 @@ class Sources:
     def __init__(self) -> None:
         self.lines, self.alone = lines_of_crates(), threading.Lock()
         self.judging = read(f"{ROOT}/checks/judging.py")
-        self.known: dict[str, str] = {}
+        self.known: dict[str, tuple[str, str]] = {}
         self.sums: dict[str, str] = {}
 
     def below(self, name: str) -> str:
@@ -71,8 +94,8 @@ class Sources:
             if name not in self.sums:
                 total = hashlib.sha256(self.judging.encode())
                 for it in sorted(below(name, self.lines)):
-                    self.known[it] = self.known.get(it) or sources_sum(it, self.lines)
-                    total.update(self.known[it].encode())
+                    self.known[it] = self.known.get(it) or sources_sums(it, self.lines)
+                    total.update(self.known[it][it != name].encode())
                 self.sums[name] = total.hexdigest()
             return self.sums[name]
 
