@@ -148,11 +148,11 @@ def processor_time() -> float:
 class Run:
     """A crate that is being proved, in its view."""
 
-    def __init__(self, name: str, view: str, jobs: int, held: int) -> None:
-        self.name, self.view, self.jobs, self.held = name, view, jobs, held
+    def __init__(self, name: str, view: str, held: int) -> None:
+        self.name, self.view, self.held = name, view, held
         self.folder = f"{view}/crates/{name}"
         self.began, self.spent = time.monotonic(), 0.0
-        words = ["run", "--jobs", str(jobs), "--", "check", "stdout"] if is_program(name) else ["lib", "--jobs", str(jobs)]
+        words = ["run", "--jobs", "1", "--", "check", "stdout"] if is_program(name) else ["lib", "--jobs", "1"]
         with open(f"{view}/said", "wb") as said:
             self.child = subprocess.Popen(
                 [sys.executable, f"{ROOT}/launcher/rt_once.py", *words],
@@ -187,8 +187,8 @@ class Build:
         self.began, self.since = time.monotonic(), time.time()
         self.log_name = f"{ROOT}/out/build.log"
         self.running: dict[str, Run] = {}
-        # Of each crate that was proved here: its processes and its seconds.
-        self.took: dict[str, tuple[int, float]] = {}
+        # Of each crate that was proved here: its seconds.
+        self.took: dict[str, float] = {}
         self.is_seen = sys.stderr.isatty()
         self.drawn = 0.0
         self.alone: set[str] = set()
@@ -261,7 +261,7 @@ class Build:
 
     # A crate's view.
 
-    def start(self, name: str, jobs: int) -> bool:
+    def start(self, name: str) -> bool:
         """Begins a crate, if no other rt works in its folder."""
         folder = f"{ROOT}/crates/{name}"
         held = os.open(folder, os.O_RDONLY)
@@ -281,7 +281,7 @@ class Build:
         with undisturbed():
             if os.path.isdir(f"{folder}/out"):
                 shutil.move(f"{folder}/out", f"{view}/crates/{name}/out")
-            self.running[name] = Run(name, view, jobs, held)
+            self.running[name] = Run(name, view, held)
         return True
 
     def end(self, run: Run, is_proved: bool = False) -> None:
@@ -349,18 +349,13 @@ class Build:
         say(f"What the prover says goes to {os.path.relpath(self.log_name, os.getcwd())}")
 
     def start_more(self) -> None:
-        waits: dict[str, int] = {}
-        while True:
-            busy = {it: run.jobs for it, run in self.running.items()}
-            next_one = self.plan.chosen(self.finished, {**busy, **waits})
-            if next_one is None:
-                return
-            name, jobs = next_one
+        held: set[str] = set()
+        while (name := self.plan.chosen(self.finished, {*self.running}, held)) is not None:
             is_full = bool(self.running) and free_memory() < ROOM
             if is_full or (self.running and (name in self.alone or self.alone & {*self.running})):
                 return
-            if not self.start(name, 1 if name in self.alone else jobs):
-                waits[name] = 0
+            if not self.start(name):
+                held.add(name)
 
     def ended(self, run: Run) -> None:
         status, took = run.child.returncode, time.monotonic() - run.began
@@ -370,7 +365,7 @@ class Build:
         self.end(run, is_proved)
         if is_proved:
             self.finished.add(run.name)
-            self.took[run.name] = run.jobs, took
+            self.took[run.name] = took
             if not self.is_seen:
                 left = f", about {minutes(self.left())} left" if len(self.finished) < self.total else ""
                 say(f"proved {run.name} in {took:.0f} s ({len(self.finished)} of {self.total}{left})")
@@ -383,11 +378,11 @@ class Build:
     def left(self) -> float:
         """The seconds that are left, about."""
         now = time.monotonic()
-        gone = {it: (run.jobs, now - run.began) for it, run in self.running.items()}
-        late = {it: (jobs, seconds) for it, (jobs, seconds) in gone.items() if seconds > self.plan.wall(it, jobs)}
+        gone = {it: now - run.began for it, run in self.running.items()}
+        late = {it: seconds for it, seconds in gone.items() if seconds > self.plan.cost[it]}
         # A slower computer, or one with other work, shows in what is finished and in what is late.
         pace = self.plan.pace({**self.took, **late})
-        return pace * self.plan.left(self.finished, {it: (jobs, seconds / pace) for it, (jobs, seconds) in gone.items()})
+        return pace * self.plan.left(self.finished, {it: seconds / pace for it, seconds in gone.items()})
 
     # The line on the terminal.
 
