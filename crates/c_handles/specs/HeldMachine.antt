@@ -13,7 +13,7 @@ use Rattle.c_handles.specs.contracts.machine_handle.MachineHandle.{the_row as ha
 abbrev pub held_whole : MachineHandle → Option Recorded
 held_whole handle = if handle.slot.full then Some handle.slot.core else None
 
--- the same without the record
+-- the machine that a handle holds, without its record
 abbrev pub held : MachineHandle → Option Asked
 held handle = if handle.slot.full then Some handle.slot.core.asked else None
 

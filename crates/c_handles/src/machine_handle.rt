@@ -42,7 +42,7 @@ impl MachineHandle {
 
     /// Holds a machine from now on, where it held none (`is_full` tells).
     ///
-    /// Errors: the heap has no room for it. The machine is then dropped, and the handle is as it was.
+    /// Errors: out of memory. The machine is then dropped, and the handle is as it was.
     pub fn hold(&mut self, machine: RecordedMachine) -> Result<(), AllocError>
         requires { held self.old ≡ None }
         ensures held { IfOk result (λ _. held self.new ≡ Some machine.asked) }

@@ -61,7 +61,7 @@ impl EventRecord {
         op_numbered(self.operation, self.first, self.second)
     }
 
-    /// The reply that it tells.
+    /// The reply that it carries.
     pub(crate) fn reply(self) -> Option<Reply>
         ensures { result ≡ reply_numbered self.has_old self.old }
     {

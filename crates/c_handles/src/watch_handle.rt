@@ -41,7 +41,7 @@ impl WatchHandle {
 
     /// Holds a watch from now on, where it held none (`is_full` tells).
     ///
-    /// Errors: the heap has no room for it. The watch is then dropped, and the handle is as it was.
+    /// Errors: out of memory. The watch is then dropped, and the handle is as it was.
     pub fn hold(&mut self, watch: Watch<Global>) -> Result<(), AllocError>
         requires { held self.old ≡ None }
         ensures held { IfOk result (λ _. held self.new ≡ Some watch) }

@@ -55,7 +55,7 @@ fn tell_hint<R: Eprint>(rt: &R, job: &Job, texts: &Texts, fault: &ProgramFault) 
 }
 
 /// Whether every script is finished, once the output is written to its last byte. How a run ended
-/// is told behind its report, where that is asked for or standard error `is_seen`.
+/// is printed behind its report, where that is asked for or standard error `is_seen`.
 fn printed<R: Print + Eprint + Clock + AllocGlobal>(
     rt: &R,
     request: &Request,

@@ -1,4 +1,4 @@
-//! What a job prints on standard output, and what standard error is told behind it.
+//! What a job prints on standard output, and what is printed on standard error behind it.
 
 use crate::answering::Ended;
 use crate::naming::names;
@@ -39,7 +39,7 @@ pub fn tell_end_of<R: Eprint>(rt: &R, job: &Job, end: &RunEnd, ended: Ended) {
     }
 }
 
-/// The exit status of a fault, which standard error tells.
+/// The exit status of a fault, which is printed on standard error.
 pub fn fault_told<R: Eprint>(rt: &R, fault: &ProgramFault) -> u8 {
     let text = fault_text(fault);
     let _ = eprintln!(rt; "{text}");

@@ -1,4 +1,4 @@
-//! A line that tells how far a run in rounds is.
+//! A line that shows how far a run in rounds is.
 
 use command_texts::Progress;
 use std::rt::Clock;
@@ -10,7 +10,7 @@ const ROUNDS_A_LOOK: u32 = 1024;
 /// How many seconds a line stands at least before it is written anew.
 const SECONDS_A_LINE: u64 = 1;
 
-/// A line on standard error that tells how far a run in rounds is, and rewrites itself: first after
+/// A line on standard error that shows how far a run in rounds is, and rewrites itself: first after
 /// `ROUNDS_A_LOOK` rounds, and then about once in `SECONDS_A_LINE`.
 #[derive(Drop)]
 pub struct ProgressLine<'a, R> {

@@ -27,7 +27,7 @@ abbrev pub flag_text : Bool → Text
 flag_text true = codes "true"
 flag_text false = codes "false"
 
--- whether `--reply` is given, as a class
+-- what `clap` writes for the flag `--reply` of a route: "true" for the class of replies
 abbrev pub class_word : Class → Text
 class_word Request = flag_text false
 class_word Reply = flag_text true

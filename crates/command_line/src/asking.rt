@@ -11,7 +11,7 @@ use std::rt::Env;
 use std::{env, io};
 
 /// The words of the command line, the program's own name among them; `None` where they can't be
-/// read, which standard error is told.
+/// read, which is printed on standard error.
 pub fn words_told<R: Env + Eprint + AllocGlobal>(rt: &R) -> Option<Vec<String>> {
     match words(rt) {
         Ok(words) => Some(words),

@@ -22,7 +22,7 @@ fn running<'a>(alloc: Global) -> Making<'a>
     with_subcommand(command, live)
 }
 
-/// The same, and those on schedules and routes.
+/// The program with the subcommands on scripts, schedules and routes.
 fn routing<'a>(alloc: Global) -> Making<'a>
     ensures { IsCommand routing_app result }
 {
@@ -37,7 +37,7 @@ fn routing<'a>(alloc: Global) -> Making<'a>
     with_subcommand(command, channels)
 }
 
-/// The same, and those on reports and networks.
+/// The program with the subcommands on scripts, schedules, routes, reports and networks.
 fn checking<'a>(alloc: Global) -> Making<'a>
     ensures { IsCommand networking_app result }
 {

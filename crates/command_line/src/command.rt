@@ -64,7 +64,7 @@ pub enum Job<'a> {
     Network {
         network: &'a str,
     },
-    /// Print the run by which a network locks up whose channels hold so many flits.
+    /// Print the run by which a network deadlocks whose channels hold so many flits.
     LockUp {
         network: &'a str,
         depth: u32,

@@ -44,7 +44,7 @@ abbrev pub TellsKept : {A : Type 0} → Recorded → Option Recording → Said A
 TellsKept v None said = said ≡ Told reply.NoRecord
 TellsKept v (Some r) said = TellsRecord v r said
 
--- the same, or memory was refused
+-- the answer is the machine's record, or that it has none, or that memory was refused
 abbrev pub SavesKept : {A : Type 0} → Recorded → Said A → Type 0
 SavesKept v said = TellsKept v v.kept said ⊎ (said ≡ Told (reply.Refused fault.Memory))
 

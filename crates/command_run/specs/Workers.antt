@@ -63,8 +63,9 @@ pub record HasDonePart (load : Load) (turns : ℕ) (tiles : List ℕ) (run : Lis
   pub all : (AreAllFinished load run → ⊥) → length turned.steps ≡ turns
   pub rest : GroupGoesOn (tiles ∷ []) run last.run
 
--- So many workers have made a run of a load, each its part. What the end says was loaded leads to
--- the same machines as the load; it may lack fences in front of scripts, which no machine tells.
+-- So many workers have made a run of a load, each its part. The steps of a run lead from the load
+-- of the end to the machine to which they lead from the load; the former may lack fences in front
+-- of scripts, which no machine shows.
 pub record IsMadeByWorkers (load : Load) (workers turns : ℕ) (end : Ended) : Type 0 where
   pub alike : (steps : List Step) → core_after_load end.load steps ≡ core_after_load load steps
   pub each : (j : ℕ) → j < crew workers load

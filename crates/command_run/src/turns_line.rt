@@ -1,4 +1,4 @@
-//! A line that tells how far a run by workers is.
+//! A line that shows how far a run by workers is.
 
 use std::rt::Clock;
 use std::sync::atomic::{AtomicU64, Ordering};
@@ -8,7 +8,7 @@ use worker_run::Watch;
 /// How many passes a worker makes over its tiles between two looks at the clock.
 const PASSES_A_LOOK: u32 = 1024;
 
-/// A line on standard error that tells how far a run by workers is, and rewrites itself about once a
+/// A line on standard error that shows how far a run by workers is, and rewrites itself about once a
 /// second. It is gone when no worker is at work.
 #[derive(Drop)]
 pub struct TurnsLine<'a, R> {

@@ -46,7 +46,7 @@ module _ (d : Design) where
       All-cons (IsStepOf d.shape) x (enabled_of (step d) t steps) (enabled_is d s x t is count)
       (rest t (same_count d s x t is ∙ count))
 
-  -- the same of all that are enabled
+  -- all attempts of a list that are enabled, one after the other, are steps of the torus
   pub enabled_are : (s : State) (steps : List Step) → length s.tiles ≡ tiles_of d.shape → All (IsStepOf d.shape) (enabled_of (step d) s steps)
   enabled_are s [] count = All-nil (IsStepOf d.shape)
   enabled_are s (x ∷ steps) count = ahead s x steps (step d s x) refl count (λ u h. enabled_are u steps h)

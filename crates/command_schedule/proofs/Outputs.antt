@@ -40,7 +40,7 @@ pub then_took : {A E : Type 0} (a b c : Output) (x y whole : List ℕ) (r : Resu
 then_took a b c x y whole (Ok v) is first more = subst (TookAll a c) is (took_then a b c x y first more)
 then_took a b c x y whole (Err e) is first more = subst (TookFront a c) is (front_then a b c x y first more)
 
--- the same text by another name
+-- what was taken of a text was taken of it by another name
 pub took_same : {A E : Type 0} (a b : Output) (x y : List ℕ) (r : Result A E) → x ≡ y → Took x a b r → Took y a b r
 took_same a b x y r is h = subst (λ (t : List ℕ). Took t a b r) is h
 

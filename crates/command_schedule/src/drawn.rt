@@ -29,7 +29,7 @@ use torus::Step;
 /// The moves are drawn by SplitMix64, whose state is the seed at first: each is that attempt, of those
 /// of a round that are enabled, in their order, whose index is the next word modulo their number.
 ///
-/// Errors: the first fault of the texts, taken in the order machine, scripts, or memory refused; and
+/// Errors: the first fault of the texts, taken in the order machine, scripts, or out of memory; and
 /// nothing was written then. If the output fails, a beginning was written.
 pub fn draw_text<A: Allocator + Copy, W: Out>(
     alloc: A,

@@ -22,7 +22,7 @@ use torus::Step;
 /// behind a heading with the round's number, and a last line that says whether every script is
 /// finished. Answers that. What is printed is a steps text of these moves.
 ///
-/// Errors: the first fault of the texts, taken in the order machine, scripts, or memory refused; and
+/// Errors: the first fault of the texts, taken in the order machine, scripts, or out of memory; and
 /// nothing was written then. If the output fails, a beginning was written.
 pub fn schedule_text<A: Allocator + Copy, W: Out>(
     alloc: A,

@@ -3,10 +3,10 @@ use torus::Step;
 /// What a line of a schedule says.
 #[derive(Clone, Copy, Debug, PartialEq, Eq)]
 pub enum ScheduleLine {
-    /// The moves that follow are those of the round of this number. A comment.
+    /// A comment in the schedule: the moves that follow are those of the round of this number.
     Round(u64),
     /// A move.
     Move(Step),
-    /// Whether every script is finished. A comment.
+    /// A comment at the end of the schedule: whether every script is finished.
     End(bool),
 }

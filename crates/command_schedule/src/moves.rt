@@ -18,8 +18,8 @@ use torus::Step;
 /// prints those that moved, in their order, and a last line that says whether every script is
 /// finished. Answers that. What is printed is a steps text of these moves.
 ///
-/// Errors: the first fault of the texts, taken in the order machine, scripts, steps, or memory
-/// refused; and nothing was written then. If the output fails, a beginning was written.
+/// Errors: the first fault of the texts, taken in the order machine, scripts, steps, or out of
+/// memory; and nothing was written then. If the output fails, a beginning was written.
 pub fn moves_text<A: Allocator + Copy, W: Out>(
     alloc: A,
     machine: &[u8],

@@ -29,7 +29,7 @@ pub trait Progress {
     // Which lists of calls may be all that it has heard so far, in order: any, unless an `impl` says more.
     ghost heard: { Self → List Call → Type 0 } = { λ watcher calls. Unit {0} };
 
-    /// Whether it wants to be told how far the run is. Asked once after each round, so it is to cost
+    /// Whether it wants a report on how far the run is. Asked once after each round, so it is to cost
     /// little.
     fn wants(&mut self) -> bool
         ensures { Hears (heard self.old) (heard self.new) (Wants result ∷ []) };
@@ -86,11 +86,11 @@ pub fn round_text<A: Allocator + Copy, W: Out>(
     )
 }
 
-/// Does what `round_text` does, and tells `progress` how far the run is. Where `clocked` is true, the
+/// Does what `round_text` does, and reports to `progress` how far the run is. Where `clocked` is true, the
 /// rounds are clocked, with the turns from 0 on. After each round it asks `progress` whether that is
-/// wanted, and if so tells how many rounds are made and how many operations are answered. Behind the
-/// last round it tells the end, with how many moves all rounds made. A fault of the texts, and memory
-/// refused for the machine, come before it tells anything. `ending` is shown the machine whose report
+/// wanted, and if so reports how many rounds are made and how many operations are answered. Behind the
+/// last round it reports the end, with how many moves all rounds made. A fault of the texts, and memory
+/// refused for the machine, come before it reports anything. `ending` is shown the machine whose report
 /// is printed.
 ///
 /// Errors: as `round_text`.
@@ -129,7 +129,7 @@ pub fn round_text_with<A: Allocator + Copy, W: Out, P: Progress, E: Ending>(
 
 /// The machine of two texts before any step.
 ///
-/// Errors: the first fault of the texts, taken in the order machine, scripts, or memory refused.
+/// Errors: the first fault of the texts, taken in the order machine, scripts, or out of memory.
 pub fn loaded<A: Allocator + Copy>(
     alloc: A,
     machine: &[u8],

@@ -43,8 +43,8 @@ pub fn steps_text<A: Allocator + Copy, W: Out>(
     )
 }
 
-/// Does what `steps_text` does, and tells `progress` the end of the run, with how many of the steps
-/// moved. A fault of the texts, and memory refused for the machine, come before it is told anything.
+/// Does what `steps_text` does, and reports to `progress` the end of the run, with how many of the steps
+/// moved. A fault of the texts, and memory refused for the machine, come before it gets any report.
 /// `ending` is shown the machine whose report is printed.
 ///
 /// Errors: as `steps_text`.

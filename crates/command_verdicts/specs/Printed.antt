@@ -23,7 +23,7 @@ abbrev pub IsRoutingFault : List (List ℕ) → ProgramFault → Type 0
 IsRoutingFault lines (program.Line found) = routing_of lines ≡ Err found
 IsRoutingFault lines _ = ⊥
 
--- the same, where it must be one of fixed routes
+-- the network text, which must be one of fixed routes, has this as its first fault
 abbrev pub IsNetworkFault : List (List ℕ) → ProgramFault → Type 0
 IsNetworkFault lines (program.Line found) = network_of lines ≡ Err found
 IsNetworkFault lines _ = ⊥

@@ -16,8 +16,9 @@ use Rattle.program_fault.specs.declared.fault.ProgramFault.TheVariants as progra
 use Rattle.program_fault.specs.Done.{Does, Output}
 use Rattle.command_verdicts.specs.Printed.{IsNetworkFault}
 
--- a text is that of a run by which the network locks up that the lines of a text give, only if there
--- is one, and else that of its verdict; and whether the verdict's numbers rise
+-- a text is that of a run by which the network of a text, given as the list of its lines,
+-- deadlocks, only if there is one, and else that of its verdict; and whether the verdict's numbers
+-- rise
 pub record IsLockUpText (A : Type 0) (lines : List (List ℕ)) (depth : ℕ) (rising : Bool)
     (text : List ℕ) : Type 0 where
   pub network : NetworkSpec

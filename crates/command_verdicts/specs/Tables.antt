@@ -89,7 +89,8 @@ abbrev pub PrintsTableOrder : List (List ℕ) → ℕ → Output → Output → 
 PrintsTableOrder table bound =
     Does (IsTableJudgement (λ trace. IsJudgement trace bound) table) (IsTableFault table)
 
--- the same, and the report of its order
+-- the trace of a table was judged, with so many configurations of a word allowed, and the report of
+-- its order printed, if it has one
 abbrev pub PrintsTableReport : List (List ℕ) → ℕ → Output → Output → Result Judged ProgramFault
     → Type 0
 PrintsTableReport table bound =

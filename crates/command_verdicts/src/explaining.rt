@@ -38,7 +38,7 @@ fn choosing_line(fault: &ProgramFault, sentence: &Option<NetworkSentence<'_>>) -
     }
 }
 
-/// Says why the text of a network has the fault that the command answers, where that can be told.
+/// Says why the text of a network has the fault that the command answers, where that can be found.
 pub fn explain_network<R: Eprint + AllocGlobal>(
     rt: &R,
     name: &str,
@@ -122,7 +122,7 @@ pub fn explain_simulation<R: Eprint + AllocGlobal>(
     }
 }
 
-/// Says what the run uses by which a network locks up, where its verdict is that it does.
+/// Says what the run uses by which a network deadlocks, where its verdict is that it does.
 pub fn explain_lock_up<R: Eprint + AllocGlobal>(rt: &R, network: &[u8]) {
     if let Ok(answer) = network_answer(rt.alloc(), network)
         && answer.text.ends_with(b"locks up\n")
@@ -170,7 +170,7 @@ pub fn explain_models<R: Eprint + AllocGlobal>(
 }
 
 /// Says why the texts of a report, of its machine and of its scripts have the fault that the command
-/// answers, where that can be told: the report only where the others have none.
+/// answers, where that can be found: the report only where the others have none.
 pub fn explain_run_models<R: Eprint + AllocGlobal>(
     rt: &R,
     names: (&str, &str, &str),
@@ -218,7 +218,7 @@ pub fn explain_other_run<R: Eprint>(rt: &R, names: (&str, &str, &str), modelled:
     }
 }
 
-/// Says why the text of a log has the fault that the command answers, where that can be told.
+/// Says why the text of a log has the fault that the command answers, where that can be found.
 fn explain_log<R: Eprint + AllocGlobal>(rt: &R, name: &str, log: &[u8], fault: &ProgramFault) {
     explain_logged(rt, name, log, read_log(rt.alloc(), log).err(), fault);
 }
@@ -254,7 +254,7 @@ fn explain_logged<R: Eprint + AllocGlobal>(
     }
 }
 
-/// Says why no order explains a trace, or the trace of a table, from a line on, where that can be told
+/// Says why no order explains a trace, or the trace of a table, from a line on, where that can be found
 /// with at most so many configurations of a word at once.
 pub fn explain_no_order<R: Eprint + AllocGlobal>(
     rt: &R,

@@ -5,7 +5,7 @@ use std::alloc::Global;
 use trace_table::{TableTrace, read_table, table_sentence};
 use trace_why::{NoOrderSentence, no_order_sentence};
 
-/// Says why a table has the fault that the command answers, where that can be told.
+/// Says why a table has the fault that the command answers, where that can be found.
 pub(crate) fn explain_table<R: Eprint + AllocGlobal>(
     rt: &R,
     name: &str,
@@ -70,7 +70,7 @@ fn explain_no_order_of_text<'a, R: Eprint + AllocGlobal>(
     }
 }
 
-/// Says why no order explains the trace of a table from the answer of a line on, where that can be told
+/// Says why no order explains the trace of a table from the answer of a line on, where that can be found
 /// with at most so many configurations of a word at once.
 pub(crate) fn explain_no_order_of_table<R: Eprint + AllocGlobal>(
     rt: &R,

@@ -20,7 +20,8 @@ use torus::Fault;
 pub enum Modelled {
     /// Its replies are due, it obeys these models, and the answer is printed.
     Obeys(Obeys),
-    /// The same of a report. It doesn't say where fences stand, so what one may forbid isn't told.
+    /// The replies of a report are due, its run obeys these models, and the answer is printed. A report
+    /// doesn't say where fences stand, so the answer leaves open each model that one could break.
     WithoutFences(Obeys),
     /// This reply isn't the one that is due, so no model is asked, and nothing is printed.
     Wrong(WrongReply),

@@ -10,9 +10,9 @@ use report_lines::Out;
 use report_lines::output::put_all;
 use std::alloc::Allocator;
 
-/// Judges the network of a text, and prints the verdict: the numbers of its channels if they can rise,
-/// so that it never locks up; or the first pair without a route; or a cycle of channels, and behind it
-/// the channels that fill up where the network locks up. Where routers choose among several channels,
+/// Judges the network of a text, and prints the verdict: the numbers of its channels if they can rise, so
+/// that it never deadlocks; or the first pair without a route; or a cycle of channels, and behind it the
+/// channels that fill up where the network deadlocks. Where routers choose among several channels,
 /// the numbers come with a line on how far packets can go, and the verdict may also be the first
 /// channel without an escape, or the first choice that can't stand. Answers whether the numbers rise.
 ///

@@ -12,8 +12,8 @@ use report_lines::Out;
 use report_lines::output::put_all;
 use std::alloc::Allocator;
 
-/// Judges the network of a text whose channels hold so many flits, and prints the run by which it locks
-/// up; where there is none, the verdict. Answers whether the numbers of its channels rise.
+/// Judges the network of a text whose channels hold so many flits, and prints the run by which it
+/// deadlocks; where there is none, the verdict. Answers whether the numbers of its channels rise.
 ///
 /// Errors: the text's first fault, or out of memory; and nothing was written then. If the output
 /// fails, a beginning was written.

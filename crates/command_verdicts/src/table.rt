@@ -100,7 +100,7 @@ pub fn linearize_table<A: Allocator + Copy, W: Out>(
     answer_in_table(&trace, answer)
 }
 
-/// The same, and prints the report of an order, as `report_text` does.
+/// Judges the trace of a table of operations, and prints the report of an order, as `report_text` does.
 ///
 /// Errors: as `linearize_table`.
 pub fn report_table<A: Allocator + Copy, W: Out>(
@@ -143,7 +143,8 @@ pub fn judged_order_text<A: Allocator + Copy, W: Out>(
     }
 }
 
-/// The same, and prints the report of an order.
+/// Judges a table of operations, if the text begins as one, and else a trace text, and prints the report of
+/// an order.
 ///
 /// Errors: those of `report_table`, and those of `report_text`.
 pub fn judged_report_text<A: Allocator + Copy, W: Out>(

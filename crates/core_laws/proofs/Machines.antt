@@ -64,7 +64,7 @@ stands_after l steps ok = record {
   lawful = lawful l ok steps;
 }
 
--- the same steps from the same load reach the same machine
+-- one list of steps from one load reaches one machine
 pub same_machine : (l : Load) (c d : Core) (steps : List Step) → IsAfter l c steps → IsAfter l d steps → c ≡ d
 same_machine l c d steps f g = named_machine l c steps f ∙ sym (named_machine l d steps g)
 

@@ -166,7 +166,7 @@ module _ (d : Design) where
     pub moves : enabled_of (step d) (state_open d s) (without_reports ms) ≡ without_reports ms
     pub count : length (without_reports ms) + reports_in t ≡ length ms + reports_in s
 
-  -- the same, where the first has been looked at
+  -- what Reopens says, with the list rs of the moves without reports and the number n of all moves
   record Looked (s : State) (g : EventBook) (rs : List Step) (n : ℕ) (t : State) (h : EventBook) : Type 0 where
     state : after_from d (state_open d s) rs ≡ state_open d t
     book : book_from d (state_open d s) g rs ≡ h

@@ -28,7 +28,7 @@ pub record Notice : Type 0 where
   pub place : ℕ
   pub reply : Reply
 
--- what a response tells
+-- what a response carries
 abbrev pub notice_of : Response → Notice
 notice_of r = record {
   processor = r.destination;
@@ -37,7 +37,7 @@ notice_of r = record {
   reply = r.reply;
 }
 
--- what an answer of processor p tells
+-- what an answer of processor p carries
 abbrev pub notice_by : ℕ → Answer → Notice
 notice_by p a = record { processor = p; bank = a.bank; place = a.place; reply = a.reply }
 

@@ -164,7 +164,7 @@ base_short load ok row shown =
     let size : length row ≡ channel_count load.shape * load.depth + (length load.opening + 1) = row_size load ok row [] shown in
     omega arith
 
--- the same of what was picked
+-- the row and the tiles are fresh for the load that was picked, which is that of an opening
 pub fresh_as : (k o : Opening) (c : Core) (row : List ℕ) (tiles : List PlacedTile) → k ≡ o → IsAfter o.load c [] → length tiles ≡ tiles_of c.shape
     → ((l : Load) (steps : List Step) → IsAfter l c steps → IsShown (design_of l) (after l steps) (map (λ v. v.place) tiles) row)
     → ((l : Load) → IsAfter l c [] → HaveRoom l tiles) → IsFresh k.load row tiles

@@ -45,7 +45,7 @@ module _ (load : Load) (slots id : ℕ) (me : Me (Unit {0}) View) (c : Step) (x 
         tells n (w, me.1) (step_told load good s.words s.views id me.0 c x o h.0 fit.begins.0 h.1 at loaded quiet fit.begins.1 fit.begins.2 mine here op) refl,
       )
 
--- the same where the number found stays unknown: the step doesn't look at it
+-- an attempt by a store is one whatever number it finds: the step doesn't look at it
 blind : (c : Step) (x : TilePlace) (w a : ℕ) (n m : ℕ) (v u : View) → op_of x c ≡ Some (Store w a) → Attempted c x v n u → Attempted c x v m u
 blind c x w a n m v u op t = let e : moves x c n ≡ moves x c m = blind_moves x c w a n m op in record {
   between = t.between;

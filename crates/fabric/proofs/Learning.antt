@@ -19,7 +19,7 @@ use Rattle.fabric.proofs.Seating.{tied_grow, in_group}
 abbrev S : Type 0
 S = Seat (Unit {0}) View
 
--- the same seat, whose run went on
+-- a seat z is the seat s, whose run went on to this one
 abbrev pub IsOn : S → List Step → S → Type 0
 IsOn s run z = (z.table_id ≡ s.table_id) × (z.me.1 ≡ []) × (z.me.0 ≡ with_groups (knowing s.me.0 run) s.me.0.groups)
 

@@ -43,6 +43,6 @@ pub one_looker_more : (xs ys : List Knowing) (one x : Knowing) (n : ℕ) → xs 
 one_looker_more xs ys one x n so_far push is =
     push ∙ (ap (λ (k : Knowing). xs ++ k ∷ []) is ∙ (ap (λ (l : List Knowing). l ++ x ∷ []) so_far ∙ replicate_more n x))
 
--- the same seat, of what it knows itself
+-- what HasRest says of a seat, by the load and the groups that the seat knows itself
 pub rest_itself : (z : TableId) (load : Load) (gs : List (List ℕ)) (s : S) → HasRest z load gs s → HasRest z s.me.0.load s.me.0.groups s
 rest_itself z load gs s h = record { table = h.table; placed = h.placed; loaded = refl; run = h.run; grouped = refl }

@@ -35,7 +35,7 @@ module _ (f : List ℕ → Knowing) (xs ys : List Knowing) (one : Knowing) (from
       push ∙ (ap (λ (o : Knowing). xs ++ o ∷ []) (is ∙ ap (λ (k : ℕ). f (count_up from (k - from))) end)
       ∙ (sym (ap (λ (l : List ℕ). xs ++ map f (ranges from l n)) none) ∙ so_far))
 
--- the same of the load that is known
+-- a seat that is fresh for a load is fresh for the load that is known, which is that one
 pub fresh_as_loaded : {z : TableId} {k l : Load} {tiles : List ℕ} {one : Knowing} → one ≡ fresh z k tiles → k ≡ l → one ≡ fresh z l tiles
 fresh_as_loaded {z} {k} {l} {tiles} {one} is e = is ∙ ap (λ (x : Load). fresh z x tiles) e
 

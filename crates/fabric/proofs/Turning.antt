@@ -56,7 +56,7 @@ tile_known load run t x k = by_slot (slice_get (after load run).tiles t) k.place
     by_slot None e = absurd (cc)
     by_slot (Some tile) e = sym (ap (λ (p : TilePlace). p.tile) (same_Some _ _ e))
 
--- the same by the tile in code
+-- the operation of a step is the one that the tile in code is at
 pub op_is : (p : TilePlace) (c : Step) (q : Option WordOp) → q ≡ tile_next_op p c → op_of p c ≡ q
 unfolding op_of
 op_is p c q e = sym e

@@ -74,7 +74,8 @@ impl<A: Allocator> TileSeat<A> {
         }
     }
 
-    /// The same of the puts of a tile's router.
+    /// The first input of a tile's router, from one on, whose put is worth an attempt; `ports` where none
+    /// is: the puts before it aren't enabled after the run that the seat knows.
     #[inline(always)]
     pub fn next_put(&self, tile: u32, from: u32, ports: u32) -> u32
         requires tile { tile < 64 }
@@ -89,7 +90,8 @@ impl<A: Allocator> TileSeat<A> {
         }
     }
 
-    /// The same of the credits of a tile's router, by its outputs.
+    /// The first output of a tile's router, from one on, whose credit is worth an attempt; `ports` where
+    /// none is: the credits before it aren't enabled after the run that the seat knows.
     #[inline(always)]
     pub fn next_credit(&self, tile: u32, from: u32, ports: u32) -> u32
         requires tile { tile < 64 }

@@ -204,8 +204,7 @@ impl<A: Allocator + Copy> Fabric<A> {
     /// tile is of one seat. Every seat knows the empty run.
     ///
     /// Errors: `Fault::Range` exactly where the cuts don't rise strictly within 1 to N - 1, for N
-    /// tiles, or are more than 15, or there are more than 16 probes, before any memory is taken; else
-    /// `Fault::Memory`. All memory is taken here: no step takes any.
+    /// tiles, or are more than 15, or there are more than 16 probes; else `Fault::Memory`.
     pub fn open(
         alloc: A,
         machine: Machine<A>,

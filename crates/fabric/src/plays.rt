@@ -23,7 +23,7 @@ impl Play<(), Knowledge> for Learn {
     ghost then = { learned };
 }
 
-// The same, and its groups become one.
+// The seat learns of all runs that it was told of, and its groups become one.
 pub(crate) struct Merge;
 
 impl Play<(), Knowledge> for Merge {

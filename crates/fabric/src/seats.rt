@@ -95,8 +95,11 @@ impl Model for ProbeSeat {
 }
 
 impl<A: Allocator> Fabric<A> {
-    /// Attempts a step: performs its operation on the row, if its agent has one, and takes the word
-    /// found. `NotMine` exactly where the step is of no tile of the seat, or its agent hasn't the choice.
+    /// Attempts a step of one of the seat's tiles. `Moved`: perhaps steps of other tiles, and then this step,
+    /// which was enabled there, are added to the run that the seat knows. `Idle`: the agent isn't ready for it,
+    /// and the seat stays as it was; or steps of other tiles may be added, behind which the step isn't
+    /// enabled. `NotMine` exactly where the step is of no tile of the seat, or its agent hasn't the choice;
+    /// the seat stays as it was.
     #[inline(always)]
     pub fn turn(&self, seat: &mut TileSeat<A>, step: Step) -> Turned
         requires { IsSeatOf self.now seat.old }
@@ -153,7 +156,8 @@ impl<A: Allocator> Fabric<A> {
         self.look(&mut seat.seat, address)
     }
 
-    /// The same, by a seat that has tiles.
+    /// The memory word at an address, after the run that a seat with tiles knows then; None exactly where
+    /// the address isn't below the number of words.
     pub fn probe_as(&self, seat: &mut TileSeat<A>, address: usize) -> Option<u64>
         requires { IsSeatOf self.now seat.old }
         ensures none { IsNone result ↔ (length self.now.load.opening ≤ address) }

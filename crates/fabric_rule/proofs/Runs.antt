@@ -207,7 +207,7 @@ module _ (load : Load) (ok : IsAcceptedLoad load) where
           suits = suits_here shows here asks;
         }
 
-  -- the same by a beginning of the run, after which the tile made no step
+  -- what Tells says of a tile that is known after a beginning of the run, behind which the tile made no step
   pub tells_later : (row : List ℕ) (run more : List Step) (attempt : Step) (p : TilePlace) (op : WordOp) → ShowsBeginning load row (run ++ more)
       → Away (tile_of attempt) more
       → known load run (tile_of attempt) ≡ Some p → op_of p attempt ≡ Some op → Tells load row (run ++ more) attempt p op

@@ -18,7 +18,8 @@ abbrev pub TakesInside : Shape → List (List ℕ) → List ℕ → Type 0
 TakesInside s gs words = (t i : ℕ) → is_raised words t i ≡ false
     → In gs t × IsInner s gs (agent_number t Router) (TakeFrom i)
 
--- the same of each output and its credit (this project's own format)
+-- each output whose flag is lowered is of a router of the groups, and no agent outside them can
+-- enable its credit (this project's own format)
 abbrev pub CreditsInside : Shape → List (List ℕ) → List ℕ → Type 0
 CreditsInside s gs words = (t o : ℕ) → is_raised words t o ≡ false
     → In gs t × IsInner s gs (agent_number t Router) (CreditOf o)

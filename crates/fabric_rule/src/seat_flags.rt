@@ -57,7 +57,7 @@ impl<A: Allocator + Copy> SeatFlags<A> {
     /// load, with channels of this depth, 1 to 8, and so many words, at most 65536: all choices count as
     /// awake, and no latch of its own tiles as full.
     ///
-    /// Errors: `AllocError` where there is no memory; no other call takes any.
+    /// Errors: out of memory.
     pub fn new(
         alloc: A,
         torus: Torus,
@@ -108,7 +108,7 @@ fn fill<A: Allocator>(ports: &mut RouterFlags<A>, tile: usize)
     }
 }
 
-// The same of the tiles from one on, below another.
+// Counts each latch of the routers of the tiles from one on, below another, as full.
 fn fill_tiles<A: Allocator>(ports: &mut RouterFlags<A>, from: usize, to: usize)
     requires { to ≤ 64 }
     ensures design { ports.new.design ≡ ports.old.design }
@@ -230,7 +230,8 @@ impl<A: Allocator> SeatFlags<A> {
         }
     }
 
-    // The same of a choice of a processor or a bank. A look at the done word never counts as asleep.
+    // After an attempt of a processor or a bank that isn't enabled: its choice counts as asleep. A look at
+    // the done word never does.
     #[inline(always)]
     fn choice_rests(&mut self, agent: usize, choice: Choice)
         requires { agent < 192 }
@@ -247,7 +248,8 @@ impl<A: Allocator> SeatFlags<A> {
         }
     }
 
-    // The same of a choice of a tile's router.
+    // After an attempt of a tile's router that isn't enabled: its choice counts as asleep, where no other
+    // seat can enable it.
     #[inline(always)]
     fn port_rests(&mut self, tile: usize, choice: Choice)
         requires { tile < 64 }

@@ -4,7 +4,8 @@ use Rattle.flit_buffer.specs.Surroundings.{Surroundings, Wiring, ring}
 use Rattle.flit_buffer.specs.declared.want.Want.{Want}
 use Rattle.flit_buffer.specs.declared.want.Want.TheVariants.{Take, Put, Credit, Access, Await}
 
--- the same channels and words, wherever in their places the flits lie (this project's own format)
+-- two surroundings have equal channels and words, wherever in their places the flits lie (this
+-- project's own format)
 pub record SameChannels (a b : Surroundings) : Type 0 where
   pub count : length a.rings ≡ length b.rings
   pub channels : (x : ℕ) → (ring a.rings x).channel ≡ (ring b.rings x).channel

@@ -22,7 +22,7 @@ pub record BankPlace : Type 0 where
 abbrev pub bank_with_agent : BankPlace → Agent BankState → BankPlace
 bank_with_agent b a = record { tiles = b.tiles; tile = b.tile; room = b.room; agent = a }
 
--- the same bank with room for another number of entries
+-- a bank with room for another number of entries, in its place as it was
 abbrev pub place_with_room : BankPlace → ℕ → BankPlace
 place_with_room b room = record { tiles = b.tiles; tile = b.tile; room = room; agent = b.agent }
 

@@ -70,7 +70,7 @@ impl<A: Allocator + Copy> BankAgent<A> {
     /// The depth is 1 to 8. The places of each channel stand in the row from its place among the
     /// channels times the depth on. There is room for this many entries, at most 65536.
     ///
-    /// Errors: `AllocError` where there is no memory; the steps take none.
+    /// Errors: out of memory.
     pub fn new(
         alloc: A,
         torus: &Torus,

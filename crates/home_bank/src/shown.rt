@@ -39,7 +39,7 @@ impl<A: Allocator> BankAgent<A> {
 
     /// Makes room for so many entries more, at most 65536 in all. No other call takes memory.
     ///
-    /// Errors: `AllocError` where there is no memory; then nothing has changed.
+    /// Errors: out of memory; then nothing has changed.
     pub fn reserve(&mut self, more: usize) -> Result<(), AllocError>
         requires { self.old.room + more ≤ 65536 }
         ensures room { OnOk result (self.new ≡ place_with_room self.old (self.old.room + more)) }

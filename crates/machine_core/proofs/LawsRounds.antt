@@ -116,7 +116,7 @@ needed_fewest l most k ok within needed = record {
   finished = λ under. after_fresh false l k true ok needed.done;
 }
 
--- the same of clocked rounds
+-- the fewest clocked rounds, where more are allowed, are those that a fresh machine needs
 pub fewest_clocked : (l : Load) (most k : ℕ) → IsAcceptedLoad l → k < most → AreFewestFrom true l most k → NeedsClocked (core_after_load l []) k
 fewest_clocked l most k ok below fewest = record {
   done = fresh_after true l k true ok (fewest.finished below);

@@ -1,4 +1,4 @@
--- What a freshly loaded machine tells of its load.
+-- What a freshly loaded machine shows of its load.
 use Rattle.std.specs.Prelude.{map}
 use Rattle.machine_parts.specs.Core.{Load}
 use Rattle.machine_parts.specs.Machine.{Core}

@@ -32,12 +32,12 @@ impl<A: Allocator> Machine<A> {
 
     /// Gives a processor a further line, at any time; where it has reported the end of its script, all
     /// reports are taken back first. The machine stands then where its moves lead from the load with the
-    /// line at the end of that script. It is the one call after `load` that takes memory.
+    /// line at the end of that script.
     ///
     /// Errors: `Fault::Processor` where there is no such processor, `Fault::Address` where the line's
     /// address is none, `Fault::Range` where a spin hasn't 1 to 4096 loads, `Fault::Last` where a `last`
-    /// has no operation before it, `Fault::Length` where there is no room left for its operations, and
-    /// `Fault::Memory` where there is no memory, in this order. The machine is as it was then.
+    /// has no operation before it, `Fault::Length` where the limits leave no room for its operations, and
+    /// `Fault::Memory` when out of memory, in this order. The machine is as it was then.
     pub fn append(&mut self, processor: u32, line: Line) -> Result<(), Fault>
         ensures taken { OnOk result ((refused self.old processor line ≡ None)
             × (self.new ≡ handed self.old processor line)) }

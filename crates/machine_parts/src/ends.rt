@@ -87,7 +87,7 @@ fn ends_of(torus: &Torus, index: u32) -> Ends
 
 /// The agents at the ends of the channel of each place of the row, for channels of this depth, 1 to 8.
 ///
-/// Errors: `AllocError` where there is no memory.
+/// Errors: out of memory.
 pub(crate) fn all_ends<A: Allocator + Copy>(
     alloc: A,
     torus: &Torus,

@@ -72,7 +72,7 @@ impl<A: Allocator + Copy> WakeFlags<A> {
     /// The flags of a machine with channels of this depth, 1 to 8, and so many words, at most 65536:
     /// all choices of all agents are awake.
     ///
-    /// Errors: `AllocError` where there is no memory; no other call takes any.
+    /// Errors: out of memory.
     pub fn new(alloc: A, torus: Torus, depth: u32, words: u32) -> Result<WakeFlags<A>, AllocError>
         requires some { 0 < depth }
         requires few { depth ≤ 8 }

@@ -75,7 +75,7 @@ fn give<A: Allocator>(
 /// Puts a line at the end of the script of tile `own`, which makes at most so many operations then, with
 /// room for the line's in the bank of tile `home`.
 ///
-/// Errors: `AllocError` where there is no memory; then nothing has changed.
+/// Errors: out of memory; then nothing has changed.
 pub fn put_line<A: Allocator>(
     tiles: &mut Vec<TileAgents<A>, A>,
     own: usize,

@@ -65,7 +65,7 @@ fn ports_at(torus: &Torus, index: u32) -> PortEnds
 
 /// The routers' ends of the channel of each place of the row, for channels of this depth, 1 to 8.
 ///
-/// Errors: `AllocError` where there is no memory.
+/// Errors: out of memory.
 pub(crate) fn all_ports<A: Allocator + Copy>(
     alloc: A,
     torus: &Torus,

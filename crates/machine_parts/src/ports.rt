@@ -45,7 +45,7 @@ impl<A: Allocator + Copy> RouterFlags<A> {
     /// The flags of a machine that has made no step, with channels of this depth, 1 to 8, and so many
     /// words, at most 65536: all choices count as awake, and no latch as full.
     ///
-    /// Errors: `AllocError` where there is no memory; no other call takes any.
+    /// Errors: out of memory.
     pub fn new(alloc: A, torus: Torus, depth: u32, words: u32) -> Result<RouterFlags<A>, AllocError>
         requires some { 0 < depth }
         requires few { depth ≤ 8 }

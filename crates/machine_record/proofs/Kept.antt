@@ -28,7 +28,7 @@ pub ends_full : {A : Type 0} (a : Action) (old : Record A) → (is_narrow a ≡ 
 ends_full a old (inl wide) = ends_wide a (Some old) wide
 ends_full a old (inr full) = inr (inr (subst (λ (n : ℕ). vec_capacity old.actions ≤ n) old.actions.ok.0 full), refl)
 
--- the same of a line
+-- what is kept of a line that a processor was handed, where there is no record: nothing
 pub keeps_no_row : (A : Type 0) (p : ℕ) (line : ScriptLine) → KeepsRowWithin {A = A} p line None None
 keeps_no_row A p line = inr (tt, refl)
 

@@ -18,7 +18,7 @@ pub record Recorded : Type 0 where
   pub kept : Option Recording
   pub room : Room
 
--- the same machine with the same record; only the room may be another
+-- two machines are alike and have one record; only the room may be another
 pub record AreAlikeMachines (v w : Recorded) : Type 0 where
   pub asked : v.asked ≡ w.asked
   pub kept : v.kept ≡ w.kept
@@ -73,7 +73,7 @@ KeepsRow p line old room new after =
     (HasLineNumber old × (new ≡ option_map (with_row p line) old) × HasNoLessRoom room after)
     ⊎ (EndsAtLine old room × (new ≡ None))
 
--- the same of a machine
+-- a machine keeps an action in its record, where it keeps one, or the record ends there
 abbrev pub KeepsRecord : Action → Recorded → Recorded → Type 0
 KeepsRecord a old new = KeepsAction a old.kept old.room new.kept new.room
 

@@ -59,7 +59,8 @@ record_sized bs machine scripts rows actions = record {
   actions = actions_from bs (actions_place machine scripts rows) actions;
 }
 
--- the same, or, where there are more or fewer bytes, the place where one of the two ends
+-- the record of bytes whose head says these lengths and numbers; or, where there are more or fewer
+-- bytes than these ask for, the place where one of the two ends
 abbrev pub record_headed : List ℕ → ℕ → ℕ → ℕ → ℕ → Result Recording ℕ
 record_headed bs machine scripts rows actions =
     if bytes_asked machine scripts rows actions == length bs

@@ -52,7 +52,7 @@ clocked_rounds_made v count = asked_in v (core_after v.core (clocked_rounds v.co
 abbrev pub with_line : Asked → ℕ → ScriptLine → Asked
 with_line v p line = record { core = handed v.core p line; spins = spins_with v.spins p line }
 
--- the same, where it takes the line
+-- a machine that was handed a line, unless there is a fault for which the line is refused
 abbrev pub if_taken : Option Fault → Asked → Option Asked
 if_taken None v = Some v
 if_taken (Some why) v = None

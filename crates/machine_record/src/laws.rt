@@ -28,7 +28,7 @@ pub fn rows_are_read_back()
         → line_of_row (row_of_line p line) ≡ Some line }
 {}
 
-/// The same bytes make one machine: in the same state, with the same record.
+/// Bytes make one machine: all that are restored from them are in one state, with one record.
 pub fn bytes_make_one_machine()
     ensures { (bs : List ℕ) (v w : Recorded) → IsRestored bs v → IsRestored bs w → AreAlikeMachines v w }
 {}

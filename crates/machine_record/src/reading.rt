@@ -121,7 +121,7 @@ fn record_sized<A: Allocator + Copy>(
     })
 }
 
-/// The same, where there are as many bytes as the head says.
+/// The record of bytes whose head says these lengths and numbers, where there are as many bytes as it says.
 fn record_headed<A: Allocator + Copy>(
     alloc: A,
     bytes: &[u8],

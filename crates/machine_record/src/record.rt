@@ -33,7 +33,7 @@ pub fn begun<A: Allocator + Copy>(
     })
 }
 
-/// The same record once more.
+/// A copy of a record.
 pub fn copied<A: Allocator + Copy, B: Allocator>(
     alloc: A,
     kept: &Record<B>,

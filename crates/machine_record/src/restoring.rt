@@ -98,7 +98,8 @@ impl<A: Allocator + Copy> RecordedMachine<A> {
         }
     }
 
-    /// The same machine once more, with the same record: its record is done again. `None` where it keeps none.
+    /// A copy of the machine and of its record, made by doing again what is recorded. `None` where the
+    /// machine keeps no record.
     ///
     /// Errors: out of memory.
     pub fn cloned(&self, alloc: A) -> Result<Option<RecordedMachine<A>>, AllocError>

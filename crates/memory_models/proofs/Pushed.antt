@@ -37,7 +37,7 @@ pushed_arcs rules ops writes edges e are is = record {
       ]);
 }
 
--- the same, if it is wanted
+-- an edge that is pushed, if it is wanted, extends the edges
 pub if_extends : (wanted : Bool) (e : Edge) (old new : List Edge) → new ≡ pushed_if wanted e old → ExtendsEdges old new
 if_extends true e old new same = subst (λ z. ExtendsEdges old z) (sym same) (pushed_extends old e)
 if_extends false e old new same = λ number rises. subst (λ z. RisesOnEdges z number) same rises

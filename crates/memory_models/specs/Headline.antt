@@ -31,7 +31,8 @@ IsBufferVerdict ops writes (Cycle steps) =
     AreAround total_store_order ops writes steps.items
     × ((made left : ℕ → ℕ) → IsBufferRun ops writes made left → ⊥)
 
--- the same, with a buffer for each processor and each word
+-- an order of effects of which there is a run of the machine with a buffer for each processor and
+-- each word, or there is no run at all
 abbrev pub IsWordBufferVerdict : {A : Type 0} → List Operation → List ℕ → Verdict A → Type 0
 IsWordBufferVerdict ops writes (Ordered turns) =
     IsPermutationBelow (length ops) turns.items

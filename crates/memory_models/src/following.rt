@@ -23,7 +23,7 @@ fn comes(rule: Rule, operations: &[Operation], x: usize, next: usize) -> bool
 /// Arcs that make the operations rise which a rule keeps in order: from each to the next one behind
 /// it.
 ///
-/// Errors: memory.
+/// Errors: out of memory.
 fn follow_arcs<A: Allocator + Copy>(
     alloc: A,
     rules: &[Rule],
@@ -68,7 +68,7 @@ pub fn is_chained(rule: Rule) -> bool
 
 /// Arcs for a rule of either shape.
 ///
-/// Errors: memory.
+/// Errors: out of memory.
 pub fn either_arcs<A: Allocator + Copy>(
     alloc: A,
     rules: &[Rule],

@@ -52,7 +52,7 @@ const FENCES: Kinds = Kinds {
 /// Judges whether a trace is one of a single memory, each processor's operations in its program's
 /// order: the order, or steps around, and then there is none.
 ///
-/// Errors: memory, and no other.
+/// Errors: out of memory, and no other.
 pub fn judge_sequential<A: Allocator + Copy>(
     alloc: A,
     operations: &[Operation],
@@ -73,7 +73,7 @@ pub fn judge_sequential<A: Allocator + Copy>(
 /// Judges whether a trace is one of a memory with a buffer of stores for each processor: the order
 /// in which its operations took effect, or steps around, and then there is no run of that machine.
 ///
-/// Errors: memory, and no other.
+/// Errors: out of memory, and no other.
 pub fn judge_total_store_order<A: Allocator + Copy>(
     alloc: A,
     operations: &[Operation],
@@ -102,7 +102,7 @@ pub fn judge_total_store_order<A: Allocator + Copy>(
 /// word: the order in which its operations took effect, or steps around, and then there is no run of
 /// that machine.
 ///
-/// Errors: memory, and no other.
+/// Errors: out of memory, and no other.
 pub fn judge_partial_store_order<A: Allocator + Copy>(
     alloc: A,
     operations: &[Operation],
@@ -130,7 +130,7 @@ pub fn judge_partial_store_order<A: Allocator + Copy>(
 /// Judges whether a trace is, word by word, one of a single memory: one order that is so for each word
 /// alone, or steps around, and then some word has no such order.
 ///
-/// Errors: memory, and no other.
+/// Errors: out of memory, and no other.
 pub fn judge_coherent<A: Allocator + Copy>(
     alloc: A,
     operations: &[Operation],

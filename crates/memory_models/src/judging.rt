@@ -15,7 +15,7 @@ use std::alloc::{AllocError, Allocator};
 
 /// The steps of a cycle of edges.
 ///
-/// Errors: memory.
+/// Errors: out of memory.
 fn steps_of<A: Allocator + Copy>(
     alloc: A,
     edges: &[Edge],
@@ -39,7 +39,7 @@ fn steps_of<A: Allocator + Copy>(
 /// turn of each operation in one order that explains the trace, or operations that come each before
 /// the next around a circle, and then there is no such order.
 ///
-/// Errors: memory, and no other.
+/// Errors: out of memory, and no other.
 pub fn judge<A: Allocator + Copy>(
     alloc: A,
     rules: &[Rule],

@@ -29,7 +29,7 @@ pub fn writes_rule() -> Rule
 
 /// Puts an edge behind the others, if it is wanted.
 ///
-/// Errors: memory.
+/// Errors: out of memory.
 pub fn push_if<A: Allocator + Copy>(
     edges: &mut Vec<Edge, A>,
     wanted: bool,
@@ -62,7 +62,7 @@ fn follows(rule: Rule, operations: &[Operation], last: usize, y: usize) -> bool
 
 /// Arcs that make the operations rise which a rule keeps in order: to each the last one before it.
 ///
-/// Errors: memory.
+/// Errors: out of memory.
 pub fn rule_arcs<A: Allocator + Copy>(
     alloc: A,
     rules: &[Rule],
@@ -106,7 +106,7 @@ fn is_stale(operations: &[Operation], last: usize, y: usize) -> bool
 
 /// Arcs onto loads that read an older write than their processor had made itself.
 ///
-/// Errors: memory.
+/// Errors: out of memory.
 pub fn stale_arcs<A: Allocator + Copy>(
     alloc: A,
     rules: &[Rule],

@@ -14,7 +14,7 @@ use std::alloc::{AllocError, Allocator};
 
 /// Arcs for all rules of a model, and for the writes on one word.
 ///
-/// Errors: memory.
+/// Errors: out of memory.
 pub fn program_arcs<A: Allocator + Copy>(
     alloc: A,
     rules: &[Rule],

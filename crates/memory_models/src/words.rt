@@ -62,7 +62,7 @@ fn is_overwritten(operations: &[Operation], writes: &[usize], next: usize, y: us
 /// Arcs from what each load read, if that isn't its processor's own before it, and to the write
 /// that follows.
 ///
-/// Errors: memory.
+/// Errors: out of memory.
 pub fn word_arcs<A: Allocator + Copy>(
     operations: &[Operation],
     writes: &[usize],

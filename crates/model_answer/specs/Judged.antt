@@ -29,7 +29,7 @@ pub record AreVerdicts {A : Type 0} (ops : List Operation) (writes : List ℕ) (
     pub by_tso : IsModelVerdict total_store_order ops writes v.tso
     pub by_sc : IsModelVerdict sequential ops writes v.sc
 
--- an answer tells whether there is an order by some rules
+-- an answer says whether there is an order by some rules
 pub record TellsOrder (rules : List Rule) (ops : List Operation) (writes : List ℕ) (b : Bool) :
     Type 0
   where

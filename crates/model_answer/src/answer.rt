@@ -68,7 +68,7 @@ fn put_asked<A: Allocator + Copy>(
 
 /// What is printed of the verdicts on a trace.
 ///
-/// Errors: memory.
+/// Errors: out of memory.
 fn text_of<A: Allocator + Copy>(
     alloc: A,
     trace: &LogTrace<A>,
@@ -91,7 +91,7 @@ fn text_of<A: Allocator + Copy>(
 
 /// The answer on a trace.
 ///
-/// Errors: memory.
+/// Errors: out of memory.
 fn answer_on<A: Allocator + Copy>(
     alloc: A,
     trace: &LogTrace<A>,
@@ -112,7 +112,7 @@ fn answer_on<A: Allocator + Copy>(
 /// Which memory models a log obeys, weakest first; a short cycle of the weakest that it breaks; and, if
 /// that is asked, an order of the strongest that it obeys.
 ///
-/// Errors: a reply that isn't what its operation does to its word, or memory.
+/// Errors: a reply that isn't what its operation does to its word, or out of memory.
 pub fn answer_to_log<A: Allocator + Copy>(
     alloc: A,
     log: &Log<A>,
@@ -135,10 +135,10 @@ pub fn answer_to_log<A: Allocator + Copy>(
     }
 }
 
-/// The same of the log that a text is.
+/// Which memory models the log that a text is obeys, as `answer_to_log` says it.
 ///
 /// Errors: where and why the text is no log, a reply that isn't what its operation does to its word,
-/// or memory.
+/// or out of memory.
 pub fn model_answer<A: Allocator + Copy>(
     alloc: A,
     log: &[u8],

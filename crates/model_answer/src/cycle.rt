@@ -24,7 +24,7 @@ use std::alloc::{AllocError, Allocator};
 
 /// The reason of each step of a cycle.
 ///
-/// Errors: memory.
+/// Errors: out of memory.
 fn whys_of<A: Allocator + Copy>(
     alloc: A,
     rules: &[Rule],
@@ -176,7 +176,7 @@ fn put_cycle_of<A: Allocator + Copy>(
 
 /// Adds the cycle of the weakest model that a trace breaks; nothing where it obeys each.
 ///
-/// Errors: memory.
+/// Errors: out of memory.
 pub(crate) fn put_failing<A: Allocator + Copy>(
     alloc: A,
     text: &mut Vec<u8, A>,

@@ -35,7 +35,7 @@ pub struct Obeys {
 
 /// Judges a trace by a model.
 ///
-/// Errors: memory, and no other.
+/// Errors: out of memory, and no other.
 fn judge_by<A: Allocator + Copy>(
     alloc: A,
     model: MemoryModel,
@@ -55,7 +55,7 @@ fn judge_by<A: Allocator + Copy>(
 
 /// Judges a trace by each model.
 ///
-/// Errors: memory, and no other.
+/// Errors: out of memory, and no other.
 pub fn verdicts_of<A: Allocator + Copy>(
     alloc: A,
     trace: &LogTrace<A>,

@@ -102,7 +102,7 @@ impl MemoryModel {
 
     /// The rules of the model.
     ///
-    /// Errors: memory.
+    /// Errors: out of memory.
     pub fn rules<A: Allocator>(self, alloc: A) -> Result<Vec<Rule, A>, AllocError>
         ensures { IfOk result (λ rules. rules.items ≡ rules_of_model self) }
     {

@@ -55,7 +55,7 @@ fn put_order_line<A: Allocator>(
 
 /// Adds the operations by their turns, behind so many opening stores.
 ///
-/// Errors: memory.
+/// Errors: out of memory.
 pub fn put_order<A: Allocator + Copy>(
     alloc: A,
     text: &mut Vec<u8, A>,
@@ -75,7 +75,7 @@ pub fn put_order<A: Allocator + Copy>(
 
 /// Adds the line before an order.
 ///
-/// Errors: memory.
+/// Errors: out of memory.
 pub fn put_heading<A: Allocator>(
     text: &mut Vec<u8, A>,
     model: MemoryModel,
@@ -112,7 +112,7 @@ fn put_verdict_of<A: Allocator + Copy>(
 /// Adds the order of the strongest model that a trace obeys, behind its heading; nothing where it
 /// obeys none.
 ///
-/// Errors: memory.
+/// Errors: out of memory.
 pub(crate) fn put_strongest<A: Allocator + Copy>(
     alloc: A,
     text: &mut Vec<u8, A>,

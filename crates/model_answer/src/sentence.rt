@@ -7,7 +7,7 @@ use std::fmt;
 use trace_lines::LineReason;
 use trace_lines::wording::{behind_keyword, common_text, last_address, place_of};
 
-/// Why a log is refused, as a reader is told: the name of the text, the line, the words that stand
+/// Why a log is refused, as a reader sees it: the name of the text, the line, the words that stand
 /// there, and what may stand there: `log.txt:3: wrote 0 1: the operation is a load, which writes nothing`.
 #[derive(Clone, Copy)]
 pub struct LogSentence<'a> {

@@ -194,7 +194,7 @@ fn sought<A: Allocator + Copy>(
 /// A cycle that is no longer than one that was found, as short as the search through its operations
 /// finds.
 ///
-/// Errors: memory.
+/// Errors: out of memory.
 pub(crate) fn short_cycle<A: Allocator + Copy>(
     alloc: A,
     rules: &[Rule],

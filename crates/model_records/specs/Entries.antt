@@ -22,7 +22,7 @@ use Rattle.model_records.specs.declared.entry.LogEntry.TheVariants as entry
 use Rattle.model_records.specs.declared.entry.LineEntry.{LineEntry}
 use Rattle.model_records.specs.declared.entry.Named.{Named}
 
--- the number that a reply tells; none for `ok`
+-- the number that a reply carries; none for `ok`
 abbrev pub reply_told : Reply → Option ℕ
 reply_told Stored = None
 reply_told (Old word) = Some word

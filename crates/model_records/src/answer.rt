@@ -17,7 +17,7 @@ use std::alloc::Allocator;
 /// `model_answer` says it of a text: an entry's number, from 1, stands for its line.
 ///
 /// Errors: which entry is refused first and why, a reply that isn't what its operation does to its
-/// word, or memory.
+/// word, or out of memory.
 pub fn answer_to_entries<A: Allocator + Copy>(
     alloc: A,
     words: u64,
@@ -37,10 +37,11 @@ pub fn answer_to_entries<A: Allocator + Copy>(
     }
 }
 
-/// The same of the log that records are: a record's number, from 1, stands for its line.
+/// Which memory models the log that records are obeys, over a memory of so many words, as `model_answer`
+/// says it of a text: a record's number, from 1, stands for its line.
 ///
 /// Errors: which record is refused first and why, a reply that isn't what its operation does to its
-/// word, or memory.
+/// word, or out of memory.
 pub fn answer_to_records<A: Allocator + Copy>(
     alloc: A,
     words: u64,
@@ -60,10 +61,11 @@ pub fn answer_to_records<A: Allocator + Copy>(
     }
 }
 
-/// The same of the log that entries of a text are, each with its line.
+/// Which memory models the log that entries of a text are obeys, each entry with its line, over a memory of
+/// so many words, as `model_answer` says it.
 ///
 /// Errors: the line of the first entry that is refused and why, a reply that isn't what its operation does
-/// to its word, or memory.
+/// to its word, or out of memory.
 pub fn answer_to_lines<A: Allocator + Copy>(
     alloc: A,
     words: u64,

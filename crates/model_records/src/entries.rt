@@ -33,7 +33,7 @@ pub(crate) fn begin<A: Allocator + Copy>(log: &mut Log<A>, words: u64) -> Result
 /// The log that entries are, over a memory of so many words, 1 to 2^32.
 ///
 /// Errors: the number of the first entry that is refused, from 1, and why; 0 where the number of words
-/// is, or memory.
+/// is, or out of memory.
 pub fn log_of_entries<A: Allocator + Copy>(
     alloc: A,
     words: u64,

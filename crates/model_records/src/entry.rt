@@ -51,7 +51,7 @@ pub struct LineEntry {
     pub entry: LogEntry,
 }
 
-/// The number that a reply tells; none for `ok`.
+/// The number that a reply carries; none for `ok`.
 fn reply_told(reply: Reply) -> Option<u128>
     ensures { result ≡ reply_told reply }
 {

@@ -24,7 +24,7 @@ fn line_at(entries: &[LineEntry], place: usize) -> LineEntry
 /// The log that the entries of a text are, over a memory of so many words, 1 to 2^32.
 ///
 /// Errors: the line of the first entry that is refused, and why; 0 where the number of words is, or
-/// memory.
+/// out of memory.
 pub fn log_of_lines<A: Allocator + Copy>(
     alloc: A,
     words: u64,

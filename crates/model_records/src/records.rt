@@ -41,7 +41,7 @@ fn take_record<A: Allocator + Copy>(
 /// The log that records are, over a memory of so many words, 1 to 2^32.
 ///
 /// Errors: the number of the first record that is refused, from 1, and why; 0 where the number of words
-/// is, or memory.
+/// is, or out of memory.
 pub fn log_of_records<A: Allocator + Copy>(
     alloc: A,
     words: u64,

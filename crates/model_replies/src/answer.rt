@@ -51,7 +51,7 @@ pub enum NoValueAnswer {
 
 /// The answer that has these verdicts.
 ///
-/// Errors: memory.
+/// Errors: out of memory.
 fn answer_of<A: Allocator + Copy>(
     alloc: A,
     values: &ValuedLog<A>,
@@ -93,7 +93,7 @@ fn no_answer(steps: &[Logged], why: Unsaid) -> NoValueAnswer
 /// Which memory models a log obeys by its operations and their replies alone, weakest first; and, if that
 /// is asked, an order of the strongest that it obeys.
 ///
-/// Errors: two writes that leave the same in one word, a reply that no write left, or memory.
+/// Errors: two writes that leave the same in one word, a reply that no write left, or out of memory.
 pub fn answer_to_values<A: Allocator + Copy>(
     alloc: A,
     log: &Log<A>,
@@ -121,10 +121,11 @@ pub fn answer_to_values<A: Allocator + Copy>(
     }
 }
 
-/// The same of the log that a text is.
+/// Which memory models the log that a text is obeys by its operations and their replies alone, as
+/// `answer_to_values` says it.
 ///
 /// Errors: where and why the text is no log or lacks a reply, two writes that leave the same in one word,
-/// a reply that no write left, or memory.
+/// a reply that no write left, or out of memory.
 pub fn value_answer<A: Allocator + Copy>(
     alloc: A,
     text: &[u8],

@@ -33,7 +33,7 @@ pub enum Unsaid {
 
 /// The verdict of a model, by a search of at most so many nodes.
 ///
-/// Errors: why no model is asked, or memory.
+/// Errors: why no model is asked, or out of memory.
 fn verdict_of<A: Allocator + Copy>(
     alloc: A,
     model: MemoryModel,
@@ -57,7 +57,7 @@ fn verdict_of<A: Allocator + Copy>(
 
 /// The verdict of each model, by searches of at most so many nodes each.
 ///
-/// Errors: why no model is asked, or memory.
+/// Errors: why no model is asked, or out of memory.
 pub fn verdicts_of_values<A: Allocator + Copy>(
     alloc: A,
     valued: &Valued,

@@ -116,7 +116,7 @@ fn put_order_by<A: Allocator + Copy>(
 
 /// What is printed of the verdicts, by searches of at most so many nodes.
 ///
-/// Errors: memory.
+/// Errors: out of memory.
 pub(crate) fn text_of<A: Allocator + Copy>(
     alloc: A,
     nodes: usize,

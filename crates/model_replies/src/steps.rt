@@ -72,7 +72,7 @@ fn unplaced(processor: usize, step: Logged) -> Operation
 
 /// Adds the opening stores.
 ///
-/// Errors: memory.
+/// Errors: out of memory.
 fn push_openings<A: Allocator>(
     log: &Log<A>,
     steps: &mut Vec<Logged, A>,
@@ -95,7 +95,7 @@ fn push_openings<A: Allocator>(
 
 /// Adds the operations of the log.
 ///
-/// Errors: memory.
+/// Errors: out of memory.
 fn push_made<A: Allocator>(
     log: &Log<A>,
     numbers: &[usize],
@@ -117,7 +117,7 @@ fn push_made<A: Allocator>(
 
 /// The words that operations left.
 ///
-/// Errors: memory.
+/// Errors: out of memory.
 fn words_left<A: Allocator>(alloc: A, steps: &[Logged]) -> Result<Vec<u64, A>, AllocError>
     ensures { IfOk result (λ words. words.items ≡ map left_word steps.now) }
 {
@@ -130,7 +130,7 @@ fn words_left<A: Allocator>(alloc: A, steps: &[Logged]) -> Result<Vec<u64, A>, A
 
 /// The words that operations found.
 ///
-/// Errors: memory.
+/// Errors: out of memory.
 fn words_found<A: Allocator>(alloc: A, steps: &[Logged]) -> Result<Vec<u64, A>, AllocError>
     ensures { IfOk result (λ words. words.items ≡ map found_word steps.now) }
 {
@@ -143,7 +143,7 @@ fn words_found<A: Allocator>(alloc: A, steps: &[Logged]) -> Result<Vec<u64, A>, 
 
 /// The operations of a log, with the words that they left and found.
 ///
-/// Errors: memory.
+/// Errors: out of memory.
 pub fn values_of_log<A: Allocator + Copy>(
     alloc: A,
     log: &Log<A>,

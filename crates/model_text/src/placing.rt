@@ -16,7 +16,7 @@ fn set_place(places: &mut [usize], x: usize, place: usize)
 
 /// The first places in a list of the numbers below a limit; the list's length where it has none.
 ///
-/// Errors: memory.
+/// Errors: out of memory.
 pub fn places_in<A: Allocator>(
     alloc: A,
     list: &[usize],

@@ -91,7 +91,7 @@ fn trace_spot<A: Allocator>(log: &Log<A>, numbers: &[usize], places: &[usize], n
 
 /// Adds the writes of a word: its opening store, then those of the `wrote` lines.
 ///
-/// Errors: memory.
+/// Errors: out of memory.
 fn push_writes<A: Allocator + Copy>(
     log: &Log<A>,
     numbers: &[usize],
@@ -115,7 +115,7 @@ fn push_writes<A: Allocator + Copy>(
 
 /// The writes of all words.
 ///
-/// Errors: memory.
+/// Errors: out of memory.
 fn writes_of_log<A: Allocator + Copy>(
     alloc: A,
     log: &Log<A>,
@@ -155,7 +155,7 @@ fn source_spot<A: Allocator>(
 
 /// Adds the opening stores.
 ///
-/// Errors: memory.
+/// Errors: out of memory.
 fn push_openings<A: Allocator + Copy>(
     log: &Log<A>,
     writes: &[usize],
@@ -214,7 +214,7 @@ fn operation_of_log<A: Allocator>(
 
 /// Adds the operations of the log.
 ///
-/// Errors: memory.
+/// Errors: out of memory.
 fn push_operations<A: Allocator + Copy>(
     log: &Log<A>,
     numbers: &[usize],
@@ -244,7 +244,7 @@ fn push_operations<A: Allocator + Copy>(
 
 /// What stands at each place of the trace of a log.
 ///
-/// Errors: memory.
+/// Errors: out of memory.
 fn filled<A: Allocator + Copy>(alloc: A, log: &Log<A>) -> Result<LogTrace<A>, AllocError>
     ensures { IfOk result (TellsLog (log_so_far log.now)) }
 {
@@ -275,7 +275,7 @@ fn filled<A: Allocator + Copy>(alloc: A, log: &Log<A>) -> Result<LogTrace<A>, Al
 
 /// The trace of a log.
 ///
-/// Errors: memory.
+/// Errors: out of memory.
 pub fn trace_of_log<A: Allocator + Copy>(alloc: A, log: &Log<A>) -> Result<LogTrace<A>, AllocError>
     ensures { IfOk result (IsTraceOfLog (log_so_far log.now)) }
 {

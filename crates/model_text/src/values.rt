@@ -40,7 +40,7 @@ pub fn op_of_step(operation: Option<Asked>) -> Op
 
 /// The words that the first writes leave, for each number of them.
 ///
-/// Errors: memory.
+/// Errors: out of memory.
 fn words_left<A: Allocator>(
     alloc: A,
     steps: &[Logged],
@@ -163,7 +163,7 @@ fn wrong_reply<A: Allocator>(trace: &LogTrace<A>, words: &[u64], x: usize) -> Op
 /// its operation does to the word that it finds. A load finds what its source left, and a write what the
 /// one before it in its word's order left. `None` where each reply is due.
 ///
-/// Errors: memory.
+/// Errors: out of memory.
 pub fn replies_of<A: Allocator + Copy>(
     alloc: A,
     trace: &LogTrace<A>,

@@ -52,7 +52,7 @@ pub no_order : (q : Unordered) (table : List ℕ) (level : ℕ) (mine : List Ope
 no_order q table level mine written settled placed listed not turn order agrees =
     not turn (settled_is q.rules.now q.operations.now q.sources.now q.words q.openings turn table level order agrees settled mine written placed listed).1
 
--- the same of lists that are these
+-- no order agrees with a table, where the lists that were judged are its operations and its writes
 pub leaf_placing : (q : Unordered) (table : List ℕ) (level : ℕ) (mine : List Operation) (written : List ℕ) (m0 m1 : List Operation) (w1 : List ℕ) (count : ℕ)
     → m0 ≡ mine → count ≡ count_below (writes_at q.operations.now) (length q.operations.now) → m1 ≡ mine → w1 ≡ written
     → AreSettled q.operations.now table level → ArePlacedBy q.operations.now q.sources.now table level mine

@@ -28,7 +28,7 @@ pub enum ValuedVerdict<A: Allocator = Global> {
 /// order does so, or `Undecided`, or why the words don't show who wrote what was found. A search looks at
 /// `nodes` tables at most. With `None` it looks at as many as it takes, and is never `Undecided`.
 ///
-/// Errors: memory, and no other.
+/// Errors: out of memory, and no other.
 pub fn judge_valued<A: Allocator + Copy>(
     alloc: A,
     rules: &[Rule],

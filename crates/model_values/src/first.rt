@@ -108,7 +108,7 @@ fn squared(size: usize) -> Option<usize>
 
 /// A table of all pairs of operations, with what is known before anything is concluded.
 ///
-/// Errors: memory.
+/// Errors: out of memory.
 pub(crate) fn first_table<A: Allocator + Copy>(
     alloc: A,
     question: &Unordered,

@@ -89,7 +89,7 @@ pub(crate) enum Looked<A: Allocator> {
 
 /// What a table gives where the order of each word's writes is known.
 ///
-/// Errors: memory.
+/// Errors: out of memory.
 fn leaf<A: Allocator + Copy>(
     alloc: A,
     question: &Unordered,
@@ -121,7 +121,7 @@ fn leaf<A: Allocator + Copy>(
 
 /// Notes what follows from a table, and says what it gives.
 ///
-/// Errors: memory.
+/// Errors: out of memory.
 fn look<A: Allocator + Copy>(
     alloc: A,
     question: &Unordered,
@@ -148,7 +148,7 @@ fn look<A: Allocator + Copy>(
 
 /// Goes on to the first side of a split, at the next level.
 ///
-/// Errors: memory.
+/// Errors: out of memory.
 fn split<A: Allocator>(
     table: &mut [usize],
     size: usize,
@@ -214,7 +214,7 @@ fn spend(left: &mut Option<usize>) -> bool
 /// The answer on a table that every order agrees with. Where two writes are in no known order, the
 /// search first assumes the one way round, at the next level, and then the other.
 ///
-/// Errors: memory.
+/// Errors: out of memory.
 fn search<A: Allocator + Copy>(
     alloc: A,
     question: &Unordered,
@@ -252,7 +252,7 @@ fn search<A: Allocator + Copy>(
 /// `Undecided`. The search looks at `nodes` tables of what is known at most. With `None` it looks at as
 /// many as it takes, and is never `Undecided`.
 ///
-/// Errors: memory, and no other.
+/// Errors: out of memory, and no other.
 pub fn judge_unordered<A: Allocator + Copy>(
     alloc: A,
     question: &Unordered,

@@ -142,7 +142,7 @@ fn source_at(valued: &Valued, x: usize) -> Option<usize>
 /// The sources of loads and atomics; or two writes that left the same in one word; or an operation that
 /// found what no write of its word left.
 ///
-/// Errors: memory.
+/// Errors: out of memory.
 pub fn sources_by_values<A: Allocator + Copy>(
     alloc: A,
     valued: &Valued,

@@ -17,7 +17,7 @@ impl<A: Allocator> Processor<A> {
     /// those issued, those that the script still allows, and the line's. A spin has loads, and a
     /// `last` an operation before it. No other call takes memory.
     ///
-    /// Errors: `AllocError` where there is no memory; then nothing has changed.
+    /// Errors: out of memory; then nothing has changed.
     pub fn append(&mut self, line: Line, room: usize) -> Result<(), AllocError>
         requires loads { (a v m : ℕ) → line ≡ Line.Spin a v m → 0 < m }
         requires last { mentions_last line ≡ true

@@ -64,7 +64,7 @@ impl<A: Allocator> Model for Processor<A> {
     ghost invariant = { IsProcessor };
 }
 
-/// The tag that a head flit tells.
+/// The tag that a head flit carries.
 pub(crate) fn tag_told(head: u64) -> Tag
     ensures { result.0 ≡ field head 41 4 }
 {
@@ -77,7 +77,7 @@ impl<A: Allocator + Copy> Processor<A> {
     /// and the script has at most 4096 operations. The places of each channel stand in the row from
     /// its place among the channels times the depth on, and the words behind them.
     ///
-    /// Errors: `AllocError` where there is no room; the steps take none.
+    /// Errors: out of memory.
     pub fn new(
         alloc: A,
         torus: &Torus,

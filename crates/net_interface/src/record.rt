@@ -149,7 +149,7 @@ impl<A: Allocator> Record<A> {
     /// Puts a line at the end of the script, with room for so many operations in all, at most 65536. A
     /// spin has loads, and a `last` an operation before it.
     ///
-    /// Errors: `AllocError` where there is no memory; then nothing has changed.
+    /// Errors: out of memory; then nothing has changed.
     pub(crate) fn append(&mut self, line: Line, room: usize) -> Result<(), AllocError>
         requires loads { (a v m : ℕ) → line ≡ Line.Spin a v m → 0 < m }
         requires last { mentions_last line ≡ true

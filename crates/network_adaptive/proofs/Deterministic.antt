@@ -61,7 +61,7 @@ module _ (m : Net) (net : IsNet m) where
       } in
       (goes j x y (comes_on j x a.comes) s).rises
 
--- the same events may happen
+-- an event that may happen in a network of fixed routes may occur in it as an adaptive one
 pub same_events : (m : Net) (ls : ℕ → NetLine) (e : NetEvent) → events.CanHappen m ls e → CanOccur (deterministic m) ls e
 same_events m ls (InjectHead x k) c = c
 same_events m ls (InjectRest x flit more) c = c

@@ -156,7 +156,7 @@ module _ (count : ℕ) (choices : List ℕ) (start : ℕ) (shut : List Bool) whe
     fewer = h.fewer;
   })
 
--- the same flags
+-- what HasMore says of flags, by another name of the flags and of whether they changed
 pub as_more : (test : ℕ → Bool) (old seen new : List Bool) (changed after : Bool) → new ≡ seen → after ≡ changed → HasMore test old seen changed
     → HasMore test old new after
 as_more test old seen new changed after e f h =

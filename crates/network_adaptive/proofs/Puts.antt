@@ -213,7 +213,7 @@ module _ (kinds : List Kind) (choices : List ℕ) (base ways : ℕ) (marks seen 
       (λ m r. record { wait = r; low = (let l = up_inside seen r.from r.comes in omega arith) })
       p
 
--- the same flags
+-- what HasPut says of flags, by another name of the flags
 pub as_put : (P : ℕ → Type 0) (old seen new : List Bool) → new ≡ seen → HasPut P old seen → HasPut P old new
 as_put P old seen new e p = subst (λ (v : List Bool). HasPut P old v) (sym e) p
 

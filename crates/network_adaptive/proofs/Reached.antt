@@ -32,7 +32,7 @@ words_kept n s (AcceptHead x flit more) net w r c = words_accept_head n.frame s 
 words_kept n s (AcceptRest x flit more) net w r c = words_accept_rest n.frame s x flit more w c
 words_kept n s (Return x) net w r c = words_return n.frame s x w c
 
--- the same courses and stamps
+-- a state of which the courses and stamps of another one are tracks has tracks
 same : (n : AdaptiveNet) (s t : NetState) (r : HasTracks n s) → AreTracks n t r.course r.stamp r.now → HasTracks n t
 same n s t r are = record { course = r.course; stamp = r.stamp; now = r.now; are = are }
 

@@ -128,14 +128,14 @@ IsHow kinds joins replies choices ways marks none look (Over j over) =
 IsHow kinds joins replies choices ways marks none look (Replied z) =
     (length kinds ≤ look.column) × (z ≡ (reply_at replies (look.column - length kinds)).to)
 
--- the same of a channel and how it leads on
+-- a dependency has the channel of a look, and how that channel leads on in the column of the look
 pub record IsDependencyOf {A : Type 0} (kinds : List Kind) (joins : List Join)
     (replies : List Reply) (choices : List ℕ) (ways : ℕ) (marks none : List Bool) (look : Look)
     (edge : dependency.Dependency A) : Type 0 where
   pub channel : edge.channel ≡ look.node
   pub how : IsHow kinds joins replies choices ways marks none look edge.how
 
--- that of each place of a path
+-- the dependencies are those of the looks of a path, one for each
 pub record AreDependencies {A : Type 0} (kinds : List Kind) (joins : List Join)
     (replies : List Reply) (choices : List ℕ) (ways : ℕ) (marks none : List Bool)
     (looks : List Look) (edges : List (dependency.Dependency A)) : Type 0 where

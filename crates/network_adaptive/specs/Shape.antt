@@ -33,22 +33,23 @@ misfit_by_kind None j y = None
 abbrev pub misfit_of : List Kind → ℕ → ℕ → ℕ → Option Misfit
 misfit_of kinds x j y = if y == x then Some Itself else misfit_by_kind (slice_get kinds y) j y
 
--- the same of the choice at a place of the row of channel x, in the block that begins at `base`
+-- why the choice at a place of the row of channel x, in the block that begins at `base`, is none
+-- for packets to channel j
 abbrev pub misfit_at : List Kind → List ℕ → ℕ → ℕ → ℕ → ℕ → ℕ → Option Misfit
 misfit_at kinds choices base ways x j place =
     misfit_of kinds x j (slice_index choices (base + x * ways + place))
 
--- the first m places of a row have no such choice
+-- the first m places of a row have no choice that doesn't fit
 abbrev pub RowFits : List Kind → List ℕ → ℕ → ℕ → ℕ → ℕ → ℕ → Type 0
 RowFits kinds choices base ways x j m =
     (k : ℕ) → k < m → misfit_at kinds choices base ways x j k ≡ None
 
--- the first m rows of a block have none
+-- the first m rows of a block have no choice that doesn't fit
 abbrev pub BlockFits : List Kind → List ℕ → ℕ → ℕ → ℕ → ℕ → Type 0
 BlockFits kinds choices base ways j m =
     (z : ℕ) → z < m → RowFits kinds choices base ways z j ways
 
--- the first m blocks have none
+-- the first m blocks have no choice that doesn't fit
 abbrev pub ChoicesFit : List Kind → List ℕ → ℕ → ℕ → Type 0
 ChoicesFit kinds choices ways m =
     (i : ℕ) → i < m → BlockFits kinds choices (i * (length kinds * ways)) ways i (length kinds)
@@ -78,19 +79,19 @@ pub record IsFirstMisfit (kinds : List Kind) (choices : List ℕ) (ways : ℕ) (
   pub in_block : IsMisfitInBlock kinds choices (c.to * (length kinds * ways)) ways c.to c
   pub before : ChoicesFit kinds choices ways c.to
 
--- why no packets can go between the ends of a pair, if so
+-- why no packets can go from the source to the destination of a pair, if so
 abbrev pub pair_fault : List Kind → Join → Option Why
 pair_fault kinds pair =
     if not (is_sender (slice_get kinds pair.from)) then Some NoSender
     else (if not (is_receiver (slice_get kinds pair.to)) then Some NoReceiver
     else None)
 
--- the first m pairs have the right ends
+-- the first m source-destination pairs have ends of the right kinds
 abbrev pub PairsFit : List Kind → List Join → ℕ → Type 0
 PairsFit kinds joins m =
     (p : ℕ) → p < m → pair_fault kinds (join_at (table_of kinds joins []) p) ≡ None
 
--- the first pair that hasn't
+-- the first source-destination pair with an end of the wrong kind, and why packets can't go there
 pub record IsFirstWrongPair (kinds : List Kind) (joins : List Join) (r : no_route.NoRoute) : Type 0
   where
     pub place : ℕ

@@ -74,7 +74,8 @@ pub record GoesRoundAt (kinds : List Kind) (joins : List Join) (choices : List �
   pub way : Path (step_to kinds choices ways none j) x last
   pub back : step_to kinds choices ways none j last x ≡ true
 
--- the same as IsTravel, told by steps
+-- how far packets travel, by steps over lists: numbers rise over each step, and packets go over so
+-- many channels at most; or packets can go round
 abbrev pub IsTravelOf : List Kind → List Join → List ℕ → ℕ → List Bool → Travel → Type 0
 IsTravelOf kinds joins choices ways none (Bounded most) =
     ((j : ℕ) → j < length kinds → HasNumbersTo kinds joins choices ways none j)

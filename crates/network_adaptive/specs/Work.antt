@@ -6,8 +6,8 @@ use Rattle.wormhole.specs.Events.{NetEvent, InjectHead}
 use Rattle.wormhole.specs.Weight.{sum_below}
 use Rattle.network_adaptive.specs.Choices.{AdaptiveNet, Comes, IsChoice}
 
--- each choice brings packets nearer to their ejection channel (Duato 1993: minimal routing), or
--- the choices for each destination have no cycle
+-- each choice brings packets nearer to their ejection channel (Duato 1993: minimal routing), or the
+-- choices for each destination are acyclic
 abbrev pub AreNearer : AdaptiveNet → (ℕ → ℕ → ℕ) → Type 0
 AreNearer n far = (j x y : ℕ) → Comes n j x → IsChoice n j x y → far y j < far x j
 

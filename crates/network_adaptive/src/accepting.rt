@@ -16,7 +16,7 @@ use std::alloc::{AllocError, Allocator, Global};
 /// What is judged of any lists.
 #[derive(Drop)]
 pub enum JudgedNet<A: Allocator = Global> {
-    /// The first pair that packets can't go between: one of its ends is no such channel.
+    /// The first source-destination pair that packets can't go between: one of its ends is no such channel.
     WrongPair(NoRoute),
     /// The first choice that can't stand.
     WrongChoice(NoChoice),
@@ -24,7 +24,7 @@ pub enum JudgedNet<A: Allocator = Global> {
     Judged(Verdict<A>),
 }
 
-/// Why packets can't go between the ends of a pair.
+/// Why packets can't go from the source to the destination of a pair.
 fn pair_fault(kinds: &[Kind], pair: Join) -> Option<Why>
     ensures { result ≡ pair_fault kinds.now pair }
 {
@@ -37,7 +37,7 @@ fn pair_fault(kinds: &[Kind], pair: Join) -> Option<Why>
     None
 }
 
-/// The first pair that packets can't go between.
+/// The first source-destination pair that packets can't go between.
 pub fn first_wrong_pair(kinds: &[Kind], joins: &[Join]) -> Option<NoRoute>
     ensures { MatchOption result (PairsFit kinds.now joins.now (length joins.now))
         (IsFirstWrongPair kinds.now joins.now) }
@@ -54,7 +54,7 @@ pub fn first_wrong_pair(kinds: &[Kind], joins: &[Join]) -> Option<NoRoute>
 
 /// Flags of the escapes, and of the injection and ejection channels.
 ///
-/// Errors: memory.
+/// Errors: out of memory.
 pub fn marks_of<A: Allocator + Copy>(
     alloc: A,
     kinds: &[Kind],
@@ -74,7 +74,7 @@ pub fn marks_of<A: Allocator + Copy>(
 
 /// Judges lists as `judge` does, whatever pairs and choices they have.
 ///
-/// Errors: memory, and no other.
+/// Errors: out of memory, and no other.
 pub fn judge_lists<A: Allocator + Copy>(
     alloc: A,
     kinds: &[Kind],

@@ -1,4 +1,4 @@
-//! Laws of adaptive networks: they never lock up, packets come whole and once, work is bounded.
+//! Laws of adaptive networks: they never deadlock, packets come whole and once, work is bounded.
 
 ghost use Rattle.std.specs.Prelude.{◌≡◌, ◌⊎◌, ℕ, ◌+◌, ◌<◌, ◌≤◌, Bool, true, false, List, length};
 ghost use Rattle.std.specs.Prelude.{sum_by, All};
@@ -37,7 +37,7 @@ pub fn events_keep_words_and_tracks()
 {}
 
 /// With an escape for each packet wherever it comes, and numbers that rise over each extended
-/// dependency and over each answer, the network never locks up: in every state that events lead
+/// dependency and over each answer, the network never deadlocks: in every state that events lead
 /// to something can move, or all channels are quiet. Whatever follows from each possible move
 /// holds, or no flit stands anywhere; a channel that isn't quiet gives a move. Of choices that
 /// are no escapes nothing is asked.

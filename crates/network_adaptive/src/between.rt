@@ -54,7 +54,7 @@ fn is_among(
 /// Whether packets go on from a channel, over none that is shut, to one behind which another is a
 /// choice.
 ///
-/// Errors: memory.
+/// Errors: out of memory.
 pub fn leads_to_wait<A: Allocator + Copy>(
     alloc: A,
     kinds: &[Kind],
@@ -77,7 +77,7 @@ pub fn leads_to_wait<A: Allocator + Copy>(
 /// The first choice behind a channel, but of those that are shut, from which packets go on to one
 /// behind which another is a choice.
 ///
-/// Errors: memory.
+/// Errors: out of memory.
 fn step_toward<A: Allocator + Copy>(
     alloc: A,
     kinds: &[Kind],
@@ -111,7 +111,7 @@ fn step_toward<A: Allocator + Copy>(
 
 /// The flags, with one more that is up.
 ///
-/// Errors: memory.
+/// Errors: out of memory.
 fn with_flag<A: Allocator + Copy>(
     alloc: A,
     flags: &[bool],
@@ -129,7 +129,7 @@ fn with_flag<A: Allocator + Copy>(
 /// Over which channels, none of them marked, packets go on from a channel to one behind which another
 /// is a choice.
 ///
-/// Errors: memory.
+/// Errors: out of memory.
 pub fn way_between<A: Allocator + Copy>(
     alloc: A,
     kinds: &[Kind],

@@ -28,7 +28,7 @@ fn begin(count: usize, joins: &[Join], to: usize, seen: &mut [bool])
 
 /// Flags of the channels that packets to a channel come to.
 ///
-/// Errors: memory.
+/// Errors: out of memory.
 pub fn comes_to<A: Allocator + Copy>(
     alloc: A,
     kinds: &[Kind],
@@ -55,7 +55,7 @@ pub fn comes_to<A: Allocator + Copy>(
 
 /// Flags of the channels that packets come to from a channel, by choices that aren't marked.
 ///
-/// Errors: memory.
+/// Errors: out of memory.
 pub fn behind<A: Allocator + Copy>(
     alloc: A,
     kinds: &[Kind],

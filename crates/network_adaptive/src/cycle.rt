@@ -17,7 +17,7 @@ use std::alloc::{AllocError, Allocator};
 /// How a packet that holds a channel comes to wait for another: the first channel that such a packet
 /// goes to, and over which channels it goes.
 ///
-/// Errors: memory.
+/// Errors: out of memory.
 fn how_it_waits<A: Allocator + Copy>(
     alloc: A,
     kinds: &[Kind],
@@ -55,7 +55,7 @@ fn how_it_waits<A: Allocator + Copy>(
 
 /// A channel of a search, and how it leads on in its column.
 ///
-/// Errors: memory.
+/// Errors: out of memory.
 fn dependency_of<A: Allocator + Copy>(
     alloc: A,
     kinds: &[Kind],
@@ -103,7 +103,7 @@ fn dependency_of<A: Allocator + Copy>(
 
 /// Each channel of a path, and how it leads on in its column.
 ///
-/// Errors: memory.
+/// Errors: out of memory.
 pub fn dependencies_of<A: Allocator + Copy>(
     alloc: A,
     kinds: &[Kind],

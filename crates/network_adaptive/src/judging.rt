@@ -15,13 +15,12 @@ use network_judge::{Join, Kind, Reply};
 use rising::{Searched, find};
 use std::alloc::{AllocError, Allocator};
 
-/// Judges a network by its lists: the kind of each channel, the pairs that packets go between, on
-/// which injection channels packets from an ejection channel are answered, the routers' choices,
-/// and which channels are escapes. The choices have a block for each channel as destination, in
-/// it a row for each channel, and in it so many places: a number that is no channel's is no
-/// choice.
+/// Judges a network by its lists: the kind of each channel, the source-destination pairs that packets go
+/// between, on which injection channels packets from an ejection channel are answered, the routers'
+/// choices, and which channels are escapes. The choices have a block for each channel as destination, in it
+/// a row for each channel, and in it so many places: a number that is no channel's is no choice.
 ///
-/// Errors: memory, and no other.
+/// Errors: out of memory, and no other.
 pub fn judge<A: Allocator + Copy>(
     alloc: A,
     kinds: &[Kind],

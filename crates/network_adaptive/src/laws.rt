@@ -25,7 +25,7 @@ ghost use Rattle.network_adaptive.specs.Between.{WaitsOver, IsCycleBy, dependenc
 
 use std::alloc::Allocator;
 
-/// A network that is judged to be rising never locks up: a channel that isn't quiet gives a move,
+/// A network that is judged to be rising never deadlocks: a channel that isn't quiet gives a move,
 /// and where nothing can move, all packets that were sent have come whole. And always what is
 /// whole was sent to where it is, and no more often.
 pub fn rising_networks_never_lock_up<A: Allocator>()

@@ -13,7 +13,7 @@ use std::alloc::{AllocError, Allocator};
 
 /// The node with each number.
 ///
-/// Errors: memory.
+/// Errors: out of memory.
 fn order_of<A: Allocator + Copy>(alloc: A, numbers: &[usize]) -> Result<Vec<usize, A>, AllocError>
     requires { IsPermutationBelow (length numbers.now) numbers.now }
     ensures { IfOk result (λ order. IsOrderByNumber numbers.now order.items) }
@@ -52,7 +52,7 @@ fn far_from<'a>(graph: &Choices<'a>, far: &[usize], x: usize) -> usize
 /// How many channels packets go over from each channel on at most, it counted, by the numbers of a
 /// search.
 ///
-/// Errors: memory.
+/// Errors: out of memory.
 pub fn farthest<'a, A: Allocator + Copy>(
     alloc: A,
     graph: &Choices<'a>,

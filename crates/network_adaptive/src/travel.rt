@@ -16,7 +16,7 @@ use std::alloc::{AllocError, Allocator};
 /// Finds the first destination whose packets can go round, and a channel that they can come back to:
 /// or there is none, and finds how many channels packets go over at most.
 ///
-/// Errors: memory.
+/// Errors: out of memory.
 pub fn travel_of<A: Allocator + Copy>(
     alloc: A,
     kinds: &[Kind],

@@ -28,7 +28,7 @@ pub enum Travel {
     /// Packets go over so many channels at most, from their injection channel to their ejection channel,
     /// and some packet may go over so many; 0 where there are no packets.
     Bounded(usize),
-    /// Packets can go round: they never lock up, but nothing bounds how far they go.
+    /// Packets can go round: they never deadlock, but nothing bounds how far they go.
     Round(Round),
 }
 

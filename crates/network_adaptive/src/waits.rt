@@ -74,7 +74,7 @@ fn row_of(
 
 /// Raises the flags of what packets wait for which hold a channel whose flag is up.
 ///
-/// Errors: memory.
+/// Errors: out of memory.
 pub fn rows_of<A: Allocator + Copy>(
     alloc: A,
     kinds: &[Kind],
@@ -117,7 +117,7 @@ pub fn rows_of<A: Allocator + Copy>(
 /// Raises the flags of what packets wait for, those of all destinations, or finds the first
 /// channel without an escape.
 ///
-/// Errors: memory.
+/// Errors: out of memory.
 pub fn waits_of<A: Allocator + Copy>(
     alloc: A,
     kinds: &[Kind],

@@ -130,7 +130,7 @@ routing_by (Err w) (Err v) = Err v
 abbrev pub routing_or_why : List (List ℕ) → Result Routing (Refusal NetworkReason)
 routing_or_why lines = routing_by (network_or_why lines) (choosing_or_why lines)
 
--- the same, with the fault of a refusal in place of its reason
+-- the network of a text, given as the list of its lines, or the fault and the line of its refusal
 abbrev pub routing_of : List (List ℕ) → Result Routing LineFault
 routing_of lines = by_fault network_fault_of (routing_or_why lines)
 

@@ -48,7 +48,7 @@ fn judgement_rises<A: Allocator>(judged: &JudgedNet<A>) -> bool
 
 /// Judges a network whose routers choose, and makes the text of what is judged.
 ///
-/// Errors: memory.
+/// Errors: out of memory.
 fn answered_choosing<A: Allocator + Copy>(
     alloc: A,
     network: Choosing<A>,

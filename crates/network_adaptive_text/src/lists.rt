@@ -15,7 +15,7 @@ use std::alloc::{AllocError, Allocator, Global};
 pub struct Lists<A: Allocator = Global> {
     /// The kind of each channel.
     pub kinds: Vec<Kind, A>,
-    /// The pairs that packets go between.
+    /// The source-destination pairs that packets go between.
     pub joins: Vec<Join, A>,
     /// Which packets are answered where.
     pub replies: Vec<Reply, A>,
@@ -29,7 +29,7 @@ pub struct Lists<A: Allocator = Global> {
 
 /// The lists of the network of a text.
 ///
-/// Errors: memory.
+/// Errors: out of memory.
 pub fn lists_of<A: Allocator + Copy>(alloc: A, network: Choosing<A>) -> Result<Lists<A>, AllocError>
     requires read { IsChoosingRead network }
     requires begun { network.fixed.begun ≡ true }
@@ -53,7 +53,7 @@ pub fn lists_of<A: Allocator + Copy>(alloc: A, network: Choosing<A>) -> Result<L
 
 /// Judges a network by its lists.
 ///
-/// Errors: memory.
+/// Errors: out of memory.
 pub fn judged_by<A: Allocator + Copy>(
     alloc: A,
     lists: &Lists<A>,

@@ -152,7 +152,7 @@ fn put_verdict<A: Allocator>(out: &mut Vec<u8, A>, v: &Verdict<A>) -> Result<(),
 
 /// The text of what is judged.
 ///
-/// Errors: memory.
+/// Errors: out of memory.
 pub fn judgement_text<A: Allocator + Copy>(
     alloc: A,
     judged: &JudgedNet<A>,

@@ -59,7 +59,7 @@ impl<A: Allocator + Copy> Choosing<A> {
     /// The choices: a block for each channel as destination, in it a row for each channel, and in it a
     /// place for each choice.
     ///
-    /// Errors: memory.
+    /// Errors: out of memory.
     pub(crate) fn choices(&self, alloc: A) -> Result<Vec<u32, A>, AllocError>
         requires read { IsChoosingRead self.now }
         requires begun { self.now.fixed.begun ≡ true }
@@ -84,7 +84,7 @@ impl<A: Allocator + Copy> Choosing<A> {
 
     /// Flags of the escapes.
     ///
-    /// Errors: memory.
+    /// Errors: out of memory.
     pub(crate) fn escape_flags(&self, alloc: A) -> Result<Vec<bool, A>, AllocError>
         requires read { IsChoosingRead self.now }
         ensures { IfOk result (λ v. AreEscapesOf (choosing_text_of self.now) v.items) }

@@ -1,4 +1,4 @@
--- Cycles lock up, and rising numbers don't.
+-- A network with a cycle can deadlock, and one with rising numbers can't.
 use Rattle.std.proofs.Common.{⊎_elim, ℕ, suc, ◌<◌, ◌∷◌, List, slice_index, refl, arith}
 use Rattle.wormhole.specs.Events.{after_all}
 use Rattle.wormhole.specs.State.{empty}

@@ -1,4 +1,4 @@
--- A ring of three routers that locks up, and what is no jam of it.
+-- A ring of three routers that can deadlock, and what is no jam of it.
 use Rattle.std.proofs.Common.{◌≡◌, ℕ, zero, suc, ◌<◌, ◌≤◌, false, true, List, [], ◌∷◌, Some, refl, arith}
 use Rattle.std.proofs.lemmas.List.Elements.{All-nil, All-cons, All-head, All-tail}
 use Rattle.wormhole.specs.Net.{Net}
@@ -100,7 +100,7 @@ ring_has_a_jam = record {
       (All-cons (WaitsForFilled ring [] all_three) at_2 [] waits_2 (All-nil (WaitsForFilled ring [] all_three))));
 }
 
--- so the ring locks up, with channels of any depth
+-- so the ring can deadlock, with channels of any depth
 ring_locks_up : (depth : ℕ) → 0 < depth → HasOneFlitPackets ring plain_format → LocksUp ring [] depth plain_format
 ring_locks_up depth deep tells = jams_lock ring [] all_three ring_has_a_jam depth plain_format deep tells
 
@@ -118,6 +118,6 @@ one_is_missing jam =
 empty_is_none : (t : Table) (replies : List Reply) → IsJam t replies [] → ⊥
 empty_is_none t replies jam = (let some = jam.some in absurd (omega arith))
 
--- a network in which nothing was sent isn't locked up
+-- a network in which nothing was sent isn't deadlocked
 nothing_sent : (n : Net) (replies : List Reply) → IsLockUp n replies [] → ⊥
 nothing_sent n replies locked = locked.stands refl

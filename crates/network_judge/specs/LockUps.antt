@@ -1,4 +1,4 @@
--- Networks that lock up: a run after which packets are under way, and nothing can go.
+-- Networks that can deadlock: a run after which packets are under way, and nothing can go.
 -- Dally and Towles, Principles and Practices of Interconnection Networks, 2004, chapter 14.
 use Rattle.std.specs.Prelude.{◌≡◌, ◌≢◌, ℕ, ◌<◌, ◌/◌, ◌%◌, ◌==◌, true, List, [], Some}
 use Rattle.wormhole.specs.Net.{Net}
@@ -22,7 +22,7 @@ pub record IsLockUp (n : Net) (replies : List Reply) (events : List NetEvent) : 
   pub here : stuck < n.channels
   pub stands : in_line ((after_all n (empty n) events).lines stuck) ≢ []
 
--- a network whose channels hold so many flits of this format locks up, whatever numbers its
+-- a network whose channels hold so many flits of this format can deadlock, whatever numbers its
 -- channels are given
 abbrev pub LocksUp : Table → List Reply → ℕ → Flits → Type 0
 LocksUp t replies depth flits = (number : ℕ → ℕ) (top : ℕ)
@@ -44,7 +44,7 @@ plain_format = record {
   told = λ w. w / 4;
 }
 
--- what a verdict means for lock-ups: with rising numbers there is none, with a cycle there is one
+-- what a verdict means for deadlocks: with rising numbers there is none, with a cycle there is one
 abbrev pub SettlesLockUps : {A : Type 0} → Table → List Reply → ℕ → Flits → Verdict A → Type 0
 SettlesLockUps t replies depth flits (Rising numbers) = LocksUp t replies depth flits → ⊥
 SettlesLockUps t replies depth flits (NoRoute r) = Unit {0}

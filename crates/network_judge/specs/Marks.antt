@@ -41,7 +41,7 @@ pub record Passes (t : Table) (x j : ℕ) : Type 0 where
   pub before : step < steps
   pub here : place t j from step ≡ x
 
--- packets to the ejection channel of this column do
+-- packets to the ejection channel of this column go through channel x and on
 pub record PassesIn (t : Table) (x c : ℕ) : Type 0 where
   pub to : ℕ
   pub column : column_of t to ≡ c

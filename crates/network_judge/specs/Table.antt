@@ -8,9 +8,9 @@ use Rattle.network_judge.specs.declared.table.Kind.{Kind}
 use Rattle.network_judge.specs.declared.table.Kind.TheVariants.{Injection, Hop, Ejection}
 use Rattle.network_judge.specs.declared.table.Join.{Join}
 
--- a network's tables: the kind of each channel, the pairs that packets go between, and the routers'
--- choices, which have
--- a row for each channel and in it a column for each ejection channel (this project's own format)
+-- a network's tables: the kind of each channel, the source-destination pairs that packets go
+-- between, and the routers' choices, which have a row for each channel and in it a column for each
+-- ejection channel (this project's own format)
 pub record Table : Type 0 where
   pub kinds : List Kind
   pub joins : List Join

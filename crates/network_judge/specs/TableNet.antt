@@ -5,7 +5,7 @@ use Rattle.network_judge.specs.Table.{is_receiver}
 use Rattle.network_judge.specs.Ways.{table_route}
 use Rattle.wormhole.specs.Net.{Net}
 
--- what flits tell: a head bit, a tail bit and, of a head flit, the ejection channel (Dally and
+-- what flits carry: a head bit, a tail bit and, of a head flit, the ejection channel (Dally and
 -- Towles, chapter 12)
 pub record Flits : Type 0 where
   pub is_head : ℕ → Bool

@@ -24,15 +24,15 @@ pub record IsNumbered (t : Table) (replies : List Reply) (numbers : List ℕ) : 
   pub above : RiseOver replies (slice_index numbers)
   pub net : (depth : ℕ) (flits : Flits) → IsNet (numbered t numbers depth flits)
 
--- the pair at a place of the list
+-- the source-destination pair at a place of the list
 abbrev pub join_at : Table → ℕ → Join
 join_at t p = slice_index_or t.joins p (record { from = 0; to = 0 })
 
--- the pair at this place has no route, and why
+-- the source-destination pair at this place has no route, and why
 abbrev pub FailsAt : Table → ℕ → Why → Type 0
 FailsAt t p why = FailsBy t (join_at t p).from (join_at t p).to why
 
--- a pair of the list without a route: the first one, and why
+-- the first source-destination pair of the list without a route, and why
 pub record IsFirstFault (t : Table) (r : no_route.NoRoute) : Type 0 where
   pub place : ℕ
   pub here : place < length t.joins

@@ -135,7 +135,7 @@ pub fn waits(
 /// Marks the channels of all items, the last first, if the walk of each is clear of those marked
 /// before; the channels, the last first.
 ///
-/// Errors: memory.
+/// Errors: out of memory.
 pub fn mark_all<A: Allocator + Copy>(
     alloc: A,
     kinds: &[Kind],
@@ -215,7 +215,7 @@ pub fn all_wait(
 
 /// Whether these items are a jam, in a network in which all walks arrive.
 ///
-/// Errors: memory.
+/// Errors: out of memory.
 pub fn is_jam<A: Allocator + Copy>(
     alloc: A,
     kinds: &[Kind],

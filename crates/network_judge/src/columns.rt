@@ -20,7 +20,7 @@ fn ejects(kind: Kind) -> bool
 
 /// The column of each channel: how many ejection channels come before it.
 ///
-/// Errors: memory.
+/// Errors: out of memory.
 pub fn columns_of<A: Allocator + Copy>(
     alloc: A,
     kinds: &[Kind],
@@ -40,7 +40,7 @@ pub fn columns_of<A: Allocator + Copy>(
 
 /// The ejection channel of each column.
 ///
-/// Errors: memory.
+/// Errors: out of memory.
 pub fn ends_of<A: Allocator + Copy>(alloc: A, kinds: &[Kind]) -> Result<Vec<usize, A>, AllocError>
     ensures { IfOk result (λ ends. AreColumnEnds kinds.now ends.items) }
 {

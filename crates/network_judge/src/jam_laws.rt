@@ -1,4 +1,4 @@
-//! Laws of networks that lock up, each the contract of a function that does nothing.
+//! Laws of networks that can deadlock, each the contract of a function that does nothing.
 
 ghost use Rattle.std.specs.Prelude.{ℕ, ◌<◌, List};
 ghost use Rattle.network_judge.specs.declared.table.Verdict.{Verdict};
@@ -17,21 +17,21 @@ ghost use Rattle.network_judge.specs.LockUps.{plain_format};
 
 use std::alloc::Allocator;
 
-/// A network with a jam locks up, whatever the depth of its channels.
+/// A network with a jam can deadlock, whatever the depth of its channels.
 pub fn jams_lock_up()
     ensures { (t : Table) (replies : List Reply) (fs : List Fill) → IsJam t replies fs
         → (depth : ℕ) (flits : Flits) → 0 < depth → HasOneFlitPackets t flits
         → LocksUp t replies depth flits }
 {}
 
-/// A network with rising numbers doesn't lock up.
+/// A network with rising numbers never deadlocks.
 pub fn rising_networks_never_lock_up()
     ensures { (t : Table) (replies : List Reply) (numbers : List ℕ) → AreReplies t replies
         → IsNumbered t replies numbers → (depth : ℕ) (flits : Flits) → 0 < depth
         → LocksUp t replies depth flits → ⊥ }
 {}
 
-/// A network with a cycle locks up.
+/// A network with a cycle can deadlock.
 pub fn cycles_lock_up()
     ensures jam { (t : Table) (replies : List Reply) (links : List Link) → AllArrive t
         → AreReplies t replies → IsCycle t replies links
@@ -42,9 +42,9 @@ pub fn cycles_lock_up()
         → LocksUp t replies depth flits }
 {}
 
-/// A network in which all walks arrive locks up only if it has a cycle: the other direction (Dally
-/// and Seitz). So a verdict of cycles says that the network locks up, and one of rising numbers
-/// that it doesn't.
+/// A network in which all walks arrive can deadlock only if it has a cycle: the other direction (Dally
+/// and Seitz). So a verdict of cycles says that the network can deadlock, and one of rising numbers that
+/// it is free of deadlock.
 pub fn lock_ups_have_cycles<A: Allocator>()
     ensures cycle { (t : Table) (replies : List Reply) → AllArrive t → AreReplies t replies
         → (depth : ℕ) (flits : Flits) → 0 < depth → LocksUp t replies depth flits

@@ -13,13 +13,13 @@ use crate::walk::trace_all;
 use rising::{Searched, find};
 use std::alloc::{AllocError, Allocator};
 
-/// Judges a network by its tables: the kind of each channel, the pairs that packets go between, and
-/// the routers' choices. These have a row for each channel, and in it a column for each ejection
-/// channel, both in channel order: the channel that comes next for packets which go there. A number
-/// that is no channel's stands for no choice. The replies say on which injection channels packets
+/// Judges a network by its tables: the kind of each channel, the source-destination pairs that packets go
+/// between, and the routers' choices. These have a row for each channel, and in it a column for each
+/// ejection channel, both in channel order: the channel that comes next for packets which go there. A
+/// number that is no channel's stands for no choice. The replies say on which injection channels packets
 /// from an ejection channel are answered.
 ///
-/// Errors: memory, and no other.
+/// Errors: out of memory, and no other.
 pub fn judge<A: Allocator + Copy>(
     alloc: A,
     kinds: &[Kind],

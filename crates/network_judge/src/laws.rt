@@ -56,9 +56,9 @@ pub fn verdicts_are_exact<A: Allocator, B: Allocator>()
         → (v : Verdict A) → IsVerdict t replies v → HasRisingNumbers v }
 {}
 
-/// Where all walks arrive there is a cycle, or there are numbers with which the table is a network
-/// and which rise over replies: so where there is no cycle there are numbers (Dally and Seitz, the other
-/// direction).
+/// Where all walks arrive there is a cycle, or there are numbers with which the table is a network and
+/// which rise over replies: so where dependencies and replies are acyclic there are numbers (Dally and
+/// Seitz, the other direction).
 pub fn tables_without_cycles_have_numbers()
     ensures { (t : Table) (replies : List Reply) → AreReplies t replies → AllArrive t
         → ((links : List Link) × IsCycle t replies links)

@@ -1,5 +1,6 @@
-//! Any wormhole network that is written down as a table, judged: numbers that rise, a pair without
-//! a route, or a cycle; and, for a cycle, channels filled with packets that wait for one another.
+//! Any wormhole network that is written down as a table, judged: numbers that rise, a source-destination
+//! pair without a route, or a cycle; and, for a cycle, channels filled with packets that wait for one
+//! another.
 #![tactic(auto)]
 
 pub mod check;

@@ -20,7 +20,7 @@ fn by_column(ends: &[usize], column: usize) -> By
 
 /// Each channel of a path, and how it leads on: to the ejection channel of its column, or by a reply.
 ///
-/// Errors: memory.
+/// Errors: out of memory.
 pub fn links_of<A: Allocator + Copy>(
     alloc: A,
     ends: &[usize],

@@ -13,7 +13,7 @@ ghost use Rattle.network_judge.specs.TableNet.{Flits, numbered};
 ghost use Rattle.network_judge.specs.Verdicts.{IsNumbered};
 ghost use Rattle.network_judge.specs.Receivers.{GoesWhere, MoveThere, AreEndsOfTiles};
 
-/// A judged network never locks up: in every state that events lead to something can move, or all
+/// A judged network never deadlocks: in every state that events lead to something can move, or all
 /// channels are quiet, if receivers take a flit wherever each channel on which they answer holds a
 /// credit. A channel that isn't quiet gives a move; and where nothing can move, all packets that were
 /// sent have come whole.

@@ -29,7 +29,7 @@ fn place_behind(count: usize, place: usize, further: usize) -> usize
 /// The spans around from that at place a, which begins at an earlier step, to that at place b,
 /// which ends before a step.
 ///
-/// Errors: memory.
+/// Errors: out of memory.
 fn turned<A: Allocator + Copy>(
     alloc: A,
     spans: &[Span],
@@ -59,7 +59,7 @@ fn turned<A: Allocator + Copy>(
 /// The spans once one of them begins earlier, where its packets pass another, which ends there; or
 /// none where packets pass none.
 ///
-/// Errors: memory.
+/// Errors: out of memory.
 fn sooner<A: Allocator + Copy>(
     alloc: A,
     kinds: &[Kind],
@@ -102,7 +102,7 @@ fn sooner<A: Allocator + Copy>(
 
 /// The spans of a cycle's links, if each has one.
 ///
-/// Errors: memory.
+/// Errors: out of memory.
 fn spans_of<A: Allocator + Copy>(
     alloc: A,
     kinds: &[Kind],
@@ -133,7 +133,7 @@ fn spans_of<A: Allocator + Copy>(
 
 /// The channels of the spans, each with its packets.
 ///
-/// Errors: memory.
+/// Errors: out of memory.
 fn items_of<A: Allocator + Copy>(alloc: A, spans: &[Span]) -> Result<Vec<Fill, A>, AllocError> {
     let mut items = Vec::new(alloc);
     for place in 0..spans.len() {
@@ -152,7 +152,7 @@ fn items_of<A: Allocator + Copy>(alloc: A, spans: &[Span]) -> Result<Vec<Fill, A
 /// A jam of a network with a cycle in which all walks arrive, if one is found: channels, the last
 /// to be filled first.
 ///
-/// Errors: memory.
+/// Errors: out of memory.
 pub fn find_jam<A: Allocator + Copy>(
     alloc: A,
     kinds: &[Kind],

@@ -48,7 +48,7 @@ pub enum Why {
     Round,
 }
 
-/// A pair that packets go between, without a route.
+/// A source-destination pair without a route.
 #[derive(Clone, Copy)]
 pub struct NoRoute {
     /// The pair.
@@ -80,7 +80,7 @@ pub struct Link {
 pub enum Verdict<A: Allocator = Global> {
     /// A number for each channel, in channel order: they rise along every route and over every reply.
     Rising(Vec<usize, A>),
-    /// The first pair without a route.
+    /// The first source-destination pair without a route.
     NoRoute(NoRoute),
     /// Channels that wait for one another in a cycle: each leads on to the next, and the last to the
     /// first.

@@ -55,7 +55,8 @@ pub fn cell(channels: usize, columns: usize, x: usize, column: usize) -> usize
     x * columns + column
 }
 
-/// Walks between the pair at this place, and marks each channel that packets go on from.
+/// Walks from the source to the destination of the pair at this place, and marks each channel that packets
+/// go on from.
 ///
 /// Errors: why the walk is no route.
 pub fn trace(
@@ -106,7 +107,7 @@ pub fn trace(
     Err(Why::Round)
 }
 
-/// Walks between all pairs, in their order, and marks what is passed.
+/// Walks between all source-destination pairs, in their order, and marks what is passed.
 ///
 /// Errors: the first pair without a route, and why.
 pub fn trace_all(

@@ -1,4 +1,4 @@
--- Runs, one move longer, and runs that end locked.
+-- Runs, one move longer, and runs that end deadlocked.
 use Rattle.std.proofs.Common.{◌≡◌, ℕ, zero, suc, arith, ◌≤◌, List, [], ◌∷◌, ◌++◌, length, take, refl, ap, subst}
 use Rattle.wormhole.specs.Net.{Net}
 use Rattle.wormhole.specs.State.{NetState, empty}

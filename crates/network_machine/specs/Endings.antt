@@ -1,4 +1,4 @@
--- How a run ends: locked, empty, or with a move that may still be made.
+-- How a run ends: deadlocked, empty, or with a move that may still be made.
 use Rattle.std.specs.Prelude.{◌≡◌, ◌≢◌, ℕ, ◌<◌, List, [], length, slice_index_or}
 use Rattle.wormhole.specs.Net.{Net}
 use Rattle.wormhole.specs.State.{NetLine, NetState, in_line}

@@ -15,7 +15,7 @@ pub record PacketsComeTo (t : Table) (x j : ℕ) : Type 0 where
   pub within : step ≤ steps
   pub here : place t j from step ≡ x
 
--- a flit at channel x: a head flit tells an ejection channel whose packets come there
+-- a flit at channel x: a head flit names an ejection channel whose packets come there
 abbrev pub HeadComesTo : Table → ℕ → ℕ → Type 0
 HeadComesTo t x flit = plain_format.is_head flit ≡ true → PacketsComeTo t x (plain_format.told flit)
 

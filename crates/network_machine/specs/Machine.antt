@@ -40,7 +40,7 @@ pub record IsOpenedNetwork (t : Table) (answers : List Reply) (depth : ℕ) (m :
     pub replies : m.replies ≡ answers
     pub shows : (number : ℕ → ℕ) (top : ℕ) → ShowsNetwork m (empty (plain_network t number top depth))
 
--- the same table and replies
+-- two machines have one table and one list of replies
 pub record SameTables (old new : NetworkMachineSpec) : Type 0 where
   pub table : new.table ≡ old.table
   pub replies : new.replies ≡ old.replies

@@ -1,4 +1,4 @@
--- Which pairs packets go between, in a row of cells for each channel.
+-- Which source-destination pairs packets go between, in a row of cells for each channel.
 use Rattle.std.specs.Prelude.{◌≡◌, ℕ, ◌<◌, ◌==◌, ◌&&◌, Bool, true, false, List, [], map, Vec, length}
 use Rattle.std.specs.Prelude.{slice_index_or, slice_set}
 use Rattle.std.specs.List.{list_any}

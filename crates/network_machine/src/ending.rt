@@ -46,7 +46,7 @@ impl<'a, A: Allocator> Machine<'a, A> {
         None
     }
 
-    /// How a run that led here ends: locked, empty, or with the first move that may still be made
+    /// How a run that led here ends: deadlocked, empty, or with the first move that may still be made
     /// without a new packet.
     pub fn ending(&self) -> Ending
         ensures { IsEnding self.now result }

@@ -18,7 +18,7 @@ pub fn is_tail(flit: u64) -> bool
     flit % 2 == 1
 }
 
-/// The ejection channel that a head flit tells, below 2^62.
+/// The ejection channel that a head flit names, below 2^62.
 pub fn told(flit: u64) -> usize
     ensures { result ≡ plain_format.told flit }
 {

@@ -12,7 +12,7 @@ use crate::machine::Machine;
 use crate::moves::Move;
 use std::alloc::Allocator;
 
-/// Which moves what stands at a channel alone lets be made.
+/// Which kinds of moves of a channel may be possible, by the state of that channel alone.
 #[derive(Clone, Copy)]
 pub struct Lets {
     /// Its sender goes on with a packet.
@@ -27,7 +27,7 @@ pub struct Lets {
     pub credit: bool,
 }
 
-/// Which moves what stands at a channel alone lets be made.
+/// Which kinds of moves of a channel may be possible, by the state of that channel alone.
 fn lets_of(channel: &Channel) -> Lets
     ensures { LetsMoves channel.now result }
 {
@@ -42,8 +42,8 @@ fn lets_of(channel: &Channel) -> Lets
 }
 
 impl<'a, A: Allocator> Machine<'a, A> {
-    /// Which moves what stands at a channel alone lets be made: it keeps the others from being
-    /// made.
+    /// Which kinds of moves of a channel may be possible, by the state of that channel alone: a move of any
+    /// other kind can't be made.
     pub fn lets(&self, x: usize) -> Lets
         requires { x < length self.now.channels }
         ensures { (of : Move) → move_channel of ≡ x → is_let result of ≡ false

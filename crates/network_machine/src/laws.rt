@@ -10,8 +10,8 @@ ghost use Rattle.network_machine.specs.Machine.{NetworkMachineSpec};
 ghost use Rattle.network_machine.specs.Runs.{Runs};
 ghost use Rattle.network_machine.specs.Endings.{IsLocked};
 
-/// A run from the empty network that ends locked is a lock-up: its moves are events that all can
-/// happen, and after them flits stand and nothing goes.
+/// A run from the empty network that ends locked is a deadlock: its moves are events that all can happen,
+/// and after them flits stand and nothing goes.
 pub fn locked_runs_are_lock_ups()
     ensures { (n : Net) (m : NetworkMachineSpec) (moves : List Move) (s : NetState)
         → Runs n m.replies (empty n) moves s → IsLocked m n s

@@ -1,5 +1,5 @@
 //! The network of a table as a machine: moves of flits and credits, one at a time, none of which
-//! takes memory; and whether it is locked, empty, or may still go on.
+//! takes memory; and whether it is deadlocked, empty, or may still go on.
 #![tactic(auto)]
 
 mod attempt;

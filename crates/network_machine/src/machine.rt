@@ -47,7 +47,7 @@ impl<'a, A: Allocator + Copy> Machine<'a, A> {
     /// The network of these tables, with no flit in it; a channel holds 1 to 8 flits. Of all calls
     /// this one alone takes memory.
     ///
-    /// Errors: memory.
+    /// Errors: out of memory.
     pub fn open(
         alloc: A,
         kinds: &'a [Kind],

@@ -23,7 +23,7 @@ fn empty_channel(depth: u64) -> Channel
 
 /// So many of them.
 ///
-/// Errors: memory.
+/// Errors: out of memory.
 pub(crate) fn empty_channels<A: Allocator + Copy>(
     alloc: A,
     count: usize,

@@ -1,4 +1,5 @@
-//! Which pairs packets go between, in a row for each channel, so that none is looked for among all pairs.
+//! Which source-destination pairs packets go between, in a row for each channel, so that none is looked for
+//! among all pairs.
 
 ghost use Rattle.std.specs.Prelude.{◌≡◌, IfOk, IfSome, false, true, slice_set, length, replicate};
 ghost use Rattle.network_machine.specs.Pairs.{cells_of, cell_marked, TellsPair, ArePairs, NoPairs};
@@ -7,7 +8,7 @@ use network_judge::walk::{is_sender, kind_at};
 use network_judge::{Join, Kind};
 use std::alloc::{AllocError, Allocator};
 
-/// Whether packets go between a pair, if it has a cell.
+/// Whether packets go from the source to the destination of a pair, if it has a cell.
 pub(crate) fn pair_at<A: Allocator>(rows: &[Vec<bool, A>], x: usize, y: usize) -> Option<bool>
     ensures { IfSome result (TellsPair (cells_of rows.now) x y) }
 {
@@ -58,7 +59,7 @@ fn cells_for(kind: Option<Kind>, channels: usize) -> usize {
 
 /// So many cells without a mark.
 ///
-/// Errors: memory.
+/// Errors: out of memory.
 fn empty_row<A: Allocator + Copy>(alloc: A, cells: usize) -> Result<Vec<bool, A>, AllocError>
     ensures { IfOk result (λ row. row.items ≡ replicate cells false) }
 {
@@ -67,7 +68,7 @@ fn empty_row<A: Allocator + Copy>(alloc: A, cells: usize) -> Result<Vec<bool, A>
 
 /// Rows without a mark.
 ///
-/// Errors: memory.
+/// Errors: out of memory.
 fn empty_rows<A: Allocator + Copy>(
     alloc: A,
     kinds: &[Kind],
@@ -84,7 +85,7 @@ fn empty_rows<A: Allocator + Copy>(
 
 /// The rows of some pairs.
 ///
-/// Errors: memory.
+/// Errors: out of memory.
 pub(crate) fn rows_of<A: Allocator + Copy>(
     alloc: A,
     kinds: &[Kind],

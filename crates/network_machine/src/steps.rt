@@ -157,7 +157,8 @@ fn forward_at(
     true
 }
 
-/// The same, with what is known of the channels that inputs own.
+/// The flit in the latch behind channel x goes into channel y, as in `forward_at`, and what is known of the
+/// channel that input x owns is kept right.
 pub(crate) fn forward_known(
     channels: &mut [Channel],
     known: &mut [Owned],

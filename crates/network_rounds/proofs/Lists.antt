@@ -67,7 +67,7 @@ makes_one a b x before later made is = record { added = x ∷ []; attempts = inl
 pub misses_one : (a b : NetworkMachineSpec) (x : Move) (before later : List Move) → Prevents a x → b ≡ a → later ≡ before → AddsMade a b (x ∷ []) before later
 misses_one a b x before later hinders same is = record { added = []; attempts = inr (hinders, (same, refl)); is = is ∙ sym (append-nil before) }
 
--- the same tables, from one machine over another to a third
+-- tables that stay from one machine to another, and from that to a third, stay from the first to the third
 pub same_over : (a b c : NetworkMachineSpec) → SameTables a b → SameTables b c → SameTables a c
 same_over a b c h k = record { table = k.table ∙ h.table; replies = k.replies ∙ h.replies }
 

@@ -130,7 +130,7 @@ simulates_next queues groups old between new begun flits begun_later flits_later
         ∙ ap (λ (ms : List Move). ms ++ turned_groups (length rounds) groups)
         (same_dues (queue_at queues) (slice_index begun) (λ x. begun_in x rounds) (length rounds + 1) (length queues) h.simulation.senders)
 
--- the same, of what a round writes into a list
+-- a simulation goes on by a round whose moves are the first of a list that the round writes into
 pub simulates_more : {A B : Type 0} (queues : List (Vec Timed A)) (groups : List (Vec Move B)) (old between new : NetworkMachineSpec)
     (begun flits begun_later flits_later : List ℕ) (count room most many : ℕ) (made : List Move) (h : Simulates queues groups old between begun flits count room)
     → count < most → most < 2 ^ 32 → room < 2 ^ 31 → many ≤ length made → length made ≡ room → length begun ≡ length queues

@@ -71,7 +71,7 @@ fn add_choice<A: Allocator>(
 
 /// The choices of a part, by channels.
 ///
-/// Errors: memory.
+/// Errors: out of memory.
 fn group_of<A: Allocator + Copy>(
     alloc: A,
     kinds: &[Kind],
@@ -90,7 +90,7 @@ fn group_of<A: Allocator + Copy>(
 
 /// The parts of a round, with so many routers.
 ///
-/// Errors: memory.
+/// Errors: out of memory.
 fn parts_of<A: Allocator + Copy>(alloc: A, routers: usize) -> Result<Vec<Part, A>, AllocError>
     ensures { IfOk result (λ parts. parts.items ≡ parts_of routers) }
 {
@@ -122,7 +122,7 @@ fn push_group<A: Allocator>(
 /// The choices of all channels, in the order of a round, with so many routers; `routers` has the number
 /// of the router behind each channel.
 ///
-/// Errors: memory.
+/// Errors: out of memory.
 pub fn groups_of<A: Allocator + Copy>(
     alloc: A,
     kinds: &[Kind],

@@ -117,7 +117,7 @@ fn note_groups<B: Allocator>(places: &mut [Places], groups: &[Vec<Move, B>]) -> 
 impl<A: Allocator + Copy> Flags<A> {
     /// The flags of the choices of some groups, all of them up.
     ///
-    /// Errors: memory.
+    /// Errors: out of memory.
     pub fn open(alloc: A, channels: usize, groups: &[Vec<Move, A>]) -> Result<Flags<A>, AllocError>
         requires few { sum_by (λ group. length group.items) groups.now < 2 ^ 31 }
         ensures { IfOk result (λ f. (m : NetworkMachineSpec) → length m.channels ≡ channels

@@ -32,7 +32,7 @@ impl<A: Allocator + Copy> Traffic<A> {
 
     /// Adds the packet of a line.
     ///
-    /// Errors: memory.
+    /// Errors: out of memory.
     fn push(&mut self, number: u64, timed: Timed) -> Result<(), AllocError>
         requires { HasTrafficLines (traffic_spec self.old) }
         ensures value { OnOk result

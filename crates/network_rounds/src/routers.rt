@@ -90,7 +90,7 @@ fn note_channel(
 
 /// The numbers from 0 on.
 ///
-/// Errors: memory.
+/// Errors: out of memory.
 fn own_numbers<A: Allocator + Copy>(alloc: A, count: usize) -> Result<Vec<usize, A>, AllocError>
     ensures size { IfOk result (λ numbers. length numbers.items ≡ count) }
     ensures own { IfOk result (λ numbers. (x : ℕ) → x < count → slice_index numbers.items x ≡ x) }
@@ -104,7 +104,7 @@ fn own_numbers<A: Allocator + Copy>(alloc: A, count: usize) -> Result<Vec<usize,
 
 /// No channel for each of so many.
 ///
-/// Errors: memory.
+/// Errors: out of memory.
 fn no_firsts<A: Allocator + Copy>(
     alloc: A,
     count: usize,
@@ -122,7 +122,7 @@ fn no_firsts<A: Allocator + Copy>(
 /// A number for each channel, the same for two channels exactly if they lead to one router: if behind
 /// both, or over others, the same channel may be chosen.
 ///
-/// Errors: memory.
+/// Errors: out of memory.
 pub fn routers_of<A: Allocator + Copy>(
     alloc: A,
     kinds: &[Kind],

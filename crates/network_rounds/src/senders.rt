@@ -74,7 +74,7 @@ pub fn due_packets<A: Allocator>(
 
 /// No packets for each of so many channels.
 ///
-/// Errors: memory.
+/// Errors: out of memory.
 fn no_queues<A: Allocator + Copy>(
     alloc: A,
     channels: usize,
@@ -91,7 +91,7 @@ fn no_queues<A: Allocator + Copy>(
 
 /// Adds a packet behind those of its sender, if it is there.
 ///
-/// Errors: memory.
+/// Errors: out of memory.
 fn add_packet<A: Allocator>(queues: &mut [Vec<Timed, A>], timed: Timed) -> Result<(), AllocError>
     ensures { OnOk result ((traffic : List Timed) (channels : ℕ)
         → map (λ queue. queue.items) queues.old ≡ map (queue_of traffic) (range_with_len 0 channels)
@@ -107,7 +107,7 @@ fn add_packet<A: Allocator>(queues: &mut [Vec<Timed, A>], timed: Timed) -> Resul
 
 /// The packets of all senders: a queue for each channel.
 ///
-/// Errors: memory.
+/// Errors: out of memory.
 pub fn queues_of<A: Allocator + Copy>(
     alloc: A,
     traffic: &[Timed],
@@ -125,7 +125,7 @@ pub fn queues_of<A: Allocator + Copy>(
 
 /// The senders that have packets, in rising order.
 ///
-/// Errors: memory.
+/// Errors: out of memory.
 pub fn senders_of<A: Allocator + Copy>(
     alloc: A,
     queues: &[Vec<Timed, A>],

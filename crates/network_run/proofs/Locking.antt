@@ -1,4 +1,4 @@
--- Runs that end locked lock a network up.
+-- Runs that end locked are deadlocks of their network.
 use Rattle.std.proofs.Common.{◌≡◌, ◌≢◌, ℕ, ◌<◌, List, [], ◌∷◌, map, refl, sym, ◌∙◌, ap, subst}
 use Rattle.wormhole.specs.Net.{Net}
 use Rattle.wormhole.specs.State.{NetState, empty, in_line}
@@ -72,7 +72,7 @@ still_in a b same ends number top depth s shows =
     subst (λ (t : Table). StandsStill a.replies (plain_network t number top depth) s) same.table
     (subst (λ (rs : List Reply). StandsStill rs (plain_network b.table number top depth) s) same.replies at))
 
--- a run from the empty network that ends locked
+-- a run from the empty network that ends deadlocked
 pub locked_by : (n : NetworkSpec) (depth : ℕ) (moves : List Move) (a b : NetworkMachineSpec) → IsOpenedNetwork n.table n.replies depth a → RunsTo a b moves
     → SameTables a b → IsEnding b Locked → MovesLockUp n depth moves
 locked_by n depth moves a b opened runs same ends =
@@ -81,7 +81,7 @@ locked_by n depth moves a b opened runs same ends =
     subst (λ (t : Table). LockBy t n.replies depth moves) opened.table
     (subst (λ (rs : List Reply). LockBy a.table rs depth moves) opened.replies by))
 
--- a network that moves lock up locks up
+-- a network that some moves deadlock can deadlock
 pub moves_lock : (n : NetworkSpec) (depth : ℕ) (moves : List Move) → MovesLockUp n depth moves → LocksUp n.table n.replies depth plain_format
 moves_lock n depth moves locks number top = (let e = locks number top in (e.0, e.2))
 
@@ -106,7 +106,7 @@ run_ends n depth moves ending a b opened moved same ended = record {
   locks = λ locked. locked_by n depth moves a b opened moved same (subst (λ (e : Ending). IsEnding b e) locked ended);
 }
 
--- moves that are found to end locked
+-- moves that are found to end deadlocked
 pub made_locked : (n : NetworkSpec) (depth : ℕ) (moves found : List Move) (m : Made) (e : Ending) → m ≡ Ended e → e ≡ Locked → moves ≡ found
     → IsMade n depth moves m → MovesLockUp n depth found
 made_locked n depth moves found m e is locked same made =

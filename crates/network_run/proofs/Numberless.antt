@@ -68,7 +68,7 @@ goes t depth flits number other top bound s rs Go g = record {
   takes = λ x flit more c. g.takes x flit more (taken t depth flits number other top bound s rs x flit more c);
 }
 
--- what locks a network up under one numbering does so under every one
+-- a deadlock of a network under one numbering is one under every other
 pub lock_up_of : (t : Table) (rs : List Reply) (depth : ℕ) (flits : Flits) (number other : ℕ → ℕ) (top bound : ℕ) (es : List NetEvent)
     → IsLockUp (table_network t number top depth flits) rs es → IsLockUp (table_network t other bound depth flits) rs es
 lock_up_of t rs depth flits number other top bound es l =
@@ -83,7 +83,7 @@ lock_up_of t rs depth flits number other top bound es l =
       stands = subst (λ (z : NetState). in_line (z.lines l.stuck) ≢ []) e l.stands;
     })
 
--- so a network that never locks up does so under no numbering
+-- so a network that is free of deadlock is so under every numbering
 pub never_under : (n : NetworkSpec) → NeverLocksUp n → (number : ℕ → ℕ) (top depth : ℕ) (flits : Flits) (es : List NetEvent) → 0 < depth
     → IsLockUp (table_network n.table number top depth flits) n.replies es → ⊥
 never_under n never number top depth flits es deep l =

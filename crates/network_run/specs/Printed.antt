@@ -1,4 +1,4 @@
--- What is answered where the run is asked for by which a network locks up (this project's own
+-- What is answered where the run is asked for by which a network deadlocks (this project's own
 -- format).
 use Rattle.std.specs.Prelude.{◌≡◌, ◌⊎◌, ℕ, List, Vec, Option, None, IfSome}
 use Rattle.network_judge.specs.declared.table.Verdict.{Verdict}
@@ -11,7 +11,7 @@ use Rattle.network_machine.specs.declared.moves.Move.{Move}
 use Rattle.network_run.specs.LockedUp.{MovesLockUp}
 use Rattle.network_run.specs.Written.{moves_text}
 
--- moves, if any are found, lock the network up
+-- moves, if any are found, deadlock the network
 abbrev pub IsLockingRun : {A : Type 0} → NetworkSpec → ℕ → Option (Vec Move A) → Type 0
 IsLockingRun n depth found = IfSome found (λ moves. MovesLockUp n depth moves.items)
 
@@ -21,7 +21,7 @@ FindsRun n depth (Rising numbers) found = found ≡ None
 FindsRun n depth (NoRoute r) found = found ≡ None
 FindsRun n depth (Cycle links) found = IsLockingRun n depth found
 
--- a text has a line for each of some moves, which lock the network up
+-- a text has a line for each of some moves, which deadlock the network
 pub record IsTextOfRun (n : NetworkSpec) (depth : ℕ) (text : List ℕ) : Type 0 where
   pub moves : List Move
   pub locks : MovesLockUp n depth moves
@@ -34,7 +34,7 @@ IsOfVerdict {A} n depth (NoRoute r) text = text ≡ verdict_text {A = A} (NoRout
 IsOfVerdict {A} n depth (Cycle links) text =
     (text ≡ verdict_text {A = A} (Cycle links)) ⊎ IsTextOfRun n depth text
 
--- what is answered of a network: the text of a run by which it locks up, only if there is one, and
+-- what is answered of a network: the text of a run by which it deadlocks, only if there is one, and
 -- else that of its verdict; and whether its numbers rise
 pub record AnswersRun {A : Type 0} (n : NetworkSpec) (depth : ℕ) (a : Answer A) : Type 0 where
   pub verdict : Verdict A

@@ -21,7 +21,7 @@ use Rattle.network_run.specs.LockedUp.{MovesLockUp}
 use Rattle.network_run.specs.Moved.{RunSpec, run_or_why}
 
 -- the moves are made one after the other from the empty network, and the run ends so; where it ends
--- locked, they lock the network up
+-- locked, they deadlock the network
 pub record RunEnds (n : NetworkSpec) (depth : ℕ) (moves : List Move) (ending : Ending) : Type 0
   where
     pub opened : NetworkMachineSpec
@@ -52,7 +52,7 @@ pub record IsHinderedRun (n : NetworkSpec) (depth : ℕ) (run : RunSpec) (e : Re
   pub line : slice_get run.lines place ≡ Some e.line
   pub stops : RunStops n depth run.moves place
 
--- the same, or out of memory
+-- the move of a line may not be made, though those before it are; or out of memory
 abbrev pub IsRefusedRun : NetworkSpec → ℕ → RunSpec → Refusal RunReason → Type 0
 IsRefusedRun n depth run e = (e ≡ refusal_at 0 reason.Memory) ⊎ IsHinderedRun n depth run e
 

@@ -19,7 +19,7 @@ use torus::Fault;
 pub struct ReplayAnswer<A: Allocator = Global> {
     /// The line on the replay.
     pub text: Vec<u8, A>,
-    /// Whether all pairs of the network have routes, and the run doesn't end locked.
+    /// Whether all pairs of the network have routes, and the run doesn't end in a deadlock.
     pub sound: bool,
 }
 
@@ -41,7 +41,7 @@ fn is_sound(replayed: Replayed) -> bool
     }
 }
 
-/// Reads a network text, and answers with the text of the run by which the network locks up, whose
+/// Reads a network text, and answers with the text of the run by which the network deadlocks, whose
 /// channels hold so many flits; where there is none, with that of the verdict.
 ///
 /// Errors: the first fault of the text and its line, or `Fault::Memory` at line 0.
@@ -62,7 +62,7 @@ pub fn run_answer<A: Allocator + Copy>(
 
 /// The answer to a replay.
 ///
-/// Errors: memory.
+/// Errors: out of memory.
 fn replay_told<A: Allocator + Copy>(
     alloc: A,
     replayed: Replayed,

@@ -20,7 +20,7 @@ struct Way<A: Allocator> {
 
 /// The route of a fill, up to the channel that is filled.
 ///
-/// Errors: memory.
+/// Errors: out of memory.
 fn way_of<A: Allocator + Copy>(
     alloc: A,
     network: &Network<A>,
@@ -48,7 +48,7 @@ fn way_of<A: Allocator + Copy>(
 
 /// Adds the moves of a packet of one flit from its sender to the last channel of a way.
 ///
-/// Errors: memory.
+/// Errors: out of memory.
 fn put_packet<A: Allocator>(
     moves: &mut Vec<Move, A>,
     before: &[usize],
@@ -66,7 +66,7 @@ fn put_packet<A: Allocator>(
 /// Adds the moves that fill the last channel of a way with packets: as many as it holds, and one
 /// more in the latch behind it, where it is no ejection channel.
 ///
-/// Errors: memory.
+/// Errors: out of memory.
 fn put_fill<A: Allocator>(
     moves: &mut Vec<Move, A>,
     way: &Way<A>,
@@ -88,7 +88,7 @@ fn put_fill<A: Allocator>(
 
 /// The moves that fill the channels of a jam, the last of the list first.
 ///
-/// Errors: memory.
+/// Errors: out of memory.
 pub(crate) fn filling_moves<A: Allocator + Copy>(
     alloc: A,
     network: &Network<A>,

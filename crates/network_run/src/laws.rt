@@ -11,14 +11,14 @@ ghost use Rattle.network_text.specs.Answer.{NeverLocksUp};
 ghost use Rattle.network_text.specs.Network.{NetworkSpec};
 ghost use Rattle.network_run.specs.LockedUp.{HasNoLockUp, MovesLockUp};
 
-/// A network that moves lock up locks up: at this depth, with flits of the plain format.
+/// A network that some moves deadlock can deadlock: at this depth, with flits of the plain format.
 pub fn locking_moves_are_lock_ups()
     ensures { (n : NetworkSpec) (depth : ℕ) (moves : List Move) → MovesLockUp n depth moves
         → LocksUp n.table n.replies depth plain_format }
 {}
 
-/// Events look at no numbers of channels: a run that locks a network up under one numbering does so
-/// under every other. So no run locks up a network that never locks up, whatever the numbering.
+/// Events look at no numbers of channels: a run that deadlocks a network under one numbering does so under
+/// every other. So no run deadlocks a network that is free of deadlock, whatever the numbering.
 pub fn lock_ups_look_at_no_numbers()
     ensures every { (t : Table) (replies : List Reply) (depth : ℕ) (flits : Flits)
         (number other : ℕ → ℕ) (top bound : ℕ) (events : List NetEvent)

@@ -1,5 +1,5 @@
-//! Runs of networks that are written down: the text of a run, its replay move by move, and the run
-//! by which a network locks up.
+//! Runs of networks that are written down: the text of a run, its replay move by move, and the run by which
+//! a network deadlocks.
 #![tactic(auto)]
 
 pub mod answering;

@@ -32,7 +32,7 @@ impl<A: Allocator + Copy> RunMoves<A> {
 
     /// Adds the move of a line.
     ///
-    /// Errors: memory.
+    /// Errors: out of memory.
     fn push(&mut self, number: u64, of: Move) -> Result<(), AllocError>
         requires { HasLines (run_spec self.old) }
         ensures value { OnOk result

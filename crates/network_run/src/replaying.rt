@@ -35,7 +35,7 @@ pub enum Replayed {
 
 /// Makes moves one after the other, from the empty network on.
 ///
-/// Errors: memory.
+/// Errors: out of memory.
 pub(crate) fn make_moves<A: Allocator + Copy>(
     alloc: A,
     network: &Network<A>,
@@ -62,7 +62,7 @@ pub(crate) fn make_moves<A: Allocator + Copy>(
 
 /// What becomes of the moves of a run text.
 ///
-/// Errors: the line whose move may not be made, and why; or memory.
+/// Errors: the line whose move may not be made, and why; or out of memory.
 fn replay_moves<A: Allocator + Copy>(
     alloc: A,
     network: &Network<A>,
@@ -90,7 +90,7 @@ fn replay_moves<A: Allocator + Copy>(
 
 /// What is answered to the moves of a run text, by the verdict of the network.
 ///
-/// Errors: the line whose move may not be made, and why; or memory.
+/// Errors: the line whose move may not be made, and why; or out of memory.
 fn replayed_by<A: Allocator + Copy>(
     alloc: A,
     network: &Network<A>,

@@ -1,4 +1,4 @@
-//! The run by which a network locks up.
+//! The run by which a network deadlocks.
 
 ghost use Rattle.std.specs.Prelude.{◌≡◌, ◌≤◌, IfOk};
 ghost use Rattle.network_judge.specs.Verdicts.{AllArrive, IsVerdict};
@@ -13,9 +13,9 @@ use network_machine::{Ending, Move};
 use network_text::{Answer, Network, judge_network, verdict_text};
 use std::alloc::{AllocError, Allocator};
 
-/// The moves that fill a jam, if they lock the network up.
+/// The moves that fill a jam, if they deadlock the network.
 ///
-/// Errors: memory.
+/// Errors: out of memory.
 fn locking_run<A: Allocator + Copy>(
     alloc: A,
     network: &Network<A>,
@@ -33,9 +33,9 @@ fn locking_run<A: Allocator + Copy>(
     }
 }
 
-/// A run by which a network with a cycle locks up, if one is found.
+/// A run by which a network with a cycle deadlocks, if one is found.
 ///
-/// Errors: memory.
+/// Errors: out of memory.
 fn run_of_cycle<A: Allocator + Copy>(
     alloc: A,
     network: &Network<A>,
@@ -60,9 +60,9 @@ fn run_of_cycle<A: Allocator + Copy>(
     }
 }
 
-/// A run by which a network with this verdict locks up, if it is a cycle and one is found.
+/// A run by which a network with this verdict deadlocks, if it is a cycle and one is found.
 ///
-/// Errors: memory.
+/// Errors: out of memory.
 fn run_of<A: Allocator + Copy>(
     alloc: A,
     network: &Network<A>,
@@ -80,10 +80,10 @@ fn run_of<A: Allocator + Copy>(
     }
 }
 
-/// Judges a network whose channels hold so many flits, and makes the text of the run by which it
-/// locks up, from the empty network on; where there is none, the text of the verdict.
+/// Judges a network whose channels hold so many flits, and makes the text of the run by which it deadlocks,
+/// from the empty network on; where there is none, the text of the verdict.
 ///
-/// Errors: memory.
+/// Errors: out of memory.
 pub fn run_text<A: Allocator + Copy>(
     alloc: A,
     network: &Network<A>,

@@ -64,7 +64,7 @@ fn put_move_at<A: Allocator>(
 
 /// The text of a run: a line for each move.
 ///
-/// Errors: memory.
+/// Errors: out of memory.
 pub fn moves_text<A: Allocator + Copy>(alloc: A, moves: &[Move]) -> Result<Vec<u8, A>, AllocError>
     ensures { IfOk result (λ text. text.items ≡ moves_text moves.now) }
 {
@@ -77,7 +77,7 @@ pub fn moves_text<A: Allocator + Copy>(alloc: A, moves: &[Move]) -> Result<Vec<u
 
 /// The line on how a run ends.
 ///
-/// Errors: memory.
+/// Errors: out of memory.
 fn ending_text<A: Allocator + Copy>(alloc: A, ending: Ending) -> Result<Vec<u8, A>, AllocError>
     ensures { IfOk result (λ text. text.items ≡ ending_line ending) }
 {
@@ -95,7 +95,7 @@ fn ending_text<A: Allocator + Copy>(alloc: A, ending: Ending) -> Result<Vec<u8, 
 
 /// The line on a replay: how its run ends, or the pair of the network that has no route.
 ///
-/// Errors: memory.
+/// Errors: out of memory.
 pub fn replayed_text<A: Allocator + Copy>(
     alloc: A,
     replayed: Replayed,

@@ -11,7 +11,7 @@ use Rattle.network_judge.proofs.Jammed.{jams_lock}
 use Rattle.network_text.specs.Network.{NetworkSpec}
 use Rattle.network_text.specs.Answer.{verdict_text, jam_text, IsFoundVerdict, IsJudgedText}
 
--- with numbers no jam is found, and the network never locks up
+-- with numbers no jam is found, and the network is free of deadlock
 pub none_found : {A : Type 0} (n : NetworkSpec) (v : Verdict A) (numbers : Vec ℕ A) → v ≡ Rising numbers → AreReplies n.table n.replies
     → IsVerdict n.table n.replies v → IsFoundVerdict n v None
 none_found n (Rising numbers) other is are holds = (refl, λ depth flits deep. never n.table n.replies numbers.items are holds.1 depth flits deep)

@@ -65,7 +65,7 @@ fault_answered e all found = elim found [
   | inr bad ↦ inr (ap (by_fault network_fault_of) bad)
 ]
 
--- the same channels and the same replies
+-- replies over a table are replies over another one with the same channels
 pub moved : (t new : Table) (replies others : List Reply) → new.kinds ≡ t.kinds → others ≡ replies → AreReplies t replies → AreReplies new others
 moved t new replies others kinds same are = λ x y r.
     let both = are x y (subst (λ (l : List Reply). IsReply l x y) same r) in

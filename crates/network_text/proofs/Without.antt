@@ -129,7 +129,7 @@ other_number : (a b : ℕ) (o : Result NetworkSpec NetworkReason) (net : Network
 other_number a b (Ok n) net is = is
 other_number a b (Err e) net is = absurd (cc)
 
--- the same network at the end
+-- the network at the end of a reading r, with the table of a reading q
 abbrev network_by : Reading → Reading → Result NetworkSpec NetworkReason
 network_by r q = if count_of r == 0 then Err reason.ChannelsMissing else Ok (record { table = q.table; replies = r.replies })
 

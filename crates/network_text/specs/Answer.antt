@@ -63,7 +63,7 @@ link_line links k =
     by_line (link_at links k).channel (link_at links k).by
     (link_at links (next_place (length links) k)).channel
 
--- the line of a pair without a route
+-- the line of a source-destination pair without a route
 abbrev pub no_route_line : no_route.NoRoute → List ℕ
 no_route_line r = pair_line (codes "no route ") r.join.from (codes " ") r.join.to (codes ": ")
     ++ why_words r.why ++ codes "\n"
@@ -91,21 +91,21 @@ fill_line f = pair_line (codes "fill ") f.from (codes " ") f.to [] ++ codes " " 
 abbrev pub fill_line_at : List Fill → ℕ → List ℕ
 fill_line_at fs k = fill_line (fill_at fs (length fs - 1 - k))
 
--- what is written of a jam: its channels, the first to be filled first, and that they lock up
+-- what is written of a jam: its channels, the first to be filled first, and that they deadlock
 abbrev pub jam_text : List Fill → List ℕ
 jam_text fs = first_lines (fill_line_at fs) (length fs) ++ codes "locks up\n"
 
--- a network never locks up, whatever the depth of its channels and the format of its flits
+-- a network is free of deadlock, whatever the depth of its channels and the format of its flits
 abbrev pub NeverLocksUp : NetworkSpec → Type 0
 NeverLocksUp n = (depth : ℕ) (flits : Flits) → 0 < depth → LocksUp n.table n.replies depth flits → ⊥
 
--- a network locks up, whatever the depth of its channels, in each format that has packets of one
--- flit
+-- a network can deadlock, whatever the depth of its channels, in each format that has packets of
+-- one flit
 abbrev pub AlwaysLocksUp : NetworkSpec → Type 0
 AlwaysLocksUp n = (depth : ℕ) (flits : Flits) → 0 < depth → HasOneFlitPackets n.table flits
     → LocksUp n.table n.replies depth flits
 
--- a text is that of a jam of a network, by which it locks up
+-- a text is that of a jam of a network, by which it can deadlock
 pub record IsJamText (n : NetworkSpec) (text : List ℕ) : Type 0 where
   pub jam : List Fill
   pub holds : IsJam n.table n.replies jam
@@ -113,14 +113,14 @@ pub record IsJamText (n : NetworkSpec) (text : List ℕ) : Type 0 where
   pub locks : AlwaysLocksUp n
 
 -- what is found of a network with a verdict: a jam or none where it is a cycle, and else none; with
--- numbers the network never locks up
+-- numbers the network is free of deadlock
 abbrev pub IsFoundVerdict : {A : Type 0} → NetworkSpec → Verdict A → Option (Vec Fill A) → Type 0
 IsFoundVerdict n (Rising numbers) found = (found ≡ None) × NeverLocksUp n
 IsFoundVerdict n (NoRoute r) found = found ≡ None
 IsFoundVerdict n (Cycle links) found = IfSome found (λ jam. IsJam n.table n.replies jam.items)
 
--- what may stand behind the text of a verdict: nothing behind numbers, with which the network never
--- locks up, nor behind a pair without a route; behind a cycle nothing, or the text of a jam
+-- what may stand behind the text of a verdict: nothing behind numbers, with which the network is
+-- free of deadlock, nor behind a pair without a route; behind a cycle nothing, or the text of a jam
 abbrev pub IsBehind : {A : Type 0} → NetworkSpec → Verdict A → List ℕ → Type 0
 IsBehind n (Rising numbers) behind = (behind ≡ []) × NeverLocksUp n
 IsBehind n (NoRoute r) behind = behind ≡ []

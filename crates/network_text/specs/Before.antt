@@ -74,12 +74,14 @@ abbrev pub line_giving : Option Wanted → ℕ → List (List ℕ) → ℕ
 line_giving None stop lines = 0
 line_giving (Some w) stop lines = unwrap_or (line_that_gives (words_give w) stop lines) 0
 
--- the same for the words of the refused line
+-- the number of the first line before the line `stop` that gave what a reason wants, by the words
+-- of the refused line; 0 where none did
 abbrev pub earlier_by_words : NetworkReason → ℕ → List (List ℕ) → List (List ℕ) → ℕ
 earlier_by_words why stop lines [] = 0
 earlier_by_words why stop lines (word ∷ values) = line_giving (wanted_of why values) stop lines
 
--- the same for the refused line
+-- the number of the first line before a refused one that gave what the refusal wants, by the
+-- refused line, if it is there; 0 where none did
 abbrev pub earlier_by_line : Refusal NetworkReason → List (List ℕ) → Option (List ℕ) → ℕ
 earlier_by_line s lines (Some line) = earlier_by_words s.reason s.line lines (first_words line)
 earlier_by_line s lines None = 0

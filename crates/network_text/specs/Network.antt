@@ -252,6 +252,6 @@ network_from r number (line ∷ lines) =
 abbrev pub network_or_why : List (List ℕ) → Result NetworkSpec (Refusal NetworkReason)
 network_or_why lines = network_from nothing_read 1 lines
 
--- the same, with the fault of a refusal in place of its reason
+-- the network of a text, given as the list of its lines, or the fault and the line of its refusal
 abbrev pub network_of : List (List ℕ) → Result NetworkSpec LineFault
 network_of lines = by_fault network_fault_of (network_or_why lines)

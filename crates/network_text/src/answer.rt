@@ -34,7 +34,7 @@ pub(crate) fn is_rising<A: Allocator>(verdict: &Verdict<A>) -> bool
 
 /// Judges the network of a text.
 ///
-/// Errors: memory.
+/// Errors: out of memory.
 pub fn judge_network<A: Allocator + Copy>(
     alloc: A,
     network: &Network<A>,
@@ -52,7 +52,7 @@ pub fn judge_network<A: Allocator + Copy>(
 
 /// Judges a network, and makes the text of what is judged.
 ///
-/// Errors: memory.
+/// Errors: out of memory.
 pub fn answered<A: Allocator + Copy>(
     alloc: A,
     network: &Network<A>,

@@ -40,7 +40,7 @@ fn put_jam<A: Allocator>(out: &mut Vec<u8, A>, fills: &[Fill]) -> Result<(), All
 
 /// A jam of a network with this verdict, if it is a cycle and one is found.
 ///
-/// Errors: memory.
+/// Errors: out of memory.
 pub(crate) fn jam_of<A: Allocator + Copy>(
     alloc: A,
     network: &Network<A>,
@@ -67,7 +67,7 @@ pub(crate) fn jam_of<A: Allocator + Copy>(
 /// The text of what is judged of a network: that of its verdict, and behind a cycle that of a jam,
 /// where one is found.
 ///
-/// Errors: memory.
+/// Errors: out of memory.
 pub fn judged_text<A: Allocator + Copy>(
     alloc: A,
     network: &Network<A>,

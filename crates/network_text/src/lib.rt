@@ -1,6 +1,6 @@
 //! The text of a network: its channels, who sends to whom, the routers' choices, the replies and the
 //! names; where and why it is refused, and the sentence that says so; and the text of what is judged
-//! of it, with the channels that fill up where it locks up.
+//! of it, with the channels that fill up where it deadlocks.
 #![tactic(auto)]
 
 pub mod answer;

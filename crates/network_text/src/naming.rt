@@ -159,7 +159,7 @@ impl<A: Allocator + Copy> Reading<A> {
 
     /// Has room for the names under so many numbers, without one, if none was given.
     ///
-    /// Errors: memory.
+    /// Errors: out of memory.
     fn begin_names(&mut self, alloc: A, room: usize) -> Result<(), AllocError>
         requires read { IsRead self.old }
         requires room { room ≡ 16384 }

@@ -49,7 +49,7 @@ impl<A: Allocator> Network<A> {
         &self.kinds
     }
 
-    /// The pairs that packets go between, in the order of the text.
+    /// The source-destination pairs that packets go between, in the order of the text.
     pub fn joins(&self) -> &[Join]
         ensures { result.now ≡ self.now.table.joins }
     {

@@ -115,7 +115,7 @@ impl<A: Allocator + Copy> Reading<A> {
 
     /// Has choices, none yet behind any channel, if none was given.
     ///
-    /// Errors: memory.
+    /// Errors: out of memory.
     pub fn begin(&mut self, alloc: A) -> Result<(), AllocError>
         requires read { IsRead self.old }
         requires given { 0 < length self.old.kinds.items }

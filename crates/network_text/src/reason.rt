@@ -47,7 +47,7 @@ pub enum NetworkReason {
     EjectionLate,
     /// One more ejection channel, times the number of channels, is more than 134217728.
     EjectionsLimits,
-    /// There are 1048576 pairs already.
+    /// There are 1048576 source-destination pairs already.
     JoinsLimits,
     /// The channel at this place is no ejection channel.
     NotEjection(u32),
@@ -69,7 +69,7 @@ pub enum NetworkReason {
     LinkTwice,
     /// The name of the channel is given already.
     NameTwice,
-    /// The same choice behind the channel for the ejection channel is given already.
+    /// The choice behind the channel for the ejection channel is given already.
     SameChoice,
     /// The channel is made an escape already.
     EscapeTwice,

@@ -18,7 +18,7 @@ const MOST_CHANNELS: u32 = 16384;
 /// The most choices: channels times ejection channels.
 const MOST_CHOICES: usize = 1 << 27;
 
-/// The most pairs that packets go between.
+/// The most source-destination pairs that packets go between.
 const MOST_JOINS: usize = 1048576;
 
 impl<A: Allocator + Copy> Reading<A> {
@@ -82,7 +82,7 @@ impl<A: Allocator + Copy> Reading<A> {
         Ok(())
     }
 
-    /// Takes a pair that packets go between.
+    /// Takes a source-destination pair that packets go between.
     pub(crate) fn take_join(&mut self, from: u32, to: u32) -> Result<(), NetworkReason>
         requires { IsRead self.old }
         ensures value { Makes NetworkReason.Memory (reading_of self.new) result

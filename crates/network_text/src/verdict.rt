@@ -53,7 +53,7 @@ pub(crate) fn put_why<A: Allocator>(out: &mut Vec<u8, A>, why: Why) -> Result<()
     }
 }
 
-/// Adds the line of a pair without a route.
+/// Adds the line of a source-destination pair without a route.
 pub fn put_no_route<A: Allocator>(out: &mut Vec<u8, A>, r: &NoRoute) -> Result<(), AllocError>
     ensures { OnOk result (out.new.items ≡ out.old.items ++ no_route_line r.now) }
 {
@@ -121,7 +121,7 @@ fn put_links<A: Allocator>(out: &mut Vec<u8, A>, links: &[Link]) -> Result<(), A
 
 /// The text of a verdict.
 ///
-/// Errors: memory.
+/// Errors: out of memory.
 pub fn verdict_text<A: Allocator + Copy>(
     alloc: A,
     verdict: &Verdict<A>,

@@ -26,7 +26,7 @@ pub record WatchedSoFar {A B C : Type 0} (t : Table) (packets : List Timed) (que
   pub last : latest ≡ last_moving simulates.simulation.rounds
   pub goes : GoesOnSimulating queues simulates.simulation.rounds
 
--- the same, and whether it is over behind the last one
+-- the rounds so far, and whether it is over behind the last one; it isn't behind those before
 pub record WatchedNext {A B C : Type 0} (t : Table) (packets : List Timed) (queues : List (Vec Timed A)) (groups : List (Vec Move B))
     (old new : NetworkMachineSpec) (begun flits : List ℕ) (count room latest : ℕ) (watch : Watch C) (now_over : Bool) : Type 0 where
   pub simulates : Simulates queues groups old new begun flits count room

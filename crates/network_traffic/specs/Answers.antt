@@ -98,7 +98,8 @@ IsSimulationAnswer {A} n depth packets a = IsNoRouteText n a.text.items a.sound
 abbrev pub memory_refused : LineFault
 memory_refused = record { fault = fault.Memory; line = 0 }
 
--- the same, or out of memory
+-- what is answered to packets: the report on them, or the first pair of the network without a
+-- route; or out of memory
 abbrev pub AnswersPackets : {A : Type 0} → NetworkSpec → ℕ → List Timed
     → Result (SimulationAnswer A) LineFault → Type 0
 AnswersPackets n depth packets (Ok a) = IsSimulationAnswer n depth packets a

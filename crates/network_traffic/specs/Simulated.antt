@@ -30,13 +30,13 @@ ends_behind queues [] = false
 ends_behind queues (made ∷ before) = length made == 0
     && not (some_later queues (λ x. begun_in x (made ∷ before)) (length before + 1))
 
--- it is not, behind any of some rounds
+-- a simulation is over behind none of some rounds, the last one first
 abbrev pub GoesOnSimulating : {A : Type 0} → List (Vec Timed A) → List (List Move) → Type 0
 GoesOnSimulating queues [] = Unit {0}
 GoesOnSimulating queues (made ∷ before) =
     (ends_behind queues (made ∷ before) ≡ false) × GoesOnSimulating queues before
 
--- the same, but for the last one
+-- a simulation is over behind none of some rounds but perhaps the last one
 abbrev pub GoesOnBefore : {A : Type 0} → List (Vec Timed A) → List (List Move) → Type 0
 GoesOnBefore queues [] = Unit {0}
 GoesOnBefore queues (made ∷ before) = GoesOnSimulating queues before

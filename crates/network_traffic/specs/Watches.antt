@@ -22,13 +22,14 @@ pub record ShowsFates {A : Type 0} (t : Table) (packets : List Timed) (log : Lis
   pub delivers : (k : ℕ) → k < length packets
       → slice_index_or f.delivered.items k None ≡ delivered_in_round t packets k log
 
--- the same, and where their flits stand
+-- what becomes of the packets by some moves, and where their flits stand
 pub record ShowsLog {A : Type 0} (t : Table) (packets : List Timed) (log : List Stamped)
     (w : rust.Watch A) : Type 0 where
   pub labels : labels_spec w.labels ≡ labels_behind t packets log
   pub fates : ShowsFates t packets log w.fates
 
--- the same of some rounds, the last one first, and how long flits wait behind each channel
+-- what becomes of the packets in some rounds, the last one first, where their flits stand, and how
+-- long flits wait behind each channel
 pub record ShowsRounds {A : Type 0} (t : Table) (packets : List Timed) (rounds : List (List Move))
     (w : rust.Watch A) : Type 0 where
   pub log : ShowsLog t packets (log_of rounds) w

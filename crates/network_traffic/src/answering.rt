@@ -53,7 +53,7 @@ fn is_sound(extent: Extent, ending: Ending) -> bool
 /// Reads the packets of a traffic text, which go between channels of a network that packets go between.
 ///
 /// Errors: where and why its first bad line is refused, or else the line of the first packet between
-/// channels that no packets go between; or memory.
+/// channels that no packets go between; or out of memory.
 pub fn read_packets<A: Allocator + Copy>(
     alloc: A,
     network: &Network<A>,
@@ -68,7 +68,7 @@ pub fn read_packets<A: Allocator + Copy>(
 
 /// Sends packets through a network whose channels hold so many flits.
 ///
-/// Errors: memory.
+/// Errors: out of memory.
 fn simulated<A: Allocator + Copy>(
     alloc: A,
     network: &Network<A>,
@@ -108,7 +108,7 @@ fn simulated<A: Allocator + Copy>(
 
 /// The answer where a pair of the network has no route.
 ///
-/// Errors: memory.
+/// Errors: out of memory.
 fn no_route<A: Allocator + Copy>(
     alloc: A,
     network: &Network<A>,
@@ -123,7 +123,7 @@ fn no_route<A: Allocator + Copy>(
 
 /// The answer to some packets, by the verdict of the network.
 ///
-/// Errors: memory.
+/// Errors: out of memory.
 fn answered_by<A: Allocator + Copy>(
     alloc: A,
     network: &Network<A>,
@@ -145,7 +145,7 @@ fn answered_by<A: Allocator + Copy>(
 
 /// Judges a network, and answers to some packets.
 ///
-/// Errors: memory.
+/// Errors: out of memory.
 fn judged<A: Allocator + Copy>(
     alloc: A,
     network: &Network<A>,

@@ -41,7 +41,7 @@ fn room_for<A: Allocator>(senders: usize, groups: &[Vec<Move, A>]) -> usize
 
 /// Sends the packets of a plan through a network.
 ///
-/// Errors: memory.
+/// Errors: out of memory.
 pub(crate) fn run_packets<A: Allocator + Copy>(
     alloc: A,
     machine: &mut Machine<A>,

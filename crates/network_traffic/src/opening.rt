@@ -15,7 +15,7 @@ use std::alloc::{AllocError, Allocator};
 
 /// No flit in so many channels.
 ///
-/// Errors: memory.
+/// Errors: out of memory.
 fn no_flits<A: Allocator + Copy>(
     alloc: A,
     channels: usize,
@@ -31,7 +31,7 @@ fn no_flits<A: Allocator + Copy>(
 
 /// No flit anywhere, in so many channels.
 ///
-/// Errors: memory.
+/// Errors: out of memory.
 fn no_labels<A: Allocator + Copy>(alloc: A, channels: usize) -> Result<Labels<A>, AllocError>
     ensures { IfOk result (λ labels. labels_spec labels ≡ no_labels channels) }
 {
@@ -45,7 +45,7 @@ fn no_labels<A: Allocator + Copy>(alloc: A, channels: usize) -> Result<Labels<A>
 
 /// How many flits each packet has.
 ///
-/// Errors: memory.
+/// Errors: out of memory.
 fn sizes_of<A: Allocator + Copy>(alloc: A, packets: &[Timed]) -> Result<Vec<u64, A>, AllocError>
     ensures { IfOk result (λ sizes. sizes.items ≡ sizes_of packets.now) }
 {
@@ -58,7 +58,7 @@ fn sizes_of<A: Allocator + Copy>(alloc: A, packets: &[Timed]) -> Result<Vec<u64,
 
 /// What is kept of no round.
 ///
-/// Errors: memory.
+/// Errors: out of memory.
 pub(crate) fn open_watch<A: Allocator + Copy>(
     alloc: A,
     channels: usize,

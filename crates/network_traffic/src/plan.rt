@@ -18,7 +18,7 @@ use std::alloc::{AllocError, Allocator, Global};
 pub struct Plan<'a, A: Allocator = Global> {
     /// What each channel is.
     pub kinds: &'a [Kind],
-    /// The pairs that packets go between.
+    /// The source-destination pairs that packets go between.
     pub joins: &'a [Join],
     /// The routers' choices.
     pub choices: &'a [u32],
@@ -49,7 +49,7 @@ impl<'a, A: Allocator> Plan<'a, A> {
 
 /// No numbers for each of so many channels.
 ///
-/// Errors: memory.
+/// Errors: out of memory.
 fn no_numbers<A: Allocator + Copy>(
     alloc: A,
     channels: usize,
@@ -66,7 +66,7 @@ fn no_numbers<A: Allocator + Copy>(
 
 /// Adds the number of a packet behind those of its sender, if it is there.
 ///
-/// Errors: memory.
+/// Errors: out of memory.
 fn add_number<A: Allocator>(all: &mut [Vec<usize, A>], x: usize, k: usize) -> Result<(), AllocError>
     ensures { OnOk result ((old new : ℕ → List ℕ) (channels : ℕ)
         → map (λ numbers. numbers.items) all.old ≡ map old (range_with_len 0 channels)
@@ -81,7 +81,7 @@ fn add_number<A: Allocator>(all: &mut [Vec<usize, A>], x: usize, k: usize) -> Re
 
 /// The numbers of the packets of all senders: a list for each channel.
 ///
-/// Errors: memory.
+/// Errors: out of memory.
 pub(crate) fn all_numbers<A: Allocator + Copy>(
     alloc: A,
     packets: &[Timed],
@@ -120,7 +120,7 @@ pub(crate) fn next_number<A: Allocator>(
 
 /// The plan of some packets over the tables of a network.
 ///
-/// Errors: memory.
+/// Errors: out of memory.
 pub(crate) fn open_plan<'a, A: Allocator + Copy>(
     alloc: A,
     kinds: &'a [Kind],

@@ -159,7 +159,7 @@ fn put_end<A: Allocator>(
 
 /// The text of a simulation.
 ///
-/// Errors: memory.
+/// Errors: out of memory.
 pub(crate) fn report_text<A: Allocator + Copy>(
     alloc: A,
     packets: &[Timed],

@@ -23,7 +23,7 @@ length-remove xs k h = omega (arith, length-append (take k xs) (drop (suc k) xs)
 abbrev pub home_count : ℕ → ℕ → List Operation → ℕ
 home_count tiles b os = count_by (λ o. home tiles o == b) os
 
--- the same of several lists together
+-- how many operations of several lists together are at home in a bank
 abbrev pub home_total : ℕ → ℕ → List (List Operation) → ℕ
 home_total tiles b [] = 0
 home_total tiles b (os ∷ oss) = home_count tiles b os + home_total tiles b oss

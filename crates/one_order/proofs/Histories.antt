@@ -6,7 +6,7 @@ use Rattle.std.proofs.lemmas.Option.{slice_get_within, some_pair_parts}
 use Rattle.packet.specs.declared.kinds.Reply.{Reply}
 use Rattle.one_order.specs.Scripts.{Invocation, IsLastReply, AreAnsweredBefore, AreAnswersBefore, AreAnswered, reply_of, last_reply, awaited, unanswered}
 
--- the same operation, with the same answer if it had one
+-- an invocation p has the operation and the issue of o, and its answer, if o has one
 pub record IsSame (o p : Invocation) : Type 0 where
   pub operation : p.operation ≡ o.operation
   pub issue : p.issue ≡ o.issue
@@ -18,7 +18,7 @@ same_refl o = record { operation = refl; issue = refl; answer = λ a h. h }
 pub same_trans : (o p q : Invocation) → IsSame o p → IsSame p q → IsSame o q
 same_trans o p q h k = record { operation = k.operation ∙ h.operation; issue = k.issue ∙ h.issue; answer = λ a e. k.answer a (h.answer a e) }
 
--- the same operations, more of them answered
+-- the operations of one list are those of another, where more of them may be answered
 abbrev pub Extends : List Invocation → List Invocation → Type 0
 Extends [] [] = Unit {0}
 Extends [] (p ∷ q) = ⊥

@@ -99,7 +99,7 @@ impl<A: Allocator> Follower<A> {
     /// Puts a line at the end of the script; where nothing is held back, a fence there comes to nothing.
     /// A spin has loads.
     ///
-    /// Errors: `AllocError` where there is no memory; then nothing has changed.
+    /// Errors: out of memory; then nothing has changed.
     pub fn append(&mut self, line: Line) -> Result<(), AllocError>
         requires loads { (a v m : ℕ) → line ≡ Line.Spin a v m → 0 < m }
         requires few { self.old.issued + left_of self.old + operations_of line < 2 ^ 32 }

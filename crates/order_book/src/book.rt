@@ -129,7 +129,7 @@ impl<A: Allocator> EventBook<A> {
     /// Makes room for so many issues of a processor in all, so many services of a bank, and so many
     /// rows; what is noted stays. No event takes memory while there is room.
     ///
-    /// Errors: `AllocError` where there is no memory; then some of the room may be made.
+    /// Errors: out of memory; then some of the room may be made.
     pub fn reserve(
         &mut self,
         processor: u32,

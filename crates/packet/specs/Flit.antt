@@ -9,7 +9,7 @@ use Rattle.torus.specs.declared.shape.Class.TheVariants.{Request, Reply}
 unfoldable pub field : ℕ → ℕ → ℕ → ℕ
 field flit low width = flit / 2 ^ low % 2 ^ width
 
--- what a head flit tells: the number of an operation, a class, two tiles and a tag; and of a
+-- what a head flit carries: the number of an operation, a class, two tiles and a tag; and of a
 -- request the
 -- word, of a reply the place (this project's own format)
 pub record Heading : Type 0 where
@@ -20,7 +20,7 @@ pub record Heading : Type 0 where
   pub tag : ℕ
   pub place : ℕ
 
--- a head flit with this tail bit that tells these things, bit by bit from the highest (this
+-- a head flit with this tail bit that carries these fields, bit by bit from the highest (this
 -- project's own format)
 pub record IsHeadFlit (tail : ℕ) (told : Heading) (flit : ℕ) : Type 0 where
   pub whole : flit < 2 ^ 64

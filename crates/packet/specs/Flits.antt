@@ -20,7 +20,7 @@ is_head flit = field flit 63 1 == 1
 abbrev pub is_tail : ℕ → Bool
 is_tail flit = field flit 62 1 == 1
 
--- what a flit tells a router; None where it is no head flit (Dally and Towles, chapter 12: the head
+-- what a router reads in a flit; None where it is no head flit (Dally and Towles, chapter 12: the head
 -- flit
 -- carries the route information)
 abbrev pub head_of : ℕ → Option Head

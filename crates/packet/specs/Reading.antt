@@ -1,4 +1,4 @@
--- What flits tell.
+-- What flits carry.
 use Rattle.std.specs.Prelude.{◌≡◌, ℕ, ◌+◌, ◌*◌, ◌^◌, ◌<◌, ◌≤◌, ◌==◌, if◌then◌else◌, List, [], ◌∷◌, length, slice_index}
 use Rattle.std.specs.List.{AllByRecursion}
 use Rattle.packet.specs.declared.kinds.Op.{Op}
@@ -12,7 +12,7 @@ use Rattle.packet.specs.declared.kinds.Packet.TheVariants.{Request, Response}
 use Rattle.packet.specs.Flit.{field, Heading, IsPayloadFlit, operation_told}
 use Rattle.packet.specs.Refusal.{flits_told}
 
--- what a head flit tells (this project's own format)
+-- what a head flit carries (this project's own format)
 abbrev pub heading_told : ℕ → Heading
 heading_told h =
     record {
@@ -85,7 +85,7 @@ half_at flits at = field (slice_index flits at) 0 32
 abbrev pub value_at : List ℕ → ℕ → ℕ
 value_at flits at = half_at flits at * 2 ^ 32 + half_at flits (at + 1)
 
--- the packet that a head flit and the flits after it tell (this project's own format)
+-- the packet that a head flit and the flits after it carry (this project's own format)
 abbrev pub packet_told : List ℕ → Packet
 packet_told flits = packet_with (heading_told (slice_index flits 0)) (value_at flits 1)
     (value_at flits 3)

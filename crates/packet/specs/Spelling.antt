@@ -79,7 +79,7 @@ abbrev pub word_or_place : Packet → ℕ
 word_or_place (Request r) = r.word
 word_or_place (Response r) = r.place
 
--- what the head flit of a packet tells (this project's own format)
+-- what the head flit of a packet carries (this project's own format)
 abbrev pub heading_of : Packet → Heading
 heading_of p =
     record {

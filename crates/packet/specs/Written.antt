@@ -5,7 +5,7 @@ use Rattle.packet.specs.declared.kinds.Packet.{Packet}
 use Rattle.packet.specs.Flit.{Heading}
 use Rattle.packet.specs.Spelling.{values_of, word_or_place}
 
--- the head flit that tells these things, without the tail bit (this project's own format)
+-- the head flit that carries these fields, without the tail bit (this project's own format)
 abbrev pub head_flit : Heading → ℕ
 head_flit told =
     2 ^ 63 + 2 ^ 61

@@ -165,7 +165,7 @@ fn flits_told(head: u64) -> usize
     }
 }
 
-/// The packet that a head flit and the flits after it tell.
+/// The packet that a head flit and the flits after it carry.
 fn packet_told(flits: &[u64]) -> Packet
     requires { 0 < length flits.now }
     ensures { result ≡ packet_told flits.now }

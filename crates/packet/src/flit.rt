@@ -26,7 +26,7 @@ pub(crate) fn field(flit: u64, low: u32, width: u32) -> u64
     (flit >> low) % (1 << width)
 }
 
-/// The number of the operation that a head flit tells.
+/// The number of the operation that a head flit carries.
 pub(crate) fn operation_told(flit: u64) -> u64
     ensures value { result ≡ operation_told flit }
     ensures below { result < 16 }
@@ -34,7 +34,7 @@ pub(crate) fn operation_told(flit: u64) -> u64
     field(flit, 40, 1) * 8 + field(flit, 58, 3)
 }
 
-/// What a head flit tells a router: `None` exactly if the word is no head flit.
+/// What a router reads in a head flit: `None` exactly if the word is no head flit.
 pub fn head(flit: u64) -> Option<Head>
     ensures { result ≡ head_of flit }
 {

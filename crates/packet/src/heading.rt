@@ -1,6 +1,6 @@
 use torus::Class;
 
-/// What a router has to know of a packet: its head flit tells it.
+/// What a router has to know of a packet: its head flit carries it.
 #[derive(Clone, Copy, Debug, PartialEq, Eq)]
 pub struct Head {
     /// The tile that the packet goes to, 0 to 63.

@@ -104,7 +104,7 @@ fn head_flit_of(packet: &Packet) -> u64
     }
 }
 
-/// The head flit that tells these things, without the tail bit.
+/// The head flit that carries these fields, without the tail bit.
 fn head_flit(class: Class, code: Code, destination: u32, source: u32, tag: Tag, place: u32) -> u64
     requires destination { destination < 64 }
     requires source { source < 64 }

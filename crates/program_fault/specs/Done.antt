@@ -11,7 +11,7 @@ pub record Output : Type 0 where
   pub taken : Option (List ℕ)
   pub failures : ℕ
 
--- the same, from its parts
+-- an output, from what it has taken and the count of its failed puts
 abbrev pub output : Option (List ℕ) → ℕ → Output
 output taken failures = record { taken = taken; failures = failures }
 

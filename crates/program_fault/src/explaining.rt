@@ -41,7 +41,7 @@ pub fn explain_unread<R: Eprint>(rt: &R, name: &str, why: Unread) {
     let _ = told(rt, unread_line(name, why));
 }
 
-/// Says why the texts of a command have the fault that it answers, where that can be told from
+/// Says why the texts of a command have the fault that it answers, where that can be found from
 /// them.
 pub fn explain<R: Eprint + AllocGlobal>(
     rt: &R,

@@ -95,7 +95,7 @@ bank_first bank m s r none =
 length-replayed : (es : List EntryLine) (m : List ℕ) → length (memory_after (operations es) m) ≡ length m
 length-replayed es m = length-memory_after (operations es) m
 
--- the same operation on two memories that agree at its address
+-- after one operation two memories agree at an address, if they agreed there and at that of the operation
 same_effect : (e : EntryLine) (x y : List ℕ) (a : ℕ) → e.address < length x → e.address < length y → slice_index x e.address ≡ slice_index y e.address
     → slice_index x a ≡ slice_index y a → slice_index (memory_after_one (line_operation e) x) a ≡ slice_index (memory_after_one (line_operation e) y) a
 same_effect e x y a in_x in_y at here =
@@ -164,7 +164,7 @@ bank_after bank m s (Word a v) may b = record { replays = replays_after m s (Wor
 bank_after bank m s (Order o) may b = record { replays = replays_after m s (Order o) may b.replays; here = b.here; words = b.words }
 bank_after bank m s (End complete) may b = record { replays = replays_after m s (End complete) may b.replays; here = b.here; words = b.words }
 
--- the words told so far are those that are not 0 up to the last one told
+-- the words given so far are those that are not 0 up to the last one given
 record Tells (told : List (ℕ × ℕ)) (s : Seen) : Type 0 where
   so_far : told ≡ set_words (take (above_last s.told) s.memory)
   none : s.section ≤ 5 → s.told ≡ []

@@ -155,7 +155,7 @@ word_left memory address =
 abbrev pub left_out : List ℕ → ℕ → ℕ → Option Rule
 left_out memory least end = first_from (word_left memory) least (end - least)
 
--- the same of the addresses behind the last one told
+-- the first address behind the last one given, below an end, whose word is not 0
 abbrev pub left_untold : Seen → ℕ → Option Rule
 left_untold s end = left_out s.memory (above_last s.told) end
 

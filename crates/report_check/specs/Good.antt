@@ -93,7 +93,7 @@ pub record AllowedAnswer (s : Seen) (a : AnswerLine) : Type 0 where
   pub rises : above_last (map key_of s.answers) ≤ key_of a
   pub names : NamesUnansweredEntry s a
 
--- each word from the last one told on, below an address, is 0
+-- each word from the last one given on, below an address, is 0
 abbrev pub ToldBelow : List ℕ → List ℕ → ℕ → Type 0
 ToldBelow told memory end = (k : ℕ) → above_last told ≤ k → k < end → slice_index memory k ≡ 0
 
@@ -198,7 +198,7 @@ pub record FirstBad (text : List ℕ) (number : ℕ) : Type 0 where
   pub counted : number ≡ length lines + 1
   pub stuck : IsStuck (seen_of lines) rest
 
--- a fault tells the first bad line, or that memory was refused
+-- a fault names the first bad line, or that memory was refused
 abbrev pub HasFault : List ℕ → CheckFault → Type 0
 HasFault text (BadReport number) = FirstBad text number
 HasFault text Memory = Unit {0}

@@ -30,7 +30,7 @@ opening_after m (End complete) = m
 abbrev pub opening_of : List ReportLine → List ℕ
 opening_of lines = fold opening_after [] lines
 
--- the word that a `word` line tells, with its address
+-- the word that a `word` line gives, with its address
 abbrev pub word_in : ReportLine → List (ℕ × ℕ)
 word_in (Header version) = []
 word_in (Shape radices words) = []
@@ -41,12 +41,12 @@ word_in (Word address value) = (address, value) ∷ []
 word_in (Order o) = []
 word_in (End complete) = []
 
--- the words that the `word` lines tell
+-- the words that the `word` lines give
 abbrev pub told_words : List ReportLine → List (ℕ × ℕ)
 told_words lines = flat_map word_in lines
 
 -- the entries replay on one memory from the opening words, in the order of the report and in each
--- bank by itself, and the `word` lines tell the words that are not 0 of the memory that they leave
+-- bank by itself, and the `word` lines give the words that are not 0 of the memory that they leave
 -- (Herlihy and Wing, TOPLAS 12(3), 1990: a legal sequential history)
 pub record EntriesReplay (lines : List ReportLine) : Type 0 where
   pub whole : map (λ e. e.reply) (seen_of lines).entries

@@ -18,7 +18,7 @@ pub record HasReason (text : List ℕ) (bad : BadReport) : Type 0 where
   pub stuck : IsStuck (seen_of lines) rest
   pub rule : broken (seen_of lines) rest ≡ Some bad.rule
 
--- a report is good where nothing is told of it, else it is bad for that reason
+-- a report is good where nothing is said of it, else it is bad for that reason
 abbrev pub Judges : List ℕ → Option BadReport → Type 0
 Judges text None = GoodReport text
 Judges text (Some bad) = HasReason text bad

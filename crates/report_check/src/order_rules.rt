@@ -43,7 +43,7 @@ impl<A: Allocator> Checker<A> {
         unless(!self.used[event as usize], Rule::EventTwice(event))
     }
 
-    /// The same of the number of an answer, if there is one.
+    /// Whether the number of an answer, if there is one, is none of an event, or is given already.
     fn answer_event_broken(&self, answered: Option<u32>) -> Option<Rule>
         ensures { (s : Seen) → KeepsSeen s self.now → result ≡ answer_event_broken s answered }
     {

@@ -49,7 +49,7 @@ pub enum Rule {
         found: u32,
         least: u64,
     },
-    /// No line tells a word that is 0.
+    /// No line gives a word that is 0.
     Zero {
         address: u32,
     },
@@ -124,7 +124,7 @@ pub enum Rule {
         address: u32,
         word: u64,
     },
-    /// A `word` line tells the word that the entries leave.
+    /// A `word` line gives the word that the entries leave.
     Word {
         found: u64,
         expected: u64,

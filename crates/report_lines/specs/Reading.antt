@@ -206,7 +206,7 @@ end_at text =
     instead (behind (codes "end complete\n") text) (λ rest. Some (End true, rest))
     (instead (behind (codes "end incomplete\n") text) (λ rest. Some (End false, rest)) None)
 
--- a line that tells a word
+-- a line that gives a word of the memory
 unfoldable pub word_at : List ℕ → Option (ReportLine × List ℕ)
 word_at text =
     instead (valued_at 10 (codes "word ") text) (λ p. Some (Word p.0 p.1, p.2))

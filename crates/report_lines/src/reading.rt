@@ -94,7 +94,7 @@ fn read_end(text: &[u8]) -> Option<(ReportLine, &[u8])>
     Some((ReportLine::End(false), rest))
 }
 
-/// A line that tells a word.
+/// A line that gives a word of the memory.
 #[tactic(auto, unfolding(crate::specs::Reading::word_at))]
 fn read_word(text: &[u8]) -> Option<(ReportLine, &[u8])>
     ensures { GivesRead (λ x. (x.0, x.1.now)) result (word_at text.now) }

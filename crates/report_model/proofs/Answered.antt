@@ -13,7 +13,7 @@ use Rattle.report_model.specs.declared.answer.NoReportAnswer.TheVariants.{Bad, N
 use Rattle.report_model.specs.Answers.{HasNoRunAnswer, IsAnswerToReport, IsAnswerToRun, IsNoAnswerToReport, IsNoAnswerToRun}
 use Rattle.report_model.specs.Run.{ModelledRun, report_run_of}
 
--- the same answer, of the same words and entries
+-- an answer to lines is one by another name of the number of words and of the entries
 pub answer_to_same : {A : Type 0} (words told : ℕ) (entries given : List LineEntry) (options : Options) (a : Answer A) → told ≡ words → given ≡ entries
     → IsAnswerToLines told given options a → IsAnswerToLines words entries options a
 answer_to_same words told entries given options a words_are entries_are is =

@@ -48,7 +48,7 @@ run_after r (End complete) = record r { count = r.count + 1 }
 abbrev pub report_run_of : List ReportLine → ModelledRun
 report_run_of lines = fold run_after nothing_run lines
 
--- the same of what the program keeps
+-- what the lines of a report say, by what the program keeps of them
 abbrev pub run_seen : {A : Type 0} → RunLines A → ModelledRun
 run_seen r = record {
   count = r.count;

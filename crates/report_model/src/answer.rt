@@ -77,7 +77,7 @@ fn answer_to_run<A: Allocator + Copy>(
 /// Which memory models a good report obeys. A processor's operations are in program order by their issues;
 /// a word's are in its order by their services.
 ///
-/// Errors: its first bad line, or that it has no order lines, or memory.
+/// Errors: its first bad line, or that it has no order lines, or out of memory.
 pub fn answer_to_report<A: Allocator + Copy>(
     alloc: A,
     report: &[u8],

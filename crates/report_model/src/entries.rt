@@ -95,7 +95,7 @@ fn put_services<A: Allocator + Copy>(
 
 /// The entries of a report as a log, where its processors' programs are these steps.
 ///
-/// Errors: memory.
+/// Errors: out of memory.
 pub(crate) fn entries_with<A: Allocator + Copy>(
     alloc: A,
     run: &RunLines<A>,
@@ -121,7 +121,7 @@ fn steps_of<A: Allocator>(alloc: A, rows: &[ReportRow]) -> Result<Vec<ProgramSte
 
 /// The entries of a report as a log without fences.
 ///
-/// Errors: memory.
+/// Errors: out of memory.
 pub(crate) fn entries_of<A: Allocator + Copy>(
     alloc: A,
     run: &RunLines<A>,

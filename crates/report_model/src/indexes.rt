@@ -23,7 +23,7 @@ fn made_by<A: Allocator>(counts: &BTreeMap<u32, u32, A>, p: u32) -> u32
 
 /// The numbers of the issues of steps.
 ///
-/// Errors: memory.
+/// Errors: out of memory.
 pub(crate) fn issues_of_steps<A: Allocator>(
     alloc: A,
     steps: &[ProgramStep],
@@ -35,7 +35,7 @@ pub(crate) fn issues_of_steps<A: Allocator>(
 
 /// The names of steps.
 ///
-/// Errors: memory.
+/// Errors: out of memory.
 pub(crate) fn names_of<A: Allocator + Copy>(
     alloc: A,
     steps: &[ProgramStep],

@@ -35,7 +35,7 @@ fn put_steps<A: Allocator>(
 
 /// The program of processor p, which has these lines and operations.
 ///
-/// Errors: the first operation that isn't the script's next one, or memory.
+/// Errors: the first operation that isn't the script's next one, or out of memory.
 fn program_of<A: Allocator + Copy>(
     alloc: A,
     p: u32,
@@ -79,7 +79,7 @@ fn program_of<A: Allocator + Copy>(
 
 /// A processor's operations.
 ///
-/// Errors: memory.
+/// Errors: out of memory.
 fn operations_by<A: Allocator>(
     alloc: A,
     made: &[ReportRow],
@@ -106,7 +106,7 @@ fn script_of<A: Allocator>(scripts: &Scripts<A>, p: u32) -> &[Line]
 
 /// The programs of the processors below a number, whose operations are given in the order of issue.
 ///
-/// Errors: the first operation that isn't its script's next one, or memory.
+/// Errors: the first operation that isn't its script's next one, or out of memory.
 pub(crate) fn programs_of<A: Allocator + Copy>(
     alloc: A,
     scripts: &Scripts<A>,

@@ -24,7 +24,7 @@ fn served_at(entries: &[ServedLine], k: usize) -> ServedLine
 
 /// Entries by their banks and places, the first of each.
 ///
-/// Errors: memory.
+/// Errors: out of memory.
 fn entries_by_key<A: Allocator + Copy>(
     alloc: A,
     entries: &[ServedLine],
@@ -81,7 +81,7 @@ pub(crate) fn push_some<A: Allocator>(
 
 /// The operations of entries by their services, in the order of order lines.
 ///
-/// Errors: memory.
+/// Errors: out of memory.
 fn rows_by<A: Allocator + Copy>(
     alloc: A,
     entries: &[ServedLine],
@@ -100,7 +100,7 @@ fn rows_by<A: Allocator + Copy>(
 
 /// The operations of a run by their services.
 ///
-/// Errors: memory.
+/// Errors: out of memory.
 pub(crate) fn rows_of<A: Allocator + Copy>(
     alloc: A,
     run: &RunLines<A>,

@@ -13,7 +13,7 @@ use std::alloc::{AllocError, Allocator};
 
 /// What the lines of a report say of its run.
 ///
-/// Errors: memory.
+/// Errors: out of memory.
 pub(crate) fn read_run<A: Allocator + Copy>(
     alloc: A,
     text: &[u8],

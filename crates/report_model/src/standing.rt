@@ -27,7 +27,7 @@ fn is_fence(line: Line) -> bool
 
 /// Hands the lines from a place on to a follower, as long as it has finished those before.
 ///
-/// Errors: memory.
+/// Errors: out of memory.
 pub(crate) fn hand<A: Allocator>(
     follower: &mut Follower<A>,
     lines: &[Line],

@@ -58,7 +58,7 @@ there_is_a_cycle = record {
     joined (suc zero) low = record { first = omega arith; second = omega arith; joined = refl }
     joined (suc (suc k)) low = absurd (omega (arith, low))
 
--- the same edges in another order are none, since each must lead to where the next one begins
+-- the edges of a cycle in another order are no cycle: each must lead to where the next one begins
 order_matters : IsEdgeCycle around (0 ∷ 1 ∷ 2 ∷ []) → ⊥
 order_matters c =
     let step : 1 ≡ 2 = (c.each 0 (omega arith)).joined in absurd (omega (arith, step))

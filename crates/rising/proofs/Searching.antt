@@ -256,7 +256,7 @@ read_next g x to width wide end other leads =
     let low : to < g.columns = omega arith in
     record { low = low; marked = leads low }
 
--- the same steps, as the code has them
+-- a search with one node more on the path, by the names that the code has
 pub pushed_at : (g : Digraph) (marks : List Mark) (path : List Look) (finished y to n : ℕ) (next : List Look) → IsDepthSearch g marks path finished
     → y < g.nodes → node_mark marks y ≡ New → ((last : ℕ) → last + 1 ≡ length path → StepsOn g (path_look path last) y)
     → IsNextColumn g y 0 to → n ≡ length path → next ≡ path ++ record { node = y; column = to } ∷ []

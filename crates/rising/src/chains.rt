@@ -26,7 +26,7 @@ pub struct Chains<'a, A: Allocator = Global> {
 
 /// Chains the edges from each node.
 ///
-/// Errors: memory.
+/// Errors: out of memory.
 pub fn chains_of<'a, A: Allocator + Copy>(
     alloc: A,
     nodes: usize,

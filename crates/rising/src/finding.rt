@@ -24,7 +24,7 @@ pub enum Searched<A: Allocator = Global> {
 /// numbers for the nodes, from 0 on and all different, that rise along each edge, or nodes that lead
 /// around. Each node and each edge is looked at once.
 ///
-/// Errors: memory, and no other.
+/// Errors: out of memory, and no other.
 pub fn find<A: Allocator + Copy, G: Graph>(alloc: A, graph: &G) -> Result<Searched<A>, AllocError>
     ensures { IfOk result (IsOrderOrCircuit (G.digraph graph.now)) }
 {
@@ -38,7 +38,7 @@ pub fn find<A: Allocator + Copy, G: Graph>(alloc: A, graph: &G) -> Result<Search
 /// Finds numbers for the nodes, from 0 on and all different, that rise along each edge of a list, or
 /// edges that lead around: in time that is linear in nodes and edges.
 ///
-/// Errors: memory, and no other.
+/// Errors: out of memory, and no other.
 pub fn rise<A: Allocator + Copy>(
     alloc: A,
     nodes: usize,

@@ -39,7 +39,7 @@ pub enum Visited<A: Allocator = Global> {
 
 /// Searches in depth from a node.
 ///
-/// Errors: memory.
+/// Errors: out of memory.
 pub fn visit<A: Allocator + Copy, G: Graph>(
     alloc: A,
     graph: &G,
@@ -93,7 +93,7 @@ pub fn visit<A: Allocator + Copy, G: Graph>(
 
 /// Searches in depth from all nodes: nodes that lead around, or none.
 ///
-/// Errors: memory.
+/// Errors: out of memory.
 pub fn visit_all<A: Allocator + Copy, G: Graph>(
     alloc: A,
     graph: &G,
@@ -131,7 +131,7 @@ fn height_of(mark: Mark) -> usize
 
 /// Numbers from the heights: the higher the height, the lower the number.
 ///
-/// Errors: memory.
+/// Errors: out of memory.
 pub fn numbers_of<A: Allocator + Copy>(
     alloc: A,
     marks: &[Mark],
@@ -150,7 +150,7 @@ pub fn numbers_of<A: Allocator + Copy>(
 
 /// The edges of a path.
 ///
-/// Errors: memory.
+/// Errors: out of memory.
 pub fn columns_of<A: Allocator + Copy>(
     alloc: A,
     looks: &[Look],

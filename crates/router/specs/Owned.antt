@@ -12,7 +12,7 @@ pub record AreInverse (owned owner : List (Option ℕ)) : Type 0 where
   pub forth : IsAnswered owned owner
   pub back : IsAnswered owner owned
 
--- the same, of at most 26 inputs
+-- the outputs that at most 26 inputs own, and the inputs by which outputs are owned
 pub record AreFewInverse (owned owner : List (Option ℕ)) : Type 0 where
   pub inverse : AreInverse owned owner
   pub few : length owned ≤ 26

@@ -56,7 +56,7 @@ impl<A: Allocator + Copy> Router<A> {
     /// empty. The depth is 1 to 8. The places of each channel stand in the row from its place among
     /// the channels times the depth on.
     ///
-    /// Errors: `AllocError` where there is no room; the steps take none.
+    /// Errors: out of memory.
     pub fn new(alloc: A, torus: Torus, tile: u32, depth: u32) -> Result<Router<A>, AllocError>
         requires tile { tile < tiles_of torus }
         requires some { 0 < depth }

@@ -75,11 +75,11 @@ form_of (keyword ∷ rest) =
     else (if bytes_eq keyword (codes "spin") then spin_form rest
     else (ok_or (code_named keyword) reason.UnknownOperation >>= operation_form rest))
 
--- an address is below the number of words; where only the fault is told
+-- an address is below the number of words; where only the fault is reported
 abbrev pub below : ℕ → ℕ → Result (Unit {0}) Fault
 below address words = if nat_lt address words then Ok tt else Err fault.Address
 
--- a number is a word of 64 bits; where only the fault is told
+-- a number is a word of 64 bits; where only the fault is reported
 abbrev pub checked_word : ℕ → Result ℕ Fault
 checked_word number = if nat_lt number (2 ^ 64) then Ok number else Err fault.Range
 

@@ -69,7 +69,7 @@ after_init_values r [] = Err (reason.NumberCount key.Init)
 after_init_values r (address ∷ []) = Err (reason.NumberCount key.Init)
 after_init_values r (address ∷ value ∷ other ∷ more) = Err (reason.NumberCount key.Init)
 
--- the same opening words with these settings
+-- what was read, with these settings, and with its opening words as they were
 abbrev pub with_settings : Reading → Settings → Result Reading TextReason
 with_settings r s = Ok (record r { settings = s })
 
@@ -125,6 +125,6 @@ machine_from r number (line ∷ lines) =
 abbrev pub machine_or_why : List (List ℕ) → Result MachineSpec (Refusal TextReason)
 machine_or_why lines = machine_from nothing_read 1 lines
 
--- the same by its fault
+-- the machine of a text, given as the list of its lines, or the fault and the line of its refusal
 abbrev pub machine_of : List (List ℕ) → Result MachineSpec LineFault
 machine_of lines = by_fault fault_of (machine_or_why lines)

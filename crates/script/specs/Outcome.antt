@@ -5,12 +5,12 @@ use Rattle.torus.specs.declared.fault.Fault.TheVariants as fault
 use Rattle.lexer.specs.declared.refusal.Refusal.{Refusal}
 use Rattle.script.specs.declared.fault.LineFault.{LineFault}
 
--- the fault that a refusal tells: that of its reason, at its line
+-- the fault of a refusal: that of its reason, at its line
 abbrev pub fault_of_refusal : {R : Type 0} → (R → Fault) → Refusal R → LineFault
 fault_of_refusal fault_of refusal =
     record { fault = fault_of refusal.reason; line = refusal.line }
 
--- what a line makes where only the fault of its reason is told
+-- what a line makes where only the fault of its reason is reported
 abbrev pub line_by_fault : {A R : Type 0} → (R → Fault) → Result A R → Result A Fault
 line_by_fault fault_of (Ok x) = Ok x
 line_by_fault fault_of (Err reason) = Err (fault_of reason)
@@ -20,7 +20,7 @@ abbrev pub unless : {A R : Type 0} → Option R → Result A R → Result A R
 unless None made = made
 unless (Some reason) made = Err reason
 
--- what a reader answers where only the fault of a refusal is told
+-- what a reader answers where only the fault of a refusal is reported
 abbrev pub by_fault : {A R : Type 0} → (R → Fault) → Result A (Refusal R) → Result A LineFault
 by_fault fault_of (Ok x) = Ok x
 by_fault fault_of (Err refusal) = Err (fault_of_refusal fault_of refusal)
@@ -37,7 +37,7 @@ abbrev pub then_lines : {A B : Type 0} → ℕ → Result A Fault → (A → Res
 then_lines number (Err e) rest = Err (record { fault = e; line = number })
 then_lines number (Ok x) rest = rest x
 
--- the line that a fault is told at: a refusal of memory is at none
+-- the line at which a fault is reported: a refusal of memory is at none
 abbrev pub line_of_fault : Fault → ℕ → ℕ
 line_of_fault fault.Memory line = 0
 line_of_fault _ line = line

@@ -42,7 +42,7 @@ line_or_why tiles words processor rest =
     if nat_lt p tiles then (line_of_form words form >>= λ line. Ok (p, line))
     else Err (reason.ProcessorLimits tiles)
 
--- the same by its fault
+-- the processor and the line of a script that these words stand for, or the fault of their refusal
 abbrev pub line_for : ℕ → ℕ → List ℕ → List (List ℕ) → Result (ℕ × Line) Fault
 line_for tiles words processor rest =
     line_by_fault fault_of (line_or_why tiles words processor rest)
@@ -75,6 +75,7 @@ abbrev pub scripts_or_why : MachineSpec → List (List ℕ) → Result ScriptsSp
 scripts_or_why machine lines =
     scripts_from (length machine.opening) (replicate (tiles_of machine.shape) []) 1 lines
 
--- the same by its fault
+-- the scripts of a text for a machine, given as the list of its lines, or the fault and the line of
+-- its refusal
 abbrev pub scripts_of : MachineSpec → List (List ℕ) → Result ScriptsSpec LineFault
 scripts_of machine lines = by_fault fault_of (scripts_or_why machine lines)

@@ -144,6 +144,7 @@ abbrev pub steps_or_why : MachineSpec → List (List ℕ) → Result (List Step)
 steps_or_why machine lines =
     steps_from (tiles_of machine.shape) (dims_of machine.shape) [] 1 lines
 
--- the same by its fault
+-- the steps of a text for a machine, given as the list of its lines, or the fault and the line of
+-- its refusal
 abbrev pub steps_of : MachineSpec → List (List ℕ) → Result (List Step) LineFault
 steps_of machine lines = by_fault fault_of (steps_or_why machine lines)

@@ -5,7 +5,8 @@ use crate::reason::TextReason;
 use lexer::{index, value};
 use torus::Fault;
 
-/// The index that a word spells where one belongs; from 2^31 on, which no field takes, all count as one.
+/// The index that a word spells, at most 2^31: no field takes so large a number, so greater ones count as
+/// 2^31.
 ///
 /// Errors: `Fault::Line` for a word that spells none.
 pub fn an_index(word: &[u8]) -> Result<u32, Fault>

@@ -59,7 +59,7 @@ behind_spin m s over loads rest x how among = ⊎_elim
 abbrev spin_at : ℕ → ℕ → ℕ → ℕ → SpentSpin
 spin_at place a v m = record { place = place; address = a; sought = v; loads = m }
 
--- the same by another name of its place, and of the replies
+-- a spin that is told is told by another name of its place, and of the replies
 renamed : (at place : ℕ) (lines : List Line) (replies others : List (Option ℕ)) (a v m i : ℕ) (p : ℕ) → p ≡ place → replies ≡ others
     → slice_get (spent_from at lines others) i ≡ Some (spin_at p a v m) → IsAmong (spent_from at lines replies) (spin_at place a v m)
 renamed at place lines replies others a v m i p is same h =

@@ -66,7 +66,7 @@ spun_told (suc left) s over (None ∷ replies) x h = none_among x h
 spun_told (suc left) s over (Some r ∷ replies) x h =
     load_told left s over r replies x (r == s.sought) refl (λ among. spun_told left s over replies x among) h
 
--- the same from a place on
+-- a spin ran out of loads, where the places of the script's lines are counted from `at` on
 record RanOutFrom (at : ℕ) (lines : List Line) (replies : List (Option ℕ)) (spin : SpentSpin) : Type 0 where
   pub front : List Line
   pub behind : List Line

@@ -52,14 +52,16 @@ pub record IsEndOf {A : Type 0} (text : List (List ℕ)) (scripts : List (List L
   pub unfinished : ended.unfinished ≡ unfinished_in answers scripts
   pub answered : ended.answered ≡ answered_in answers
 
--- the same of the scripts of a text for the machine of a text, of which neither has a fault
+-- this is what became of the scripts of a text for the machine of a text, of which neither has a
+-- fault, by the answers of each processor
 pub record IsEndOfTexts {A : Type 0} (machine text : List (List ℕ)) (answers : List (List Answer))
     (ended : EndedScripts A) : Type 0 where
   pub scripts : ScriptsSpec
   pub read : scripts_read machine text ≡ Ok scripts
   pub is : IsEndOf text scripts.lists answers ended
 
--- the same, with the spins in the order of the script text
+-- this is what became of the scripts of a text for the machine of a text, of which neither has a
+-- fault, with the spins in the order of the script text
 pub record IsEndInTextOrder {A : Type 0} (machine text : List (List ℕ)) (answers : List (List Answer))
     (ended : EndedScripts A) : Type 0 where
   pub scripts : ScriptsSpec

@@ -8,7 +8,7 @@ use Rattle.one_order.specs.Scripts.{reply_number}
 abbrev pub reply_in : List Answer → ℕ → Option ℕ
 reply_in answers i = option_map (λ a. reply_number a.reply) (find (λ a. a.index == i) answers)
 
--- the same of the first operations, as many as there are answers: behind the first one that isn't
--- answered nothing counts
+-- the numbers replied to the first operations, as many as there are answers: behind the first one
+-- that isn't answered nothing counts
 abbrev pub replies_in : List Answer → List (Option ℕ)
 replies_in answers = map (reply_in answers) (range_with_len 0 (length answers))

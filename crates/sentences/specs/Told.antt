@@ -1,4 +1,4 @@
--- What a sentence tells of the texts of a command.
+-- What a sentence says of the texts of a command.
 use Rattle.std.specs.Prelude.{◌≡◌, ◌⊎◌, ℕ, ◌≤◌, ◌<◌, true, List, Option, Some, None}
 use Rattle.std.specs.Prelude.{Result, Ok, Err, is_ok}
 use Rattle.std.specs.Str.Lines.{lines}
@@ -67,7 +67,8 @@ abbrev pub scripts_or_why_of :
     List (List ℕ) → List (List ℕ) → Result ScriptsSpec (Refusal TextReason)
 scripts_or_why_of machine scripts = machine_or_why machine >>= λ m. scripts_or_why m scripts
 
--- the same of the steps of a machine text, a script text and a steps text
+-- the steps of a machine text, a script text and a steps text, or where and why the first of them
+-- that is bad is refused
 abbrev pub steps_or_why_of :
     List (List ℕ) → List (List ℕ) → List (List ℕ) → Result (List Step) (Refusal TextReason)
 steps_or_why_of machine scripts steps =
@@ -85,7 +86,8 @@ IsFromScripts machine scripts s = (s.reason ≡ reason.Memory)
     ⊎ IsFrom (machine_or_why (lines machine.text.now)) (IsAboutText machine s)
     (λ m. IsAboutText scripts s)
 
--- the same of a machine text, a script text and a steps text
+-- it is about the first text that is refused, of a machine text, a script text and a steps text; or
+-- memory was refused
 abbrev pub IsFromSteps : Named → Named → Named → Sentence → Type 0
 IsFromSteps machine scripts steps s = (s.reason ≡ reason.Memory)
     ⊎ IsFrom (machine_or_why (lines machine.text.now)) (IsAboutText machine s)
@@ -103,7 +105,7 @@ abbrev pub TellsOf : ℕ → ℕ → ℕ → Option TileSentence → Type 0
 TellsOf tiles src dst None = (src < tiles) × (dst < tiles)
 TellsOf tiles src dst (Some t) = IsOutside tiles src dst t
 
--- the same of the machine of a text, which has no fault
+-- what is told of two tiles of the machine of a text, which has no fault
 pub record TellsTile (read : Result MachineSpec LineFault) (src dst : ℕ) (told : Option TileSentence) : Type 0 where
   pub machine : MachineSpec
   pub is : read ≡ Ok machine

@@ -55,7 +55,7 @@ module _ {S C T : Type 0} (wants : S → C → Option Want) (after : S → C →
   keeps_by (Some (s, l)) e next left is =
       subst (λ (z : Surroundings). Keeps z) (ap (λ (p : T × Surroundings). p.1) (some_injective is)) (keeps s l e)
 
-  -- the same where the step is seen in T
+  -- what an enabled choice keeps, where its step is seen in T
   pub keeps_in : (next : T) (left : Surroundings) → option_map put_in step ≡ Some (next, left) → Keeps left
   keeps_in next left is = keeps_by step refl next left is
 

@@ -25,15 +25,15 @@ pub record PlacedTile : Type 0 where
   pub place : TilePlace
   pub room : ℕ
 
--- the same room with another place
+-- a tile in another place, with room for as many entries
 abbrev pub with_place : PlacedTile → TilePlace → PlacedTile
 with_place v p = record { place = p; room = v.room }
 
--- the same tile with room for another number of entries in its bank
+-- a tile with room for another number of entries in its bank, in its place as it was
 abbrev pub with_room : PlacedTile → ℕ → PlacedTile
 with_room v room = record { place = v.place; room = room }
 
--- the same tile with its processor in another state, at the same ports
+-- a tile with its processor in another state, at the ports that it had
 abbrev pub with_processor : PlacedTile → ProcessorState → PlacedTile
 with_processor v state = record {
   place = record {

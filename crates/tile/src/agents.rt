@@ -51,7 +51,7 @@ impl<A: Allocator + Copy> TileAgents<A> {
     /// bank. The depth is 1 to 8, the tags are 1 to 16, the script has at most 4096 operations, and
     /// the room is at most 65536.
     ///
-    /// Errors: `AllocError` where there is no memory; the steps take none.
+    /// Errors: out of memory.
     pub fn new(
         alloc: A,
         torus: Torus,

@@ -13,7 +13,7 @@ use std::alloc::{AllocError, Allocator};
 impl<A: Allocator> TileAgents<A> {
     /// Makes room for so many entries of the bank more, at most 65536 in all.
     ///
-    /// Errors: `AllocError` where there is no memory; then nothing has changed.
+    /// Errors: out of memory; then nothing has changed.
     pub fn reserve(&mut self, more: usize) -> Result<(), AllocError>
         requires { self.old.room + more ≤ 65536 }
         ensures room { OnOk result (self.new ≡ with_room self.old (self.old.room + more)) }
@@ -34,7 +34,7 @@ impl<A: Allocator> TileAgents<A> {
     /// most 65536: those issued, those that the script still allows, and the line's. A spin has loads,
     /// and a `last` an operation before it.
     ///
-    /// Errors: `AllocError` where there is no memory; then nothing has changed.
+    /// Errors: out of memory; then nothing has changed.
     pub fn append(&mut self, line: Line, room: usize) -> Result<(), AllocError>
         requires loads { (a v m : ℕ) → line ≡ Line.Spin a v m → 0 < m }
         requires last { mentions_last line ≡ true

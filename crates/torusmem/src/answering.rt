@@ -26,14 +26,14 @@ pub(crate) enum Outcome {
     Talked,
     /// What became of a job with scripts.
     Ran(Ended),
-    /// Whether nothing is wrong with a network: the numbers of its channels rise, or a run that is
-    /// replayed doesn't end locked, or a simulation ends empty.
+    /// Whether nothing is wrong with a network: the numbers of its channels rise, or a run that is replayed
+    /// doesn't end in a deadlock, or a simulation ends empty.
     Sound(bool),
     /// What a trace is judged to be, with so many configurations at most.
     Judged(Judged, u32),
     /// What a log is judged to be, of which this model decides the status.
     Modelled(Modelled, MemoryModel),
-    /// The same by its replies alone.
+    /// What a log is judged to be by its replies alone, of which this model decides the status.
     Decided(Decided, MemoryModel),
 }
 
@@ -119,7 +119,8 @@ fn modelled_by(
     Ok(Outcome::Modelled(modelled?, model))
 }
 
-/// The same where its replies alone count.
+/// The answer of a job that judges a log by its replies alone, of which the model of this name decides the
+/// status.
 fn decided_by(
     decided: Result<Decided, ProgramFault>,
     model: &str,

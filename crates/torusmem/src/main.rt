@@ -111,7 +111,7 @@ fn other_done<R: Files + Input + Print + Eprint + Clock + AllocGlobal + Threads 
     }
 }
 
-/// The answer of the job, whose output was written to its last byte. How a run ended is told behind
+/// The answer of the job, whose output was written to its last byte. How a run ended is printed behind
 /// its report, where that is asked for or standard error `is_seen`.
 fn printed<R: Input + Print + Eprint + Clock + AllocGlobal + Threads + Wait + Sync>(
     rt: &R,

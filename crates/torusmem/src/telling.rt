@@ -1,4 +1,4 @@
-//! What standard error is told of an answer or a fault, and the exit status of an answer.
+//! What is printed on standard error of an answer or a fault, and the exit status of an answer.
 
 ghost use Rattle.command_line.specs.Job.{AreJobLimits};
 
@@ -74,7 +74,7 @@ fn tell_unmodelled<R: Eprint>(rt: &R, modelled: Modelled) {
     }
 }
 
-/// Says why a trace has no order from a line on, or what the run uses by which a network locks up,
+/// Says why a trace has no order from a line on, or what the run uses by which a network deadlocks,
 /// where that is the answer.
 pub(crate) fn explain_outcome<R: Eprint + AllocGlobal>(
     rt: &R,
@@ -106,7 +106,7 @@ pub(crate) fn explain_outcome<R: Eprint + AllocGlobal>(
     }
 }
 
-/// Says why the texts of a job have the fault that it answers, where that can be told from them.
+/// Says why the texts of a job have the fault that it answers, where that can be found from them.
 pub(crate) fn explain_fault<R: Eprint + AllocGlobal>(
     rt: &R,
     job: &Job,

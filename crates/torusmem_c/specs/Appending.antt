@@ -55,13 +55,13 @@ lines address one two sought loads =
 abbrev pub numbered_line : ℕ → ℕ → Value → Value → ℕ → ℕ → Option Line
 numbered_line number address one two sought loads = slice_get (lines address one two sought loads) number
 
--- the same, of two numbers, of which `lasts` says whether they stand for `last`
+-- the line that has a number, with two numbers of which `lasts` says whether they stand for `last`
 abbrev pub line_said : ℕ → ℕ → ℕ → ℕ → ℕ → Option Line
 line_said number address first second lasts =
     numbered_line number address (c_value (is_first_last lasts) first)
     (c_value (is_second_last lasts) second) first second
 
--- that line; where `lasts` has another bit there is none
+-- the line that a call from C names; where `lasts` has another bit there is none
 abbrev pub line_named : ℕ → ℕ → ℕ → ℕ → ℕ → Option Line
 line_named number address first second lasts =
     if nat_le lasts 3 then line_said number address first second lasts else None

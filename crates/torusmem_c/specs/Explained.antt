@@ -30,7 +30,7 @@ abbrev pub of_texts : Result MachineSpec LineFault → List (List ℕ) → Optio
 of_texts (Ok m) scripts = of_scripts (scripts_of m scripts)
 of_texts (Err e) scripts = Some (record { text = Machine; fault = e })
 
--- the same of the texts' lines
+-- the first fault of a machine text, or else of a scripts text, each given as the list of its lines
 abbrev pub first_fault : List (List ℕ) → List (List ℕ) → Option Found
 first_fault machine scripts = of_texts (machine_of machine) scripts
 

@@ -23,7 +23,8 @@ abbrev pub OfHeld : {R : Type 0} → R → (Core → Core → R → Type 0) → 
     → Type 0
 OfHeld empty does = OfAsked empty (OnCore does)
 
--- the same, of a call that answers by an c_outcome
+-- a call works on the machine that a handle holds, and answers by a c_outcome: `Empty` where it
+-- holds none
 abbrev pub OnHeld : (Core → Core → Outcome → Type 0) → Option Asked → Option Asked → Outcome
     → Type 0
 OnHeld does = OfHeld (c_outcome code.Empty 0) does

@@ -55,7 +55,8 @@ OpensEmpty (Ok s) depth tags opening None r = r ≡ no_memory
 OpensEmpty (Ok s) depth tags opening (Some v) r =
     IsOpened s depth tags opening v × (r ≡ c_outcome code.Done 0)
 
--- the same; where a machine is held already, it stays, and the answer says so
+-- what a handle holds after it was opened: what OpensEmpty says, if it held nothing; where a
+-- machine is held already, it stays, and the answer says so
 abbrev pub Opens : Result Shape Fault → ℕ → ℕ → List ℕ → Option Asked → Option Asked → Outcome
     → Type 0
 Opens asked depth tags opening None new r = OpensEmpty asked depth tags opening new r
@@ -73,7 +74,8 @@ abbrev pub GoesOnRunning : Asked → Asked → Option Asked → Outcome → Type
 GoesOnRunning old new after r =
     (rounds : Outcome) × OnCore SaysFinished old new rounds × HandsOn new rounds after r
 
--- the same of two handles; where the other one holds a machine, or this one none, nothing changes
+-- the machine of a handle makes rounds until every script is finished, and another handle opens
+-- with its words; where the other one holds a machine, or this one none, nothing changes
 abbrev pub Reopens : Option Asked → Option Asked → Option Asked → Option Asked → Outcome → Type 0
 Reopens old new (Some u) after r =
     (new ≡ old) × (after ≡ Some u) × (r ≡ c_outcome code.Full 0)

@@ -42,7 +42,8 @@ PutsKept v None before after r = LacksRecord before after r ⊎ LacksMemory befo
 PutsKept v (Some kept) before after r =
     PutsRecord v kept before after r ⊎ LacksMemory before after r
 
--- the same of a handle, which stays as it is; where it holds no machine the answer says so
+-- a call puts the record of a handle's machine into a buffer, and the handle stays as it is; where
+-- it holds no machine the answer says so
 abbrev pub Saves : List ℕ → List ℕ → Option Recorded → Option Recorded → Outcome → Type 0
 Saves before after None new r = (new ≡ None) × (after ≡ before) × (r ≡ c_outcome code.Empty 0)
 Saves before after (Some v) new r = (new ≡ Some v) × PutsKept v v.kept before after r
@@ -60,7 +61,8 @@ abbrev pub RestoresEmpty : List ℕ → Option Recorded → Outcome → Type 0
 RestoresEmpty bs None r = (why : Unrestored) × IsUnrestored bs why × (r ≡ unrestored_outcome why)
 RestoresEmpty bs (Some v) r = IsRestored bs v × (r ≡ c_outcome code.Done 0)
 
--- the same; where a machine is held already, it stays, and the answer says so
+-- what a handle holds once bytes are restored: what RestoresEmpty says, if it held nothing; where a
+-- machine is held already, it stays, and the answer says so
 abbrev pub Restores : List ℕ → Option Recorded → Option Recorded → Outcome → Type 0
 Restores bs None new r = RestoresEmpty bs new r
 Restores bs (Some v) new r = (new ≡ Some v) × (r ≡ c_outcome code.Full 0)
@@ -71,8 +73,8 @@ abbrev pub ClonesTo : Recorded → Option Recorded → Outcome → Type 0
 ClonesTo v (Some u) r = AreAlikeMachines u v × (r ≡ c_outcome code.Done 0)
 ClonesTo v None r = ((v.kept ≡ None) × (r ≡ c_outcome code.NoRecord 0)) ⊎ (r ≡ no_memory)
 
--- the same of two handles; the first stays as it is, and so does the other where it holds a machine, or
--- the first none
+-- a call copies the machine of a handle with its record to another handle; the first stays as it
+-- is, and so does the other where it holds a machine, or the first none
 abbrev pub Clones : Option Recorded → Option Recorded → Option Recorded → Option Recorded → Outcome
     → Type 0
 Clones old new (Some u) after r =

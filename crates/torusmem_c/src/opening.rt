@@ -26,7 +26,8 @@ fn torus_asked(shape: &ShapeRecord) -> Result<Torus, Fault>
     Torus::mixed(&shape.radices[..dims], &shape.datelines[..dims])
 }
 
-/// The same, if the other numbers are in their ranges, and there are not more opening words than words.
+/// The torus of the dimensions that a record has, if its other numbers are in their ranges, and there are
+/// not more opening words than words.
 fn shape_asked(shape: &ShapeRecord, given: usize) -> Result<Torus, Fault>
     ensures { result ≡ shape_asked shape.now given }
 {
@@ -113,7 +114,8 @@ pub extern "C" fn torusmem_open(
     }
 }
 
-/// The same machine, with a record of what is done to it.
+/// The machine of a torus, of the depth and the tags of a record, that opens with these words; and a record
+/// of what is done to it.
 fn opened_recorded(
     alloc: Global,
     torus: Torus,

@@ -25,7 +25,8 @@ pub record AreTimesBelow (events : List Event) (k count : ℕ) (times : List Tim
       → (i < k) × (reply : Reply) × TraceAnswersAt events i id reply
   pub low : (id : ℕ) → (time_of times id).issued ≤ k
 
--- the same of all events of a trace
+-- for each of so many operations it is told which event of a trace issues it, and which answers it,
+-- if one does
 abbrev pub AreTimes : List Event → ℕ → List Times → Type 0
 AreTimes events count times = AreTimesBelow events (length events) count times
 

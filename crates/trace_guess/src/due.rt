@@ -9,7 +9,8 @@ use packet::{Op, apply};
 use std::alloc::Allocator;
 
 impl<A: Allocator + Copy> Search<A> {
-    /// The first event that answers an operation still to be issued which finds a value, up to this event.
+    /// The first event that answers one of the next operations that are still to be issued and find this
+    /// value; the event `most`, if that comes first.
     fn due_later(&self, value: usize, most: usize) -> usize {
         let steps = self.uses.finders.of(value);
         let from = place_from(steps, self.state.at);

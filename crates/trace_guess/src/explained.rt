@@ -141,7 +141,8 @@ fn is_behind(heights: &[usize], places: &[usize], x: usize, i: usize) -> bool
     i < heights.len() && i < places.len() && heights[i] <= x && places[i] == x
 }
 
-/// Whether these events have their places in turn, and what is answered before each stands before it.
+/// Whether the x-th of these events has place x, for each x, and whatever is answered before it stands at a
+/// place before x.
 fn are_behind(issues: &[usize], heights: &[usize], places: &[usize]) -> bool
     ensures { result ≡ true → (x i : ℕ) → slice_get issues.now x ≡ Some i
         → IsBehindAnswered heights.now places.now x i }
@@ -177,7 +178,7 @@ fn is_order<A: Allocator + Copy>(
     Ok(are_behind(issues, &heights, places))
 }
 
-/// The same words.
+/// A copy of these words.
 fn copy_of<A: Allocator>(alloc: A, opening: &[u64]) -> Result<Vec<u64, A>, AllocError>
     ensures { IfOk result (λ v. v.items ≡ opening.now) }
 {

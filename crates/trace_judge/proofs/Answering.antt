@@ -76,7 +76,7 @@ pub slot_low : {A : Type 0} (tables : List (Vec (Option Open) A)) (w slot : ℕ)
 slot_low {A} tables w slot o v l e at = get_within v.items slot (Some o)
     (subst (λ (ts : List (Option Open)). IsAt ts slot o) (sym (read_set tables w v l e)) at)
 
--- the same branches, read otherwise
+-- what IsSoundSearch says of branches, by another reading of the branches
 pub sound_as : (opening : List ℕ) (trace : List Event) (k : ℕ) (tables : ℕ → List (Option Open))
     (sets others : ℕ → List Branch) (nodes : List Node)
     → ((v : ℕ) → others v ≡ sets v)
@@ -159,7 +159,7 @@ holds_answer {A} opening trace whole k s tables words nodes slot a id reply old 
     (λ v ne. with_other sets w middle v ne) there holds.searched
     (sound opening trace k open' sets t holds.searched.tabled refl far begun)
 
--- the same, as the code sees it
+-- the branches after an answer, which leaves the word with some, as the code sees them
 pub seen_answer : {A : Type 0} (opening : List ℕ) (trace whole : List Event) (k : ℕ) (s : Search A)
     (tables : Vec (Vec (Option Open) A) A) (words : Vec (Vec Branch A) A) (nodes : Vec Node A)
     (slot : ℕ) (a : Open) (id : ℕ) (reply : Reply) (table shown cleared : Vec (Option Open) A) (seen : List (Option Open))

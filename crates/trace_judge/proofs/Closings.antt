@@ -161,7 +161,7 @@ keeping_push slot branches i kept later b at taken e was =
           (cases_eq j i);
     })
 
--- the same, where the slots without this one have a name
+-- a branch is kept behind the others, where what has taken effect without this slot has a name
 pub keeping_pushed : (slot : ℕ) (branches : List Branch) (i : ℕ) (kept later : List Branch) (b : Branch) (taken : ℕ)
     → slice_get branches i ≡ Some b → HasTakenEffect b.config slot → taken ≡ without_bit b.config.taken slot
     → later ≡ kept ++ record { config = record { word = b.config.word; taken = taken }; trail = b.trail } ∷ []

@@ -103,7 +103,7 @@ pub record GoesOnInTurn (opening : List ℕ) (trace : List Event) (k : ℕ) (tab
   pub up : KeepsUp opening table w (take n order) config
   pub cut : IsCut trace k w order n
 
--- the same, from another order
+-- what goes on from an order goes on from one whose answered operations stand in it at their places
 goes_back : (opening : List ℕ) (trace : List Event) (k : ℕ) (table : List (Option Open)) (w : ℕ)
     (old new : List Call) (configs : List Config) (n : ℕ)
     → ((x : ℕ) (c : Call) → IsAnswered trace c.id → slice_get old x ≡ Some c → slice_get new x ≡ Some c)

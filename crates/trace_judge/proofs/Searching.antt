@@ -91,7 +91,7 @@ promised words trace k call (Some told) t now tells = pending_now words trace k
           (λ (r : Reply). TraceAnswersAt trace tells.0 call.id r) same tells.2,
     ))
 
--- the same tables
+-- what IsSearchedInTurn says of tables, by another name of the tables
 searched_as : (opening : List ℕ) (trace : List Event) (k : ℕ) (tables others : ℕ → List (Option Open))
     (sets : ℕ → List Branch) (nodes : List Node) → ((v : ℕ) → others v ≡ tables v)
     → IsSearchedInTurn opening trace k tables sets nodes → IsSearchedInTurn opening trace k others sets nodes

@@ -84,7 +84,8 @@ fn expand<A: Allocator + Copy>(
     Ok(())
 }
 
-/// The same, of which each goes on until the operation in this slot has taken effect.
+/// The branches of a word after their idle operations took effect, each of which goes on until the
+/// operation in this slot has taken effect.
 fn go_on<A: Allocator + Copy>(
     alloc: A,
     branches: &[Branch],

@@ -23,7 +23,7 @@ pub struct Place {
     pub at: u32,
 }
 
-/// Places of which some tell the number of a branch. What a place tells counts where it was taken in this
+/// Places of which some hold the number of a branch. What a place holds counts where it was taken in this
 /// round, so to forget all is to begin another.
 #[derive(Drop)]
 pub struct Index<A: Allocator> {
@@ -59,7 +59,7 @@ impl<A: Allocator + Copy> Index<A> {
         self.round = self.round.wrapping_add(1);
     }
 
-    /// The number of a branch that a place tells.
+    /// The number of a branch that a place holds.
     fn told(&self, place: usize) -> Option<usize> {
         if place >= self.places.len() {
             return None;

@@ -236,7 +236,7 @@ fn explain<A: Allocator + Copy>(
 }
 
 /// An order that explains the trace, if there is one, found with at most so many configurations of a
-/// word at once. An `Err` tells why it isn't decided, and where: an answer at which a word has more
+/// word at once. An `Err` says why it isn't decided, and where: an answer at which a word has more
 /// configurations, or an issue beside 64 open operations
 /// on its word of which, as of it, all are answered in the trace, or none is.
 pub fn decide<A: Allocator + Copy>(
@@ -258,7 +258,7 @@ pub fn decide<A: Allocator + Copy>(
 
 /// Judges a trace over a memory that opens with these words, with at most so many configurations
 /// of a word at once: an order that explains it, or the first event up to which none does.
-/// An `Err` tells why the trace, or a beginning of it, isn't decided.
+/// An `Err` says why the trace, or a beginning of it, isn't decided.
 pub fn judge<A: Allocator + Copy>(
     alloc: A,
     opening: &[u64],

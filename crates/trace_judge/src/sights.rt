@@ -8,7 +8,7 @@ use packet::{Op, Reply};
 use std::alloc::{AllocError, Allocator};
 use trace_laws::{Call, Event};
 
-/// Where an answer tells the word that an operation leaves.
+/// Where an answer gives the word that an operation leaves.
 #[derive(Clone, Copy)]
 enum Sight {
     Nowhere,

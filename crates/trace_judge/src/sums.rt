@@ -21,7 +21,7 @@ fn is_one(sums: Sums, call: Call) -> bool {
     call.operation.address == sums.address && call.operation.op == Op::Add(sums.number)
 }
 
-/// The word that event i tells of this address, and the operation that it answers.
+/// The word that event i gives of this address, and the operation that it answers.
 fn told_at(events: &[Event], i: usize, sums: Sums) -> Option<(u64, Call)>
     requires { i < length events.now }
 {
@@ -67,7 +67,7 @@ fn next_missing(found: &[bool], from: usize) -> usize {
     found.len()
 }
 
-/// The first event behind event k that tells a word behind more sums.
+/// The first event behind event k that gives a word behind more sums.
 fn told_above(events: &[Event], k: usize, sums: Sums, steps: usize) -> Option<usize> {
     for i in k..events.len() {
         if let Some((told, _)) = told_at(events, i, sums)

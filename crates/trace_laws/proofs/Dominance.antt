@@ -34,7 +34,7 @@ taken_now c s u o l e = ap (λ (n : ℕ). bit_at (with_bit c.taken s) n) e ∙ w
 pub taken_back : (c : Config) (s u : ℕ) (o : Open) → s < 128 → u ≢ s → HasTakenEffect (effect c s o) u → HasTakenEffect c u
 taken_back c s u o l ne b = sym (with_other c.taken s u l ne) ∙ b
 
--- the same operation takes effect in both
+-- a configuration stays as good as another one if one operation takes effect in both
 pub good_effect : (table : List (Option Open)) (w : ℕ) (c d : Config) (s : ℕ) (o : Open) → s < 128
     → IsAsGood table w c d → IsAsGood table w (effect c s o) (effect d s o)
 good_effect table w c d s o m f = record {

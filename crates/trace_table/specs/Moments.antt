@@ -39,7 +39,7 @@ moment_cmp x y = ordering_then (nat_cmp x.time y.time)
     (ordering_then (bool_cmp x.is_answer y.is_answer)
     (ordering_then (nat_cmp x.line y.line) (nat_cmp x.row y.row)))
 
--- the same moments, in this order
+-- a list has these moments, each as often, and in turn
 pub record AreInTurn (moments order : List Moment) : Type 0 where
   pub same : IsPermutation moments order
   pub sorted : IsSorted moment_cmp order

@@ -73,7 +73,7 @@ fn name_place(name: &[u8], cells: &[&[u8]]) -> Option<usize>
     cells.iter().position(|cell| is_named_so(name, cell))
 }
 
-/// The same, of the cells' bytes.
+/// The place of the first cell whose bytes are this word.
 fn column_place(name: &[u8], cells: &[&[u8]]) -> Option<usize>
     ensures { result ≡ column_place name.now (map (λ cell. cell.now) cells.now) }
 {

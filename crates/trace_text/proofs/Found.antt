@@ -211,7 +211,7 @@ unfound r k bound (undecided.Operations event) u many =
     let w = crowd_in (place_of_address r.places) (placed_address r.addresses) (opening_of (trace_read r)) (others r) r.events (renumbering r k) event u in
     (event, line_is r k event (get_within r.events event (Issue w.another) w.issue), w)
 
--- the same, of the words and the events that the judge was given
+-- the words and the events that the judge was given are a trace
 pub trace_given : (r : TraceReading) → IsKeptIssue r → (ws : List ℕ) (es : List Event) → ws ≡ others r → es ≡ moved r → IsTrace (length ws) es
 trace_given r k ws es w e = rw (w, e) (trace_moved r k)
 

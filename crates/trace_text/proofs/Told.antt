@@ -40,7 +40,7 @@ told_by_fault e all found = elim found [
   | inr bad ↦ inr (ap (by_fault trace_fault_of) bad)
 ]
 
--- what is read where only the fault is told
+-- what is read where only the fault is reported
 pub read_by_fault : {A : Type 0} (all : Result A (Refusal TraceReason)) (t : A) → by_fault trace_fault_of all ≡ Ok t → all ≡ Ok t
 read_by_fault (Ok x) t h = cc
 read_by_fault (Err e) t h = absurd (cc)

@@ -88,7 +88,7 @@ impl<A: Allocator + Copy> TraceText<A> {
     /// it as it is written, or the line of the first event up to which none does.
     ///
     /// Errors: the line of the answer before which a word has more configurations, the line of the issue
-    /// beside 64 operations that are open on its word, or no memory.
+    /// beside 64 operations that are open on its word, or out of memory.
     pub fn linearize(&self, alloc: A, bound: usize) -> Result<Finding<A>, Unfound>
         ensures unfound { IfErr result (IsUnfound self.now bound) }
         ensures found { IfOk result (λ finding. TellsFinding self.now finding) }

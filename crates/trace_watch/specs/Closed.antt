@@ -19,13 +19,15 @@ abbrev pub IsExpandedState : List Call → List Call → List Config → Config 
 IsExpandedState calls newest configs c = AreDistinctPartners calls → (call : Call) → IsIn newest call
     → FitsPartner (IsIn calls) (after c call).effects → IsAmong configs (after c call)
 
--- whatever the newest operations lead to from one of the configurations is among more of them
+-- configurations grow by the ones to which one of the newest operations leads from the one at this
+-- place
 pub record Expands (at : ℕ) (calls newest : List Call) (old new : List Config) : Type 0 where
   pub expanded : (c : Config) → slice_get old at ≡ Some c → IsExpandedState calls newest new c
   pub grows : GoesOn old new
   pub sound : (all : List Call) → IsPart calls all → IsPart newest all → StaysExplained all old new
 
--- and from each of them from place `from` on, of the new ones too
+-- configurations grow by the ones to which one of the newest operations leads from each that stands
+-- at the place `from` or behind it, the added ones too
 pub record CatchesUp (from : ℕ) (calls newest : List Call) (old new : List Config) : Type 0 where
   pub closed : (j : ℕ) (c : Config) → from ≤ j → slice_get new j ≡ Some c
       → IsExpandedState calls newest new c

@@ -20,7 +20,7 @@ pub(crate) fn call_of(calls: &[Call], id: u64) -> Option<Call>
     None
 }
 
-/// The same operations.
+/// A copy of these operations.
 pub(crate) fn same_calls<A: Allocator>(alloc: A, calls: &[Call]) -> Result<Vec<Call, A>, AllocError>
     ensures { IfOk result (λ v. v.items ≡ calls.now) }
 {
@@ -31,7 +31,7 @@ pub(crate) fn same_calls<A: Allocator>(alloc: A, calls: &[Call]) -> Result<Vec<C
     Ok(same)
 }
 
-/// These operations and one more.
+/// A copy of these operations, with one more at the end.
 pub(crate) fn with_call<A: Allocator>(
     alloc: A,
     calls: &[Call],

@@ -148,7 +148,7 @@ pub(crate) fn is_covered<A: Allocator>(one: &State<A>, other: &State<A>) -> bool
     one.word == other.word && are_covered(&one.effects, &other.effects)
 }
 
-/// The same effects.
+/// A copy of these effects.
 fn copied<A: Allocator>(alloc: A, effects: &[Effect]) -> Result<Vec<Effect, A>, AllocError>
     ensures { IfOk result (λ v. v.items ≡ effects.now) }
 {
@@ -159,14 +159,14 @@ fn copied<A: Allocator>(alloc: A, effects: &[Effect]) -> Result<Vec<Effect, A>, 
     Ok(copies)
 }
 
-/// The same state.
+/// A copy of a state.
 pub(crate) fn copy_of<A: Allocator>(alloc: A, state: &State<A>) -> Result<State<A>, AllocError>
     ensures { IfOk result (λ s. config_of s ≡ config_of state.now) }
 {
     with_word(alloc, state, state.word)
 }
 
-/// The same effects, and another word.
+/// A state with copies of the effects of this one, and another word.
 pub(crate) fn with_word<A: Allocator>(
     alloc: A,
     state: &State<A>,

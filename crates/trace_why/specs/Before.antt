@@ -51,12 +51,14 @@ line_giving None stop lines = 0
 line_giving (Some sought) stop lines =
     unwrap_or (option_map (λ p. p.0) (given (gives_line sought.0) stop sought.1 1 lines)) 0
 
--- the same for the words of the refused line
+-- the line before the line `stop` that gives what a reason seeks, by the words of the refused line;
+-- 0 where none does
 abbrev pub earlier_words : TraceReason → ℕ → List (List ℕ) → List (List ℕ) → ℕ
 earlier_words why stop lines [] = 0
 earlier_words why stop lines (word ∷ values) = line_giving (sought_by why values) stop lines
 
--- the same for the refused line
+-- the line before a refused one that gives what its reason seeks, by the refused line, if it is
+-- there; 0 where none does
 abbrev pub earlier_at : Refusal TraceReason → List (List ℕ) → Option (List ℕ) → ℕ
 earlier_at s lines (Some line) = earlier_words s.reason s.line lines (first_words line)
 earlier_at s lines None = 0

@@ -1,4 +1,4 @@
--- Which refusal the sentence on a trace text tells.
+-- Which refusal the sentence on a trace text reports.
 use Rattle.std.specs.Prelude.{◌≡◌, ◌⊎◌, ℕ, true, List, Option, Some, None, Err, is_ok}
 use Rattle.lexer.specs.declared.refusal.Refusal.{Refusal}
 use Rattle.lexer.specs.Outcome.{refusal_at}
@@ -8,7 +8,7 @@ use Rattle.trace_text.specs.declared.reason.TraceReason.TheVariants as reason
 use Rattle.trace_text.specs.Traced.{trace_or_why}
 use Rattle.trace_why.specs.declared.refused.TraceSentence.{TraceSentence}
 
--- the refusal that a sentence tells
+-- the refusal that a sentence reports
 abbrev pub refusal_in : TraceSentence → Refusal TraceReason
 refusal_in s = refusal_at s.line s.reason
 

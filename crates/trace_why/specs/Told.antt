@@ -1,4 +1,4 @@
--- What the sentences on a trace without an order tell.
+-- What the sentences on a trace without an order say.
 use Rattle.std.specs.Prelude.{◌≡◌, ℕ, List, Some, Ok, length, slice_get}
 use Rattle.trace_text.specs.declared.issued.Issued.{Issued}
 use Rattle.trace_text.specs.Traced.{TraceSpec, trace_of}
@@ -16,7 +16,8 @@ pub record IsLineOf (t : TraceSpec) (c : CallAt) (l : IssueLine) : Type 0 where
   pub index : l.index ≡ known.index
   pub operation : l.operation ≡ c.call.operation
 
--- the same of each of some operations
+-- the lines that issue some operations, each with its processor and how many of this one were
+-- issued before
 pub record AreLinesOf (t : TraceSpec) (calls : List CallAt) (found : List IssueLine) : Type 0 where
   pub sized : length found ≡ length calls
   pub each : (n : ℕ) (c : CallAt) (l : IssueLine) → slice_get calls n ≡ Some c

@@ -1,4 +1,4 @@
--- What is told of an answer.
+-- What a sentence says of an answer.
 use Rattle.std.specs.Prelude.{◌≡◌, ◌↔◌, ℕ, Contains}
 use Rattle.std.specs.List.Sorted.{IsStrictlyIncreasing}
 use Rattle.packet.specs.declared.kinds.Reply.{Reply}

@@ -69,7 +69,9 @@ fn sought_by(reason: TraceReason, values: &[&[u8]]) -> Option<(Wanted, u128)>
     }
 }
 
-/// The same by a reason that a trace and a log have in common.
+/// What a line before a refused one gives, by a reason that a trace and a log have in common and the words
+/// behind the keyword, and how many other lines before that give it come first; `None` where the reason is
+/// about no line before.
 fn sought_in_line(reason: LineReason, values: &[&[u8]]) -> Option<(Wanted, u128)>
     ensures { result ≡ sought_in_line reason (map (λ value. value.now) values.now) }
 {

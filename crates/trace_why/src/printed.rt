@@ -1,4 +1,4 @@
-//! Replies and values, as a reader is told them.
+//! Replies and values, as a reader sees them.
 
 use packet::Reply;
 use std::fmt;
@@ -18,7 +18,7 @@ impl fmt::Display for ReplyWord {
     }
 }
 
-/// How many values are told at most.
+/// How many values are printed at most.
 const MOST_VALUES: usize = 16;
 
 /// Values, as `3`, `3 or 4`, or `3, 4 or 5`; of many the first ones, and how many others there are.

@@ -12,7 +12,7 @@ use std::fmt;
 use trace_lines::LineReason;
 use trace_text::{TraceReason, read_trace_or_why};
 
-/// Why a trace text is refused, as a reader is told: `trace.txt:7: answer 1 4: processor 1 has issued 3
+/// Why a trace text is refused, as a reader sees it: `trace.txt:7: answer 1 4: processor 1 has issued 3
 /// operations`.
 #[derive(Clone, Copy)]
 pub struct TraceSentence<'a> {

@@ -28,7 +28,7 @@ pub struct IssueLine {
     pub operation: Operation,
 }
 
-/// Why a trace has no order from a line on, as a reader is told:
+/// Why a trace has no order from a line on, as a reader sees it:
 /// `trace.txt:6: answer 1 0 0: no order gives 0: word 5 can be 17`, and a line for each operation that is
 /// open on the word there.
 #[derive(Drop)]
@@ -134,7 +134,8 @@ pub fn no_order_sentence<'a, A: Allocator + Copy>(
     sentence_on(alloc, trace.name, &text, line, bound)
 }
 
-/// The same of a trace that is read.
+/// Why a trace that is read has no order from the answer of a line on; `None` where `no_order_sentence` has
+/// none.
 fn sentence_on<'a, A: Allocator + Copy>(
     alloc: A,
     name: &'a str,

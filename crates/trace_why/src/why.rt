@@ -146,7 +146,7 @@ fn values_of<A: Allocator + Copy>(
 /// `None` where the event is no answer. At most `tries` values are tried, each with at most `bound`
 /// configurations of a word at once.
 ///
-/// Errors: too many values, or one with which the trace up to the event isn't decided, or no memory.
+/// Errors: too many values, or one with which the trace up to the event isn't decided, or out of memory.
 pub fn why_not<A: Allocator + Copy>(
     alloc: A,
     trace: &TraceText<A>,

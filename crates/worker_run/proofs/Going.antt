@@ -108,7 +108,7 @@ module _ (stops : Step → Type 0) (turns ports : ℕ) (u : Knowing) (first p : 
       (under_on ports r.made s.made u v w first p q c calls more k.made g.2 at k.turned k.grew follows told) k.most
   moves_on q more k at follows told (inr g) = let some = k.some in let over = g.0 in absurd (omega (arith, some, over))
 
-  -- the same by a turn that leads to the next choice of a tile, behind which there are none
+  -- an attempt behind which the next choice of its tile comes, whatever it did: no calls stand between
   pub goes_on : (q : Place) → q.tile ≡ p.tile → q.at ≡ p.at + 1 → p.at + 1 < choice_count ports → IsStepAt ports p c → Tries stops r v c s w
       → IsGoing stops turns ports u first calls r v p → IsGoing stops turns ports u first calls s w q
   goes_on q tile next within at tries going = by_outcome tries.outcome

@@ -54,7 +54,7 @@ one_left_out stops ports t kind k r s z u v w from choice leads low is tries =
     (port_step kind ports t k low)
     (subst (λ (c : Choice). Tries stops s v (record { agent = 3 * t + 1; choice = c }) z w) is tries))
 
--- the same place by another number
+-- seats that are led to a place are led to it by another number of its choice
 pub leads_to : (stops : Step → Type 0) (ports : ℕ) (r s : Run) (v w : Knowing) (p : Place) (t a b : ℕ) → a ≡ b → LeadsSeats stops ports r v p s w (at_place t a)
     → LeadsSeats stops ports r v p s w (at_place t b)
 leads_to stops ports r s v w p t a b e leads = subst (λ (n : ℕ). LeadsSeats stops ports r v p s w (at_place t n)) e leads

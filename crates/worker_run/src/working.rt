@@ -20,7 +20,7 @@ use torus::Choice;
 /// before or after it. A worker asks the gate whether it may begin, and then attempts the choices of
 /// its tiles' agents in the order of a round, round after round, and asks the gate ahead of each
 /// attempt: until all its processors have seen the end, so many turns are made, or the gate stops
-/// it. `watch` is told when a worker comes, after each pass over its tiles, and when it has ended.
+/// it. `watch` is called when a worker comes, after each pass over its tiles, and when it has ended.
 /// There are at most 16 workers, and the turns are 1 to 1000000000.
 pub fn run_workers<R: Threads + Wait + Sync, A: Allocator + Send + Sync, G: Gate, V: Watch>(
     rt: &R,
@@ -141,7 +141,7 @@ fn make_turns<A: Allocator, G: Gate, V: Watch>(
     run.made
 }
 
-// Tells `watch` of a turn, the how-manyth it is, where a pass is over by it. Answers whether one is.
+// Calls `watch` for a turn, the how-manyth it is, where a pass is over by it. Answers whether one is.
 fn tell_turn<V: Watch>(
     watch: &V,
     kept: &mut V::Kept,

@@ -8,7 +8,7 @@ use Rattle.wormhole.specs.Routes.{between, on_the_way, IsFlow, IsSentHere, IsBeg
 use Rattle.wormhole.proofs.Changes.{IsChangedAt, AreChangedAt, kept, kept_both, changed, changed_line, changed_both}
 use Rattle.wormhole.proofs.Flows.{way_same}
 
--- the same packets are noted
+-- two notes have equal packets: under way, sent and begun
 pub record IsQuiet (k h : Note) : Type 0 where
   pub parcels : k.parcels ≡ h.parcels
   pub sent : k.sent ≡ h.sent

@@ -65,7 +65,7 @@ pub record HeadHasOutput (s : NetState) (x : ℕ) : Type 0 where
   pub owned : (s.lines output).owner ≡ Some x
   pub only : (y : ℕ) → (s.lines y).owner ≡ Some x → y ≡ output
 
--- the same packets are whole at the receivers
+-- the packets that are whole at each receiver stay as they are
 abbrev pub StayWhole : Net → NetState → NetState → Type 0
 StayWhole n s t = (x : ℕ) → n.ejects x ≡ true → whole t x ≡ whole s x
 

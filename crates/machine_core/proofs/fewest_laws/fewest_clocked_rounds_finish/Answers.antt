@@ -1,4 +1,4 @@
--- The same of clocked rounds.
+-- The fewest clocked rounds, where more are allowed, are those that a fresh machine needs, and the other way.
 use Rattle.machine_core.proofs.LawsRounds.{clocked_fewest, fewest_clocked}
 use Rattle.machine_core.proofs.fewest_laws.fewest_clocked_rounds_finish.Goals as goal
 
