@@ -476,7 +476,7 @@ torusmem_outcome torusmem_next(torusmem_machine *m, uint32_t at, uint32_t input,
 
 /* Judges the network of a network text with one choice for each channel and destination (docs/FORMATS.md, "Network text"):
    whether each pair that it joins has a route, and numbers of its channels can rise along every route and every reply,
-   so that it never locks up. Needs no machine. The verdict's text, which the program prints, is put into a buffer.
+   so that it is free of deadlock. Needs no machine. The verdict's text, which the program prints, is put into a buffer.
    OK: the numbers rise; a line for each channel with its number, then `rising`.
    NO_ROUTE: the line of the first pair without a route, with the step and the reason.
    CYCLE: the line `cycle`, then a line for each channel of a cycle, with the packets that go on to the next one; then,

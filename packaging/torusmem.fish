@@ -15,7 +15,7 @@ complete -c torusmem -n "__fish_seen_subcommand_from draw" -x -l steps -d "the m
 complete -c torusmem -n "__fish_seen_subcommand_from run" -x -l workers -d "how many threads"
 complete -c torusmem -n "__fish_seen_subcommand_from run" -x -l turns -d "the most turns of a thread"
 complete -c torusmem -n "__fish_seen_subcommand_from route" -l reply -d "the route of a reply"
-complete -c torusmem -n "__fish_seen_subcommand_from network" -l run -d "the run by which it locks up"
+complete -c torusmem -n "__fish_seen_subcommand_from network" -l run -d "the run by which it deadlocks"
 complete -c torusmem -n "__fish_seen_subcommand_from network" -r -l replay -d "replay a run"
 complete -c torusmem -n "__fish_seen_subcommand_from network simulate" -x -l depth -d "how many flits a channel holds"
 complete -c torusmem -n "__fish_seen_subcommand_from linearize watch" -x -l configurations -d "the most configurations of a word"

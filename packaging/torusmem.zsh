@@ -11,7 +11,7 @@ _torusmem_commands=(
   'route:the channels of a route'
   'channels:all channels with their numbers'
   'check:whether a report is good'
-  'network:whether a network can lock up'
+  'network:whether a network can deadlock'
   'simulate:when packets arrive in clocked rounds'
   'linearize:an order that explains a trace'
   'watch:whether a trace goes wrong, while it comes'

@@ -58,9 +58,9 @@ def sign_of(ink: str, thick: float, is_dotted: bool = False) -> List[str]:
 def head_of(net: Network, plan: Plan, verdict: Verdict) -> str:
     """The first line of a legend."""
     if verdict.kind == "rising":
-        return "Rising: the network never locks up"
+        return "Rising: the network is free of deadlock"
     if verdict.kind == "cycle":
-        return f"Cycle: the network {'may lock up' if verdict.chosen else 'locks up'}"
+        return f"Cycle: the network {'may deadlock' if verdict.chosen else 'deadlocks'}"
     what, numbers = " ".join(verdict.kind.split()[:2]), verdict.kind.partition(":")[0].split()[2:]
     if what == "no escape":
         return "No escape behind channel {0} for packets to channel {1}".format(*numbers)

@@ -107,7 +107,7 @@ pub(crate) fn texts<'a>(alloc: Global) -> Arg<'a>
     Arg::new(alloc, "texts")
         .long("texts")
         .value_names(&TEXT_NAMES)
-        .help("The texts that a report is the run of, so that its fences count")
+        .help("The machine and scripts whose run the report shows, so that their fences count")
 }
 
 /// The option for the seed of a drawn schedule, which has to be given.

@@ -96,14 +96,14 @@ pub(crate) fn of_one_file<'a>(
 pub(crate) fn network<'a>(alloc: Global) -> Making<'a>
     ensures { IsCommand network_app result }
 {
-    let about = "Judges a network: rising channel numbers, a pair without a route, or a cycle";
+    let about = "Judges a network: free of deadlock, a pair without a route, or a cycle that can deadlock";
     let command = named(alloc, "network", about);
     let command = with_argument(command, file(alloc, "NETWORK", "The file with the network"));
-    let help = "Prints the run by which it locks up, move by move";
+    let help = "Prints the run by which it deadlocks, move by move";
     let command = with_argument(command, flag(alloc, "run", help));
     let help = "Replays the run of this file, and prints how it ends";
     let command = with_argument(command, word_if_given(alloc, "replay", help));
-    let help = "How many flits a channel of a run holds, 1 to 8; 1 by default";
+    let help = "How many flits a channel holds in a run, 1 to 8; 1 by default";
     let numbers = ValueParser::Signed(1, 8);
     let command = with_argument(command, count_if_given(alloc, "depth", numbers, help));
     with_explain(alloc, command)
@@ -143,7 +143,7 @@ pub(crate) fn watch<'a>(alloc: Global) -> Making<'a>
     ensures { IsCommand watch_app result }
 {
     let about =
-        "Judges a trace while it comes, and ends at the first answer that no order explains";
+        "Judges a trace online, and ends at the first answer that no order explains";
     let command = named(alloc, "watch", about);
     let help = "The file with the trace, or - for standard input";
     let command = with_argument(command, file(alloc, "TRACE", help));

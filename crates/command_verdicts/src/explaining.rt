@@ -128,7 +128,7 @@ pub fn explain_lock_up<R: Eprint + AllocGlobal>(rt: &R, network: &[u8]) {
         && answer.text.ends_with(b"locks up\n")
     {
         let _ = eprintln!(rt;
-            "the run that locks up has packets of one flit, which senders put whenever they like, also on channels that answer"
+            "the run that deadlocks has packets of one flit, which senders put whenever they like, also on channels that answer"
         );
     }
 }

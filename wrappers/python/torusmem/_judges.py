@@ -26,7 +26,7 @@ def check(report: Text, file: str = "report") -> None:
 
 
 class Rising(NamedTuple):
-    """A network that never locks up: each pair has a route, and the numbers, by channel, rise along all of them."""
+    """A network that is free of deadlock: each pair has a route, and the numbers, by channel, rise along all of them."""
 
     numbers: Tuple[int, ...]
 
@@ -60,7 +60,7 @@ class Fill(NamedTuple):
 
 
 class Cycle(NamedTuple):
-    """A network that locks up: channels that wait for one another in a circle, in their order, and the channels that
+    """A network that deadlocks: channels that wait for one another in a circle, in their order, and the channels that
     fill up then, the first to be filled first. There are none of these where they weren't found."""
 
     links: Tuple[Link, ...]
@@ -72,7 +72,7 @@ Verdict = Union[Rising, NoRoute, Cycle]
 
 def network(text: Text, file: str = "network text") -> Verdict:
     """Judges the network of a network text of fixed routes (docs/FORMATS.md, "Network text"): whether each pair that it joins has a
-    route, and whether its channels can wait for one another in a circle, so that it locks up. TextFault tells the first fault of the text;
+    route, and whether its channels can wait for one another in a circle, so that it deadlocks. TextFault tells the first fault of the text;
     file is how it names the text.
 
         >>> from torusmem import network

@@ -5,12 +5,12 @@ use torusmem_sys as sys;
 /// What is judged of a network.
 #[derive(Clone, Debug, PartialEq, Eq)]
 pub enum Verdict {
-    /// A number for each channel, by channel: they rise along every route and every reply, so that it never locks up.
+    /// A number for each channel, by channel: they rise along every route and every reply, so that it is free of deadlock.
     Rising(Vec<u64>),
     /// The first pair of a `join` line that has no route, and why.
     NoRoute { from: u32, to: u32, why: Why },
     /// Channels that wait for one another in a circle: each for the next one, and the last one for the first. And the
-    /// channels that fill up where the network locks up, the first to be filled first; none where they weren't found.
+    /// channels that fill up where the network deadlocks, the first to be filled first; none where they weren't found.
     Cycle { links: Vec<Link>, jam: Vec<Fill> },
 }
 
