@@ -182,6 +182,16 @@ def module(crate: str, path: str) -> Module | None:
     return here
 
 
+def lines_of_type(rows: list[str], at: int) -> tuple[int, int]:
+    """The first and the last line of a type or trait whose head is the line `at`: its comment and attributes belong to it."""
+    first, last = at, at
+    while first and rows[first - 1].startswith(("///", "#[")):
+        first -= 1
+    while not rows[last].rstrip().endswith((";", "}")) or (rows[at].rstrip().endswith("{") and rows[last] != "}"):
+        last += 1
+    return first, last
+
+
 def declared(key: tuple[str, str]) -> Module:
     """The module of a type that stands in the sources: its text is the type with its comment."""
     crate, path = key
@@ -195,11 +205,7 @@ def declared(key: tuple[str, str]) -> Module:
             found = TYPE.match(row)
             if not found or found[1] != kind:
                 continue
-            first, last = at, at
-            while first and rows[first - 1].startswith(("///", "#[")):
-                first -= 1
-            while not rows[last].rstrip().endswith((";", "}")) or (rows[at].rstrip().endswith("{") and rows[last] != "}"):
-                last += 1
+            first, last = lines_of_type(rows, at)
             here.path = os.path.relpath(file, os.path.dirname(CRATES))
             here.texts[kind] = "\n".join(rows[first:last + 1])
             return here

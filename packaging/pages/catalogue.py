@@ -12,7 +12,7 @@ from typing import Dict, List, Optional, Set, Tuple
 from urllib.parse import quote
 
 from contracts import Contract, contracts_in, files_of, modules_of
-from sources import CRATES, ROOT, Module, Name, comment_of, floors, lines_of, read_imports, sentence
+from sources import CRATES, ROOT, Module, Name, comment_of, floors, lines_of, lines_of_type, read_imports, sentence
 
 HEAD_OF_TYPE = re.compile(r"pub (struct|enum|trait|union) (\w+)")
 RUST_USE = re.compile(r"^\s*(?:pub )?use (\w+)::(?:.*?::)?(?:\{(.*)\}|(\w+));")
@@ -127,11 +127,7 @@ class Catalogue:
             head = HEAD_OF_TYPE.match(row)
             if not head:
                 continue
-            first, last = at, at
-            while first and rows[first - 1].startswith(("///", "#[")):
-                first -= 1
-            while not rows[last].rstrip().endswith((";", "}")) or (rows[at].rstrip().endswith("{") and rows[last] != "}"):
-                last += 1
+            first, last = lines_of_type(rows, at)
             said = [it for it in rows[first:at] if it.startswith("///")]
             text = [it for it in rows[first:last + 1] if not it.startswith("#[")]
             if head[1] == "trait":
