@@ -4,6 +4,9 @@ pub mod Covering
 pub mod Quiet
 pub mod Effects
 pub mod Steps
+pub mod Idle
+pub mod Bounds
+pub mod LowLoops
 pub mod Answered
 pub mod Walk
 pub mod Sifting

@@ -12,7 +12,7 @@ ghost use Rattle.trace_watch.specs.Closed.{CatchesUp, Closes, Expands, IsOneMore
 
 use crate::index::{Index, widen};
 use crate::matching::fits;
-use crate::state::{State, after, copy_of};
+use crate::state::{State, changed, copy_of, is_idle};
 use crate::watch::Full;
 use std::alloc::{AllocError, Allocator};
 use trace_laws::Call;
@@ -67,7 +67,8 @@ fn add_within<A: Allocator + Copy>(
     Ok(())
 }
 
-/// Lets an operation take effect in a state, where there is one of these operations for each effect.
+/// Lets an operation take effect in a state, where there is one of these operations for each effect. One
+/// that leaves the word as it is changes nothing: it may do so whenever it is that word.
 fn attempt<A: Allocator + Copy>(
     alloc: A,
     found: &mut Vec<State<A>, A>,
@@ -86,7 +87,10 @@ fn attempt<A: Allocator + Copy>(
     ensures few { OnOk result (length found.new.items ≤ max bound (length found.old.items)) }
     ensures indexed { OnOk result (IsIndexed index.new (configs_of found.new.items)) }
 {
-    let next = after(alloc, &found[at], call)?;
+    if is_idle(call.operation.op, found[at].word) {
+        return Ok(());
+    }
+    let next = changed(alloc, &found[at], calls, call)?;
     let enough = fits(alloc, calls, &next.effects)?;
     if !enough {
         return Ok(());

@@ -5,11 +5,12 @@
 
 mod closing;
 pub mod index;
+mod lowering;
 mod matching;
 mod pending;
 mod releasing;
 pub mod state;
 pub mod watch;
 
-pub use state::{Effect, State};
+pub use state::{Effect, Glimpse, State};
 pub use watch::{Full, Seen, Watch, begin};

@@ -1,8 +1,11 @@
 //! What may have become of a word.
 
-ghost use Rattle.std.specs.Prelude.{◌≡◌, ◌<◌, ◌≤◌, ℕ, true, false, IfOk, length};
-ghost use Rattle.std.specs.List.{remove};
-ghost use Rattle.trace_watch.specs.States.{AreCovered, Covers, after, config_of};
+ghost use Rattle.std.specs.Prelude.{◌≡◌, ◌<◌, ◌≤◌, ◌++◌, ◌∷◌, [], ℕ, List, Some, true, false, IfOk, length, slice_get};
+ghost use Rattle.std.specs.List.{insert, remove};
+ghost use Rattle.packet.specs.Memory.{new_word};
+ghost use Rattle.trace_laws.specs.Configs.{IsIn};
+ghost use Rattle.trace_watch.specs.States.{AreCovered, Covers, IsGlimpsed, changed, config_of, is_idle, less_one};
+ghost use Rattle.trace_watch.specs.States.{newest_number, other_words, seen_by, taken};
 ghost use Rattle.trace_watch.specs.States.{first_value, is_before, rank, second_value, spot, told_word};
 
 use packet::{Op, Reply, apply};
@@ -18,11 +21,19 @@ pub struct Effect {
     pub newest: u64,
 }
 
-/// A word, and the effects of open operations on it.
+/// A word that was there. Open operations up to this number may have found it, if they leave it as it is.
+#[derive(Clone, Copy, PartialEq, Eq)]
+pub struct Glimpse {
+    pub word: u64,
+    pub newest: u64,
+}
+
+/// A word, the effects of open operations on it, and the words that were there.
 #[derive(Drop)]
 pub struct State<A: Allocator> {
     pub word: u64,
     pub effects: Vec<Effect, A>,
+    pub seen: Vec<Glimpse, A>,
 }
 
 /// The word of a reply, or 0.
@@ -140,12 +151,40 @@ fn are_covered(some: &[Effect], others: &[Effect]) -> bool
     true
 }
 
+/// Whether a word was there for as many operations as another glimpse says.
+pub(crate) fn has_glimpse(seen: &[Glimpse], glimpse: Glimpse) -> bool
+    ensures yes { result ≡ true → IsGlimpsed seen.now glimpse }
+    ensures no { result ≡ false → IsGlimpsed seen.now glimpse → ⊥ }
+{
+    for i in 0..seen.len() {
+        if seen[i].word == glimpse.word && glimpse.newest <= seen[i].newest {
+            return true;
+        }
+    }
+    false
+}
+
+/// Whether each of some words was there for as many operations.
+fn are_seen(seen: &[Glimpse], others: &[Glimpse]) -> bool
+    ensures yes { result ≡ true → (g : Glimpse) → IsIn others.now g → IsGlimpsed seen.now g }
+    ensures no { result ≡ false → ((g : Glimpse) → IsIn others.now g → IsGlimpsed seen.now g) → ⊥ }
+{
+    for i in 0..others.len() {
+        if !has_glimpse(seen, others[i]) {
+            return false;
+        }
+    }
+    true
+}
+
 /// Whether a state tells of whatever another one does.
 pub(crate) fn is_covered<A: Allocator>(one: &State<A>, other: &State<A>) -> bool
     ensures yes { result ≡ true → Covers (config_of one.now) (config_of other.now) }
     ensures no { result ≡ false → Covers (config_of one.now) (config_of other.now) → ⊥ }
 {
-    one.word == other.word && are_covered(&one.effects, &other.effects)
+    one.word == other.word
+        && are_covered(&one.effects, &other.effects)
+        && are_seen(&one.seen, &other.seen)
 }
 
 /// The same effects.
@@ -159,58 +198,148 @@ fn copied<A: Allocator>(alloc: A, effects: &[Effect]) -> Result<Vec<Effect, A>, 
     Ok(copies)
 }
 
-/// The same state.
-pub(crate) fn copy_of<A: Allocator>(alloc: A, state: &State<A>) -> Result<State<A>, AllocError>
-    ensures { IfOk result (λ s. config_of s ≡ config_of state.now) }
+/// The same glimpses.
+fn copied_seen<A: Allocator>(alloc: A, seen: &[Glimpse]) -> Result<Vec<Glimpse, A>, AllocError>
+    ensures { IfOk result (λ v. v.items ≡ seen.now) }
 {
-    with_word(alloc, state, state.word)
+    let mut copies = Vec::new(alloc);
+    for i in 0..seen.len() {
+        copies.push(seen[i])?;
+    }
+    Ok(copies)
 }
 
-/// The same effects, and another word.
-pub(crate) fn with_word<A: Allocator>(
+/// The glimpses of other words than this one.
+fn other_words<A: Allocator>(
     alloc: A,
+    seen: &[Glimpse],
+    word: u64,
+) -> Result<Vec<Glimpse, A>, AllocError>
+    ensures { IfOk result (λ v. v.items ≡ other_words word seen.now) }
+{
+    let mut others = Vec::new(alloc);
+    for i in 0..seen.len() {
+        let glimpse = seen[i];
+        if glimpse.word != word {
+            others.push(glimpse)?;
+        }
+    }
+    Ok(others)
+}
+
+/// The words that these operations may have found in a state, once this word is there.
+fn seen_by<A: Allocator>(
+    alloc: A,
+    calls: &[Call],
     state: &State<A>,
     word: u64,
-) -> Result<State<A>, AllocError>
-    ensures { IfOk result (λ s. config_of s
-        ≡ record { word = word; effects = state.now.effects.items }) }
+) -> Result<Vec<Glimpse, A>, AllocError>
+    ensures { IfOk result (λ v. v.items ≡ seen_by calls.now (config_of state.now) word) }
 {
-    let effects = copied(alloc, &state.effects)?;
-    Ok(State { word, effects })
+    let mut seen = other_words(alloc, &state.seen, word)?;
+    if state.word != word {
+        let newest = newest_number(calls);
+        seen.insert(0, Glimpse { word: state.word, newest })?;
+    }
+    Ok(seen)
 }
 
-/// The state after an operation took effect.
-pub(crate) fn after<A: Allocator>(
+/// The same effects and one more, at its place.
+fn effects_with<A: Allocator>(
+    alloc: A,
+    effects: &[Effect],
+    effect: Effect,
+) -> Result<Vec<Effect, A>, AllocError>
+    ensures { IfOk result (λ v. v.items ≡ insert effects.now (spot effects.now effect) effect) }
+{
+    let mut more = copied(alloc, effects)?;
+    let at = spot(&more, effect);
+    more.insert(at, effect)?;
+    Ok(more)
+}
+
+/// The same state.
+pub(crate) fn copy_of<A: Allocator + Copy>(alloc: A, state: &State<A>) -> Result<State<A>, AllocError>
+    ensures { IfOk result (λ s. config_of s ≡ config_of state.now) }
+{
+    Ok(State {
+        word: state.word,
+        effects: copied(alloc, &state.effects)?,
+        seen: copied_seen(alloc, &state.seen)?,
+    })
+}
+
+/// The highest number of some operations, or 0.
+pub(crate) fn newest_number(calls: &[Call]) -> u64
+    ensures { result ≡ newest_number calls.now }
+{
+    let mut newest = 0;
+    for i in 0..calls.len() {
+        if calls[i].id > newest {
+            newest = calls[i].id;
+        }
+    }
+    newest
+}
+
+/// Whether an operation leaves a word as it is.
+pub(crate) fn is_idle(op: Op, word: u64) -> bool
+    ensures { result ≡ is_idle op word }
+{
+    let (next, _) = apply(op, word);
+    next == word
+}
+
+/// The state after an operation took effect that changes its word, while these are open.
+pub(crate) fn changed<A: Allocator + Copy>(
     alloc: A,
     state: &State<A>,
+    calls: &[Call],
     call: Call,
 ) -> Result<State<A>, AllocError>
-    ensures { IfOk result (λ s. config_of s ≡ after (config_of state.now) call) }
+    ensures { IfOk result (λ s. config_of s ≡ changed calls.now (config_of state.now) call) }
 {
     let op = call.operation.op;
     let (word, reply) = apply(op, state.word);
     let newest = call.id;
-    let effect = Effect { op, reply, newest };
-    let mut effects = copied(alloc, &state.effects)?;
-    let at = spot(&effects, effect);
-    effects.insert(at, effect)?;
-    Ok(State { word, effects })
+    Ok(State {
+        word,
+        effects: effects_with(alloc, &state.effects, Effect { op, reply, newest })?,
+        seen: seen_by(alloc, calls, state, word)?,
+    })
+}
+
+/// The state after the answered operation took effect, while these others are open.
+pub(crate) fn taken<A: Allocator + Copy>(
+    alloc: A,
+    state: &State<A>,
+    calls: &[Call],
+    word: u64,
+) -> Result<State<A>, AllocError>
+    ensures { IfOk result (λ s. (call : Call) → word ≡ new_word call.operation.op state.now.word
+        → config_of s ≡ taken calls.now (config_of state.now) call) }
+{
+    Ok(State {
+        word,
+        effects: copied(alloc, &state.effects)?,
+        seen: seen_by(alloc, calls, state, word)?,
+    })
 }
 
 /// The state without the effect at this place.
-pub(crate) fn without<A: Allocator>(
+pub(crate) fn without<A: Allocator + Copy>(
     alloc: A,
     state: &State<A>,
     at: usize,
 ) -> Result<State<A>, AllocError>
     requires { at < length state.now.effects.items }
-    ensures { IfOk result (λ s. config_of s
-        ≡ record { word = state.now.word; effects = remove state.now.effects.items at }) }
+    ensures { IfOk result (λ s. config_of s ≡ less_one (config_of state.now) at) }
 {
     let mut effects = copied(alloc, &state.effects)?;
     effects.remove(at);
     Ok(State {
         word: state.word,
         effects,
+        seen: copied_seen(alloc, &state.seen)?,
     })
 }

@@ -3,8 +3,14 @@ use Rattle.std.proofs.lemmas.Option.{slice_get_read}
 use Rattle.std.proofs.lemmas.Result.{err_from_is_err_and}
 use Rattle.trace_watch.specs.States.{configs_of}
 use Rattle.trace_watch.proofs.Crowding.{one_gives_up}
-use Rattle.trace_watch.proofs.Loops.{attempt_none, attempt_new}
+use Rattle.trace_watch.proofs.Loops.{attempt_idle, attempt_none, attempt_new, index_there}
 use Rattle.trace_watch.proofs.closing.attempt.Goals as goal
+
+pub returns-then-is_idle-clause-expands : goal.returns-then-is_idle-clause-expands
+returns-then-is_idle-clause-expands g c =
+    attempt_idle c.args.at c.args.calls.now c.args.call c.args.found.now.items c.index-found-at.result
+    (index_there c.args.found.now.items c.args.at c.index-found-at.result c.requires.inside c.index-found-at.is)
+    c.if-is_idle.ensures
 
 pub returns-then-not-enough-clause-expands : goal.returns-then-not-enough-clause-expands
 returns-then-not-enough-clause-expands g c =
