@@ -1,6 +1,6 @@
 -- Configurations that tell of whatever others do.
-use Rattle.std.proofs.Common.{◌≡◌, ◌≢◌, ◌⊎◌, inl, inr, ⊎_elim, ℕ, zero, suc, ◌+◌, ◌<◌, ◌≤◌, length, Some, None, slice_get, Bool, true, false, cond, List, [], ◌∷◌, ◌++◌, refl, sym, ◌∙◌, ap, subst, arith}
-use Rattle.std.specs.Prelude.{◌==◌, nat_lt, drop}
+use Rattle.std.proofs.Common.{◌≡◌, ◌≢◌, ◌⊎◌, inl, inr, ⊎_elim, ℕ, zero, suc, ◌+◌, ◌≤◌, Some, None, slice_get, Bool, true, false, cond, List, [], ◌∷◌, ◌++◌, refl, sym, ◌∙◌, ap, subst, arith}
+use Rattle.std.specs.Prelude.{◌==◌, nat_lt}
 use Rattle.std.proofs.lemmas.Bool.{cases_Bool, eqb-true, eqb-false}
 use Rattle.std.specs.List.{insert}
 use Rattle.packet.specs.declared.kinds.Op.{Op}
@@ -10,10 +10,9 @@ use Rattle.trace_laws.specs.declared.event.Call.{Call}
 use Rattle.trace_laws.specs.Configs.{IsIn}
 use Rattle.trace_watch.specs.declared.state.Effect.{Effect}
 use Rattle.trace_watch.specs.declared.state.Glimpse.{Glimpse}
-use Rattle.trace_watch.specs.States.{AreCovered, Config, Covers, HasSeen, IsAmong, IsGlimpsed, IsIdleHere, changed, effect_of, is_before, is_op_before, newest_number, other_words, seen_by, spot, told_word, with_idle}
+use Rattle.trace_watch.specs.States.{AreCovered, Config, Covers, HasSeen, IsAmong, IsGlimpsed, changed, effect_of, is_before, is_op_before, newest_number, other_words, seen_by, spot, told_word, with_idle}
 use Rattle.trace_watch.specs.Known.{AreIdleHere}
 use Rattle.trace_watch.specs.Matchings.{FitsPartner, Matches}
-use Rattle.trace_watch.proofs.Sifting.{drop_at, drop_end}
 use Rattle.trace_watch.specs.Named.{NamedConfig, NamedEffect, named, named_config}
 
 pub covered_self : (es : List Effect) → AreCovered es es
@@ -113,7 +112,6 @@ pub covers_named : (c d : Config) (es : List Effect) (calls : List Call) → Cov
     → named_config (with_idle d es) calls ≡ named_config (with_idle c es) calls
 covers_named c d es calls cov = like_named c d es calls cov.word cov.effects
 
-
 -- what stands before what, by replies and operations
 abbrev before : Reply → Reply → Op → Op → Bool
 before r s o p = cond (told_word r == told_word s) (is_op_before o p) (nat_lt (told_word r) (told_word s))
@@ -143,7 +141,6 @@ covered_insert (g ∷ es) (h ∷ fs) e f o r l a = subst
     (insert (h ∷ fs) (cond b (suc (spot fs f)) 0) f)) (same_before g h e f a.0 a.1 o r)
     (put_in g h e f es fs (is_before g e) (spot es e) (spot fs f) o r l (covered_insert es fs e f o r l a.3) a)
 
--- an operation that is as new, in a configuration that tells of as much
 -- glimpses of other words
 pub other_from : (word : ℕ) (gs : List Glimpse) (k : ℕ) (g : Glimpse) → slice_get (other_words word gs) k ≡ Some g
     → IsIn gs g × (g.word ≢ word)
@@ -207,6 +204,7 @@ covers_seen_by calls c d word cov g on = kept (other_from word (was ∷ d.seen) 
         let k = old r.0.0 r.0.1 in
         (k.0, other_has word (now ∷ c.seen) k.1.0 k.0 k.1.1 (λ e. r.1 (sym k.2 ∙ e)), k.2, k.3)
 
+-- an operation that is as new, in a configuration that tells of as much
 pub covers_changed : (calls : List Call) (c d : Config) (b call : Call) → b.operation.op ≡ call.operation.op
     → call.id ≤ b.id → Covers c d → Covers (changed calls c b) (changed calls d call)
 covers_changed calls c d b call asks low cov =
@@ -222,72 +220,3 @@ covers_changed calls c d b call asks low cov =
 
 pub among_covers : (configs : List Config) (c d : Config) → IsAmong configs c → Covers c d → IsAmong configs d
 among_covers configs c d among cov = (among.0, among.1, covers_trans among.0 c d among.2 cov)
-
--- the place of one more effect, as the code looks for it
-pub spot_on : (effects : List Effect) (i : ℕ) (f e : Effect) → slice_get effects i ≡ Some f → is_before f e ≡ true
-    → spot effects e ≡ i + spot (drop i effects) e → spot effects e ≡ i + 1 + spot (drop (i + 1) effects) e
-spot_on effects i f e here first was =
-    let split : spot (drop i effects) e ≡ spot (f ∷ drop (suc i) effects) e =
-    ap (λ (es : List Effect). spot es e) (drop_at effects i f here) in
-    let next : spot (f ∷ drop (suc i) effects) e ≡ suc (spot (drop (suc i) effects) e) =
-    ap (λ (b : Bool). cond b (suc (spot (drop (suc i) effects) e)) 0) first in
-    let one : suc i ≡ i + 1 = omega arith in
-    let more : spot (drop (suc i) effects) e ≡ spot (drop (i + 1) effects) e =
-    ap (λ (n : ℕ). spot (drop n effects) e) one in
-    omega (arith, was, split, next, more)
-
-pub spot_here : (effects : List Effect) (i : ℕ) (f e : Effect) → slice_get effects i ≡ Some f → is_before f e ≡ false
-    → spot effects e ≡ i + spot (drop i effects) e → i ≡ spot effects e
-spot_here effects i f e here late was =
-    let split : spot (drop i effects) e ≡ spot (f ∷ drop (suc i) effects) e =
-    ap (λ (es : List Effect). spot es e) (drop_at effects i f here) in
-    let next : spot (f ∷ drop (suc i) effects) e ≡ 0 =
-    ap (λ (b : Bool). cond b (suc (spot (drop (suc i) effects) e)) 0) late in
-    omega (arith, was, split, next)
-
-pub spot_end : (effects : List Effect) (i : ℕ) (e : Effect) → length effects ≤ i
-    → spot effects e ≡ i + spot (drop i effects) e → i ≡ spot effects e
-spot_end effects i e all was =
-    let none : spot (drop i effects) e ≡ 0 = ap (λ (es : List Effect). spot es e) (drop_end effects i all) in
-    omega (arith, was, none)
-
-pub covered_long : (es fs : List Effect) → AreCovered es fs → length es ≡ length fs
-covered_long [] [] a = refl
-covered_long [] (f ∷ fs) a = absurd a
-covered_long (e ∷ es) [] a = absurd a
-covered_long (e ∷ es) (f ∷ fs) a = ap suc (covered_long es fs a.3)
-
--- effects cover others where they do from place i on
-pub record Covering (es fs : List Effect) (i : ℕ) : Type 0 where
-  pub up : AreCovered (drop i es) (drop i fs) → AreCovered es fs
-  pub down : AreCovered es fs → AreCovered (drop i es) (drop i fs)
-
-pub covering_none : (es fs : List Effect) → Covering es fs 0
-covering_none es fs = record { up = λ a. a; down = λ a. a }
-
-split_at : (es fs : List Effect) (i : ℕ) (e f : Effect) → slice_get es i ≡ Some e → slice_get fs i ≡ Some f
-    → AreCovered (drop i es) (drop i fs) → AreCovered (e ∷ drop (suc i) es) (f ∷ drop (suc i) fs)
-split_at es fs i e f here there a = subst (λ (xs : List Effect). AreCovered xs (f ∷ drop (suc i) fs))
-    (drop_at es i e here) (subst (λ (xs : List Effect). AreCovered (drop i es) xs) (drop_at fs i f there) a)
-
-pub covering_more : (es fs : List Effect) (i : ℕ) (e f : Effect) → slice_get es i ≡ Some e → slice_get fs i ≡ Some f
-    → (e.op ≡ f.op) × (e.reply ≡ f.reply) × (f.newest ≤ e.newest) → Covering es fs i → Covering es fs (i + 1)
-covering_more es fs i e f here there c was = subst (λ (n : ℕ). Covering es fs n) one (record {
-  up = λ a. was.up (subst (λ (xs : List Effect). AreCovered xs (drop i fs)) (sym (drop_at es i e here))
-      (subst (λ (xs : List Effect). AreCovered (e ∷ drop (suc i) es) xs) (sym (drop_at fs i f there))
-      (c.0, c.1, c.2, a)));
-  down = λ a. (split_at es fs i e f here there (was.down a)).3;
-})
-  where
-    one : suc i ≡ i + 1
-    one = omega arith
-
-pub covering_not : (es fs : List Effect) (i : ℕ) (e f : Effect) → slice_get es i ≡ Some e → slice_get fs i ≡ Some f
-    → (e.op ≡ f.op → e.reply ≡ f.reply → f.newest ≤ e.newest → ⊥) → Covering es fs i → AreCovered es fs → ⊥
-covering_not es fs i e f here there never was a =
-    let s = split_at es fs i e f here there (was.down a) in never s.0 s.1 s.2
-
-pub covering_all : (es fs : List Effect) (i : ℕ) → length es ≤ i → length fs ≤ i → Covering es fs i → AreCovered es fs
-covering_all es fs i all also was = was.up
-    (subst (λ (xs : List Effect). AreCovered xs (drop i fs)) (sym (drop_end es i all))
-    (subst (λ (xs : List Effect). AreCovered [] xs) (sym (drop_end fs i also)) tt))

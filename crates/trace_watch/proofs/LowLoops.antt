@@ -1,10 +1,11 @@
 -- The loops that lower bounds.
 use Rattle.std.proofs.Common.{◌≡◌, ◌≢◌, ◌⊎◌, inl, inr, ⊎_elim, ℕ, zero, suc, ◌+◌, ◌<◌, ◌≤◌, List, [], ◌∷◌, ◌++◌, length, Option, Some, None, refl, sym, ◌∙◌, ap, subst, arith}
-use Rattle.std.proofs.Common.{slice_get, append_assoc, max, cond, Bool, false}
+use Rattle.std.proofs.Common.{slice_get, take, append_assoc, max, cond, Bool, false}
 use Rattle.std.specs.Prelude.{MatchOption, drop, ◌==◌}
 use Rattle.std.proofs.lemmas.Bool.{cases_eq, eqb-true, false_from_ne_true}
+use Rattle.std.proofs.lemmas.List.{take_all}
 use Rattle.trace_laws.specs.declared.event.Call.{Call}
-use Rattle.trace_laws.proofs.Lists.{get_append_left, get_push, get_push_cases, get_within}
+use Rattle.trace_laws.proofs.Lists.{get_append_left, get_push, get_push_cases, get_within, take_push}
 use Rattle.trace_laws.specs.Configs.{IsIn}
 use Rattle.trace_watch.specs.declared.state.Effect.{Effect}
 use Rattle.trace_watch.specs.declared.state.Glimpse.{Glimpse}
@@ -119,6 +120,23 @@ lowered_push calls [] [] e f a o r b = (o, r, b, tt)
 lowered_push calls [] (g ∷ fs) e f a o r b = absurd a
 lowered_push calls (d ∷ es) [] e f a o r b = absurd a
 lowered_push calls (d ∷ es) (g ∷ fs) e f a o r b = (a.0, a.1, a.2, lowered_push calls es fs e f a.3 o r b)
+
+pub lowered_one : (calls : List Call) (effects fs gs : List Effect) (i : ℕ) (e f : Effect) → slice_get effects i ≡ Some e
+    → AreLowered calls (take i effects) fs → f.op ≡ e.op → f.reply ≡ e.reply → IsBounded calls e f.newest
+    → gs ≡ fs ++ f ∷ [] → AreLowered calls (take (i + 1) effects) gs
+lowered_one calls effects fs gs i e f here a o r b pushed =
+    subst (λ (k : ℕ). AreLowered calls (take k effects) gs) one
+    (subst (λ (es : List Effect). AreLowered calls es gs) (sym (take_push effects i e here))
+    (subst (λ (xs : List Effect). AreLowered calls (take i effects ++ e ∷ []) xs) (sym pushed)
+    (lowered_push calls (take i effects) fs e f a o r b)))
+  where
+    one : suc i ≡ i + 1
+    one = omega arith
+
+pub lowered_end : (calls : List Call) (effects fs : List Effect) (i : ℕ) → length effects ≤ i
+    → AreLowered calls (take i effects) fs → AreLowered calls effects fs
+lowered_end calls effects fs i all a =
+    subst (λ (es : List Effect). AreLowered calls es fs) (take_all i effects all) a
 
 -- glimpses up to place i are lowered
 pub record SeenLowered (calls : List Call) (seen : List Glimpse) (i : ℕ) (lowered : List Glimpse) : Type 0 where

@@ -189,12 +189,9 @@ short (suc p) (c ∷ order) = let l = short p order in omega arith
 -- a beginning of a beginning is one
 pub take_of_take : (n p : ℕ) (order : List Call) → (m : ℕ) × (take n (take p order) ≡ take m order)
 take_of_take n p order = ⊎_elim {C = (m : ℕ) × (take n (take p order) ≡ take m order)}
-    (λ (l : n ≤ p). (n, take-take n p order l))
     (λ (g : p < n). (p, take_all n (take p order) (let s = short p order in omega arith)))
-    (cases_le n p)
-  where
-    cases_le : (a b : ℕ) → (a ≤ b) ⊎ (b < a)
-    cases_le a b = ⊎_elim {C = (a ≤ b) ⊎ (b < a)} (λ (l : b < a). inr l) (λ (g : a ≤ b). inl g) (cases_lt b a)
+    (λ (l : n ≤ p). (n, take-take n p order l))
+    (cases_lt p n)
 
 -- fewer operations, where they are those that the effects may be of
 pub weaken_by : (P Q : Call → Type 0) (es : List Effect) (calls : List Call)

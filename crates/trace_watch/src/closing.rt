@@ -87,10 +87,11 @@ fn attempt<A: Allocator + Copy>(
     ensures few { OnOk result (length found.new.items ≤ max bound (length found.old.items)) }
     ensures indexed { OnOk result (IsIndexed index.new (configs_of found.new.items)) }
 {
-    if is_idle(call.operation.op, found[at].word) {
+    let state = &found[at];
+    if is_idle(call.operation.op, state.word) {
         return Ok(());
     }
-    let next = changed(alloc, &found[at], calls, call)?;
+    let next = changed(alloc, state, calls, call)?;
     let enough = fits(alloc, calls, &next.effects)?;
     if !enough {
         return Ok(());

@@ -4,6 +4,7 @@
 #![tactic(auto)]
 
 mod closing;
+mod glimpses;
 pub mod index;
 mod lowering;
 mod matching;

@@ -3,11 +3,12 @@
 ghost use Rattle.std.specs.Prelude.{◌≡◌, ℕ, Some, true, false, IfOk, OnOk, MatchOption, slice_get};
 ghost use Rattle.trace_laws.specs.declared.event.Call.{Call};
 ghost use Rattle.trace_watch.specs.States.{config_of};
-ghost use Rattle.trace_watch.specs.Lowered.{AreLowered, AreLoweredGlimpses, IsBounded, IsLowered, IsNewerFinder, IsNewestFinder};
-ghost use Rattle.trace_watch.specs.Lowered.{MayFind, NotesGlimpse};
+ghost use Rattle.trace_watch.specs.Lowered.{AreLowered, AreLoweredGlimpses, IsBounded, IsLowered};
+ghost use Rattle.trace_watch.specs.Lowered.{IsNewerFinder, IsNewestFinder, MayFind, NotesGlimpse};
 
+use crate::glimpses::has_glimpse;
 use crate::matching::newest_of;
-use crate::state::{Effect, Glimpse, State, has_glimpse, is_idle};
+use crate::state::{Effect, Glimpse, State, is_idle};
 use std::alloc::{AllocError, Allocator};
 use trace_laws::Call;
 

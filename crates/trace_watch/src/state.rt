@@ -3,11 +3,10 @@
 ghost use Rattle.std.specs.Prelude.{◌≡◌, ◌<◌, ◌≤◌, ◌++◌, ◌∷◌, [], ℕ, List, Some, true, false, IfOk, length, slice_get};
 ghost use Rattle.std.specs.List.{insert, remove};
 ghost use Rattle.packet.specs.Memory.{new_word};
-ghost use Rattle.trace_laws.specs.Configs.{IsIn};
-ghost use Rattle.trace_watch.specs.States.{AreCovered, Covers, IsGlimpsed, changed, config_of, is_idle, less_one};
-ghost use Rattle.trace_watch.specs.States.{newest_number, other_words, seen_by, taken};
+ghost use Rattle.trace_watch.specs.States.{AreCovered, Covers, changed, config_of, is_idle, less_one, taken};
 ghost use Rattle.trace_watch.specs.States.{first_value, is_before, rank, second_value, spot, told_word};
 
+use crate::glimpses::{are_seen, copied_seen, seen_by};
 use packet::{Op, Reply, apply};
 use std::alloc::{AllocError, Allocator};
 use trace_laws::Call;
@@ -151,32 +150,6 @@ fn are_covered(some: &[Effect], others: &[Effect]) -> bool
     true
 }
 
-/// Whether a word was there for as many operations as another glimpse says.
-pub(crate) fn has_glimpse(seen: &[Glimpse], glimpse: Glimpse) -> bool
-    ensures yes { result ≡ true → IsGlimpsed seen.now glimpse }
-    ensures no { result ≡ false → IsGlimpsed seen.now glimpse → ⊥ }
-{
-    for i in 0..seen.len() {
-        if seen[i].word == glimpse.word && glimpse.newest <= seen[i].newest {
-            return true;
-        }
-    }
-    false
-}
-
-/// Whether each of some words was there for as many operations.
-fn are_seen(seen: &[Glimpse], others: &[Glimpse]) -> bool
-    ensures yes { result ≡ true → (g : Glimpse) → IsIn others.now g → IsGlimpsed seen.now g }
-    ensures no { result ≡ false → ((g : Glimpse) → IsIn others.now g → IsGlimpsed seen.now g) → ⊥ }
-{
-    for i in 0..others.len() {
-        if !has_glimpse(seen, others[i]) {
-            return false;
-        }
-    }
-    true
-}
-
 /// Whether a state tells of whatever another one does.
 pub(crate) fn is_covered<A: Allocator>(one: &State<A>, other: &State<A>) -> bool
     ensures yes { result ≡ true → Covers (config_of one.now) (config_of other.now) }
@@ -187,7 +160,7 @@ pub(crate) fn is_covered<A: Allocator>(one: &State<A>, other: &State<A>) -> bool
         && are_seen(&one.seen, &other.seen)
 }
 
-/// The same effects.
+/// A copy of some effects.
 fn copied<A: Allocator>(alloc: A, effects: &[Effect]) -> Result<Vec<Effect, A>, AllocError>
     ensures { IfOk result (λ v. v.items ≡ effects.now) }
 {
@@ -198,53 +171,7 @@ fn copied<A: Allocator>(alloc: A, effects: &[Effect]) -> Result<Vec<Effect, A>, 
     Ok(copies)
 }
 
-/// The same glimpses.
-fn copied_seen<A: Allocator>(alloc: A, seen: &[Glimpse]) -> Result<Vec<Glimpse, A>, AllocError>
-    ensures { IfOk result (λ v. v.items ≡ seen.now) }
-{
-    let mut copies = Vec::new(alloc);
-    for i in 0..seen.len() {
-        copies.push(seen[i])?;
-    }
-    Ok(copies)
-}
-
-/// The glimpses of other words than this one.
-fn other_words<A: Allocator>(
-    alloc: A,
-    seen: &[Glimpse],
-    word: u64,
-) -> Result<Vec<Glimpse, A>, AllocError>
-    ensures { IfOk result (λ v. v.items ≡ other_words word seen.now) }
-{
-    let mut others = Vec::new(alloc);
-    for i in 0..seen.len() {
-        let glimpse = seen[i];
-        if glimpse.word != word {
-            others.push(glimpse)?;
-        }
-    }
-    Ok(others)
-}
-
-/// The words that these operations may have found in a state, once this word is there.
-fn seen_by<A: Allocator>(
-    alloc: A,
-    calls: &[Call],
-    state: &State<A>,
-    word: u64,
-) -> Result<Vec<Glimpse, A>, AllocError>
-    ensures { IfOk result (λ v. v.items ≡ seen_by calls.now (config_of state.now) word) }
-{
-    let mut seen = other_words(alloc, &state.seen, word)?;
-    if state.word != word {
-        let newest = newest_number(calls);
-        seen.insert(0, Glimpse { word: state.word, newest })?;
-    }
-    Ok(seen)
-}
-
-/// The same effects and one more, at its place.
+/// A copy of some effects and one more, at its place.
 fn effects_with<A: Allocator>(
     alloc: A,
     effects: &[Effect],
@@ -258,7 +185,7 @@ fn effects_with<A: Allocator>(
     Ok(more)
 }
 
-/// The same state.
+/// A copy of a state.
 pub(crate) fn copy_of<A: Allocator + Copy>(alloc: A, state: &State<A>) -> Result<State<A>, AllocError>
     ensures { IfOk result (λ s. config_of s ≡ config_of state.now) }
 {
@@ -267,19 +194,6 @@ pub(crate) fn copy_of<A: Allocator + Copy>(alloc: A, state: &State<A>) -> Result
         effects: copied(alloc, &state.effects)?,
         seen: copied_seen(alloc, &state.seen)?,
     })
-}
-
-/// The highest number of some operations, or 0.
-pub(crate) fn newest_number(calls: &[Call]) -> u64
-    ensures { result ≡ newest_number calls.now }
-{
-    let mut newest = 0;
-    for i in 0..calls.len() {
-        if calls[i].id > newest {
-            newest = calls[i].id;
-        }
-    }
-    newest
 }
 
 /// Whether an operation leaves a word as it is.
