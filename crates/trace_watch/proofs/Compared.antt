@@ -87,3 +87,8 @@ covers_read c d es fs gs hs e f g h word effects seen = record {
   seen = λ x on. subst (λ (xs : List Glimpse). IsGlimpsed xs x) g
       (seen x (subst (λ (xs : List Glimpse). IsIn xs x) (sym h) on));
 }
+
+pub seen_read : (gs hs ks ls : List Glimpse) → gs ≡ ks → hs ≡ ls
+    → ((g : Glimpse) → IsIn ls g → IsGlimpsed ks g) → (g : Glimpse) → IsIn hs g → IsGlimpsed gs g
+seen_read gs hs ks ls e f seen g on = subst (λ (xs : List Glimpse). IsGlimpsed xs g) (sym e)
+    (seen g (subst (λ (xs : List Glimpse). IsIn xs g) f on))

@@ -151,13 +151,16 @@ other_from word (f ∷ gs) k g h = ⊎_elim {C = IsIn (f ∷ gs) g × (g.word �
     (ap (λ (b : Bool). slice_get (cond b (other_words word gs) (f ∷ other_words word gs)) k) (sym t) ∙ h) in
     ((suc r.0.0, r.0.1), r.1))
     (λ (n : (f.word == word) ≡ false).
-    here n k (ap (λ (b : Bool). slice_get (cond b (other_words word gs) (f ∷ other_words word gs)) k) (sym n) ∙ h))
+    here (λ j at. other_from word gs j g at) n k
+    (ap (λ (b : Bool). slice_get (cond b (other_words word gs) (f ∷ other_words word gs)) k) (sym n) ∙ h))
     (cases_Bool (f.word == word))
   where
-    here : (f.word == word) ≡ false → (k : ℕ) → slice_get (f ∷ other_words word gs) k ≡ Some g
+    here : ((j : ℕ) → slice_get (other_words word gs) j ≡ Some g → IsIn gs g × (g.word ≢ word))
+        → (f.word == word) ≡ false → (k : ℕ) → slice_get (f ∷ other_words word gs) k ≡ Some g
         → IsIn (f ∷ gs) g × (g.word ≢ word)
-    here n zero h = let e : f ≡ g = cc in ((zero, h), subst (λ (x : Glimpse). x.word ≢ word) e (eqb-false f.word word n))
-    here n (suc k) h = let r = other_from word gs k g h in ((suc r.0.0, r.0.1), r.1)
+    here from n zero h =
+        let e : f ≡ g = cc in ((zero, h), subst (λ (x : Glimpse). x.word ≢ word) e (eqb-false f.word word n))
+    here from n (suc k) h = let r = from k h in ((suc r.0.0, r.0.1), r.1)
 
 pub other_has : (word : ℕ) (gs : List Glimpse) (k : ℕ) (g : Glimpse) → slice_get gs k ≡ Some g → g.word ≢ word
     → IsIn (other_words word gs) g
@@ -165,18 +168,21 @@ other_has word [] k g h ne = absurd (let e : None ≡ Some g = h in cc)
 other_has word (f ∷ gs) k g h ne = ⊎_elim {C = IsIn (other_words word (f ∷ gs)) g}
     (λ (t : (f.word == word) ≡ true).
     subst (λ (b : Bool). IsIn (cond b (other_words word gs) (f ∷ other_words word gs)) g) (sym t)
-    (skipped (eqb-true f.word word t) k h))
+    (skipped (λ j at. other_has word gs j g at ne) (eqb-true f.word word t) k h))
     (λ (n : (f.word == word) ≡ false).
-    subst (λ (b : Bool). IsIn (cond b (other_words word gs) (f ∷ other_words word gs)) g) (sym n) (kept k h))
+    subst (λ (b : Bool). IsIn (cond b (other_words word gs) (f ∷ other_words word gs)) g) (sym n)
+    (kept (λ j at. other_has word gs j g at ne) k h))
     (cases_Bool (f.word == word))
   where
-    skipped : f.word ≡ word → (k : ℕ) → slice_get (f ∷ gs) k ≡ Some g → IsIn (other_words word gs) g
-    skipped e zero h = let s : f ≡ g = cc in absurd (ne (ap (λ (x : Glimpse). x.word) (sym s) ∙ e))
-    skipped e (suc k) h = other_has word gs k g h ne
+    skipped : ((j : ℕ) → slice_get gs j ≡ Some g → IsIn (other_words word gs) g) → f.word ≡ word → (k : ℕ)
+        → slice_get (f ∷ gs) k ≡ Some g → IsIn (other_words word gs) g
+    skipped has e zero h = let s : f ≡ g = cc in absurd (ne (ap (λ (x : Glimpse). x.word) (sym s) ∙ e))
+    skipped has e (suc k) h = has k h
 
-    kept : (k : ℕ) → slice_get (f ∷ gs) k ≡ Some g → IsIn (f ∷ other_words word gs) g
-    kept zero h = (zero, h)
-    kept (suc k) h = let r = other_has word gs k g h ne in (suc r.0, r.1)
+    kept : ((j : ℕ) → slice_get gs j ≡ Some g → IsIn (other_words word gs) g) → (k : ℕ)
+        → slice_get (f ∷ gs) k ≡ Some g → IsIn (f ∷ other_words word gs) g
+    kept has zero h = (zero, h)
+    kept has (suc k) h = let r = has k h in (suc r.0, r.1)
 
 -- a word more that was there
 covers_seen_by : (calls : List Call) (c d : Config) (word : ℕ) → Covers c d → (g : Glimpse)

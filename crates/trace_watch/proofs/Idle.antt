@@ -105,19 +105,18 @@ tight P [] (e ∷ fs) (c ∷ cs) m =
       first ∷ r.0,
       (m.0, record { asks = m.1.asks; early = omega arith }, r.1),
       ap (λ (xs : List NamedEffect). let x : NamedEffect = record { id = c.id; reply = e.reply } in x ∷ xs) r.2,
-      λ g on. each g on.0 on.1,
+      λ g on. each r g on.0 on.1,
     )
   where
-    each : (g : Effect) (k : ℕ)
-        → slice_get (record { op = e.op; reply = e.reply; newest = c.id } ∷ (tight (Other P c.id) [] fs cs m.2).0) k ≡ Some g
-        → IsTightened P (e ∷ fs) g
-    each g zero h =
+    each : (r : HasTight (Other P c.id) [] fs cs) (g : Effect) (k : ℕ)
+        → slice_get (record { op = e.op; reply = e.reply; newest = c.id } ∷ r.0) k ≡ Some g → IsTightened P (e ∷ fs) g
+    each r g zero h =
         let first : Effect = record { op = e.op; reply = e.reply; newest = c.id } in
         let same : first ≡ g = cc in
         subst (λ (x : Effect). IsTightened P (e ∷ fs) x) same
         (e, (zero, refl), refl, refl, m.1.early, (c, m.0, m.1.asks, refl))
-    each g (suc k) h =
-        let q = (tight (Other P c.id) [] fs cs m.2).3 g (k, h) in
+    each r g (suc k) h =
+        let q = r.3 g (k, h) in
         (q.0, (suc q.1.0, q.1.1), q.2, q.3, q.4, (q.5.0, q.5.1.0, q.5.2, q.5.3))
 tight P (e ∷ es) fs [] m = absurd m
 tight P (e ∷ es) fs (c ∷ cs) m =
@@ -197,10 +196,13 @@ seen_all : (opening : List ℕ) (t : List Event) (w word : ℕ) (es : List Effec
     → ExplainsAll opening t w word (es ++ (fs ++ gs))
 seen_all opening t w word es g seen inside here x fs [] old new =
     subst (λ (xs : List Effect). ExplainsAll opening t w word (es ++ xs)) (sym (append-nil fs)) (x fs old)
-seen_all opening t w word es g seen inside here x fs (e ∷ gs) old new = at (new e (zero, refl))
+seen_all opening t w word es g seen inside here x fs (e ∷ gs) old new =
+    at (λ xs were. seen_all opening t w word es g seen inside here x xs gs were (λ f on. new f (suc on.0, on.1)))
+    (new e (zero, refl))
   where
-    later : AreIdleIn (g ∷ seen) gs
-    later f on = new f (suc on.0, on.1)
+    -- the rest of them, behind whatever others
+    Rest : Type 0
+    Rest = (xs : List Effect) → AreIdleIn seen xs → ExplainsAll opening t w word (es ++ (xs ++ gs))
 
     was : IsIdleIn seen e → AreIdleIn seen (fs ++ e ∷ [])
     was i f on = ⊎_elim {C = IsIdleIn seen f}
@@ -212,26 +214,26 @@ seen_all opening t w word es g seen inside here x fs (e ∷ gs) old new = at (ne
         one i f zero h = let s : e ≡ f = cc in subst (λ (y : Effect). IsIdleIn seen y) s i
         one i f (suc k) h = absurd (let n : None ≡ Some f = h in cc)
 
-    before : IsIdleIn seen e → ExplainsAll opening t w word (es ++ (fs ++ e ∷ gs))
-    before i = subst (λ (xs : List Effect). ExplainsAll opening t w word (es ++ xs)) (append_assoc fs (e ∷ []) gs)
-        (seen_all opening t w word es g seen inside here x (fs ++ e ∷ []) gs (was i) later)
+    before : Rest → IsIdleIn seen e → ExplainsAll opening t w word (es ++ (fs ++ e ∷ gs))
+    before rest i = subst (λ (xs : List Effect). ExplainsAll opening t w word (es ++ xs)) (append_assoc fs (e ∷ []) gs)
+        (rest (fs ++ e ∷ []) (was i))
 
-    now : is_idle e.op word ≡ true → e.reply ≡ reply_to e.op word → ExplainsAll opening t w word (es ++ (fs ++ e ∷ gs))
-    now idle replies = subst (λ (xs : List Effect). ExplainsAll opening t w word xs) (insert_between es fs gs e)
-        (idle_all opening t w word (es ++ (fs ++ gs)) (length (es ++ fs)) e inside idle replies
-        (seen_all opening t w word es g seen inside here x fs gs old later))
-
-    place : (i : IsIdleIn (g ∷ seen) e) (k : ℕ) → slice_get (g ∷ seen) k ≡ Some i.glimpse
+    now : Rest → is_idle e.op word ≡ true → e.reply ≡ reply_to e.op word
         → ExplainsAll opening t w word (es ++ (fs ++ e ∷ gs))
-    place i zero h =
+    now rest idle replies = subst (λ (xs : List Effect). ExplainsAll opening t w word xs) (insert_between es fs gs e)
+        (idle_all opening t w word (es ++ (fs ++ gs)) (length (es ++ fs)) e inside idle replies (rest fs old))
+
+    place : Rest → (i : IsIdleIn (g ∷ seen) e) (k : ℕ) → slice_get (g ∷ seen) k ≡ Some i.glimpse
+        → ExplainsAll opening t w word (es ++ (fs ++ e ∷ gs))
+    place rest i zero h =
         let s : g ≡ i.glimpse = cc in
         let v : i.glimpse.word ≡ word = ap (λ (y : Glimpse). y.word) (sym s) ∙ here in
-        now (subst (λ (y : ℕ). is_idle e.op y ≡ true) v i.idle) (i.reply ∙ ap (λ (y : ℕ). reply_to e.op y) v)
-    place i (suc k) h =
-        before (record { glimpse = i.glimpse; there = (k, h); idle = i.idle; reply = i.reply; low = i.low })
+        now rest (subst (λ (y : ℕ). is_idle e.op y ≡ true) v i.idle) (i.reply ∙ ap (λ (y : ℕ). reply_to e.op y) v)
+    place rest i (suc k) h =
+        before rest (record { glimpse = i.glimpse; there = (k, h); idle = i.idle; reply = i.reply; low = i.low })
 
-    at : IsIdleIn (g ∷ seen) e → ExplainsAll opening t w word (es ++ (fs ++ e ∷ gs))
-    at i = place i i.there.0 i.there.1
+    at : Rest → IsIdleIn (g ∷ seen) e → ExplainsAll opening t w word (es ++ (fs ++ e ∷ gs))
+    at rest i = place rest i i.there.0 i.there.1
 
 -- and so of a configuration that orders lead to
 pub glimpse_all : (opening : List ℕ) (t : List Event) (w : ℕ) (calls : List Call) (c : Config) (word : ℕ) (es : List Effect)

@@ -29,7 +29,7 @@ use Rattle.trace_watch.proofs.Growth.{after_changed, spot_low}
 use Rattle.trace_watch.proofs.Idle.{insert_append, insert_middle, matches_front, newest_above}
 use Rattle.trace_watch.proofs.Bounds.{idle_seen}
 use Rattle.trace_watch.proofs.Steps.{match_ids, put_explains, taken_explains}
-use Rattle.trace_watch.proofs.Answered.{IsAnswer, distinct, effect_cases, more, one_open, open_other, other_later, other_open}
+use Rattle.trace_watch.proofs.Answered.{IsAnswer, distinct, effect_cases, more, now, one_open, open_other, other_later, other_open}
 use Rattle.trace_watch.proofs.KeptSound.{low_sound, may_sound, taken_sound}
 use Rattle.trace_watch.proofs.KeptLeads.{IsAhead, ahead, claim_leads, leads_among, replied_so}
 
