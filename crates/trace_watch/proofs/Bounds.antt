@@ -1,21 +1,19 @@
 -- Bounds that are lowered to the newest open operations.
-use Rattle.std.proofs.Common.{◌≡◌, ◌≢◌, ◌⊎◌, inl, inr, ⊎_elim, ℕ, zero, suc, ◌+◌, ◌<◌, ◌≤◌, true, List, [], ◌∷◌, ◌++◌, length, Option, Some, None, refl, sym, ◌∙◌, ap, subst, arith}
+use Rattle.std.proofs.Common.{◌≡◌, ◌≢◌, inl, inr, ⊎_elim, ℕ, zero, suc, ◌≤◌, true, List, [], ◌∷◌, ◌++◌, Some, None, refl, sym, ◌∙◌, ap, subst, arith}
 use Rattle.std.proofs.Common.{slice_get, append-nil}
-use Rattle.std.specs.Prelude.{MatchOption}
 use Rattle.std.proofs.lemmas.Bool.{cases_eq}
 use Rattle.packet.specs.declared.kinds.Op.{Op}
 use Rattle.packet.specs.Memory.{reply_to}
 use Rattle.trace_laws.specs.declared.event.Call.{Call}
 use Rattle.trace_laws.specs.declared.event.Event.{Event}
-use Rattle.trace_laws.proofs.Lists.{get_append_left, get_push, get_push_cases, get_within}
 use Rattle.trace_laws.specs.Configs.{IsIn}
 use Rattle.trace_watch.specs.declared.state.Effect.{Effect}
 use Rattle.trace_watch.specs.declared.state.Glimpse.{Glimpse}
-use Rattle.trace_watch.specs.States.{AreCovered, Config, HasSeen, IsGlimpsed, IsIdleHere, IsIdleIn, is_idle, newest_number, seen_by, with_idle}
+use Rattle.trace_watch.specs.States.{AreCovered, Config, HasSeen, IsGlimpsed, IsIdleHere, is_idle, newest_number, seen_by}
 use Rattle.trace_watch.specs.Matchings.{IsNewestOf, Matches, MayBe, Other}
-use Rattle.trace_watch.specs.Named.{NamedConfig, named, named_config}
-use Rattle.trace_watch.specs.Lowered.{AreLowered, AreLoweredGlimpses, IsBounded, IsLowered, IsNewerFinder, IsNewestFinder, MayFind, NotesGlimpse}
-use Rattle.trace_watch.specs.Known.{AreIdleHere, AreIdleIn, Explains, HasIssued, IsExplainedWatch, IsOpenOn}
+use Rattle.trace_watch.specs.Named.{NamedConfig}
+use Rattle.trace_watch.specs.Lowered.{AreLowered, AreLoweredGlimpses, IsBounded, IsLowered}
+use Rattle.trace_watch.specs.Known.{AreIdleHere, AreIdleIn, Explains, IsExplainedWatch, IsOpenOn}
 use Rattle.trace_watch.proofs.Covering.{covered_append, covered_match, like_named, other_has}
 use Rattle.trace_watch.proofs.Idle.{IsTightened}
 

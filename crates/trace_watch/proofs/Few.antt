@@ -1,5 +1,5 @@
 -- How many configurations open operations lead to.
-use Rattle.std.proofs.Common.{◌≡◌, ◌⊎◌, ◌↔◌, ⊎_elim, ℕ, ◌<◌, ◌≤◌, List, [], ◌∷◌, ◌++◌, length, Some, Vec, refl, sym, ◌∙◌, ap, subst, arith, slice_get, get_or}
+use Rattle.std.proofs.Common.{◌≡◌, ◌↔◌, ⊎_elim, ℕ, ◌<◌, ◌≤◌, List, [], ◌∷◌, length, Some, Vec, refl, sym, ◌∙◌, ap, subst, arith, slice_get, get_or}
 use Rattle.std.proofs.Common.{true, false, cond, suc}
 use Rattle.std.specs.List.{insert}
 use Rattle.std.proofs.lemmas.Bool.{cases_Bool}
@@ -16,7 +16,7 @@ use Rattle.trace_watch.specs.declared.state.State.{State}
 use Rattle.trace_watch.specs.declared.watch.Watch.{Watch}
 use Rattle.trace_watch.specs.States.{Config, Covers, IsAmong, after, changed, configs_of, effect_of, is_idle, newest_number, other_words, spot}
 use Rattle.trace_watch.specs.Matchings.{AreDistinctPartners, FitsPartner, HasNewest}
-use Rattle.trace_watch.specs.Known.{ArePendingOn, IsPendingCall}
+use Rattle.trace_watch.specs.Known.{IsPendingCall}
 use Rattle.trace_watch.specs.Closed.{Closes, IsExpandedState}
 use Rattle.trace_watch.specs.Crowds.{ExplainsCrowd, AreFew}
 use Rattle.trace_watch.specs.Follows.{Tracks, AnswersFew, states_of}
@@ -173,8 +173,8 @@ answers_few opening t watch call id reply bound calls on number here few f = λ 
     (few_same call.id also calls bound (states_of watch.words.items call.operation.address)
     (λ c. (
       (λ in_also. (here c).1 (
-          held opening t watch c f (are.each c in_also),
-          are.here c in_also ∙ ap (λ (x : Call). x.operation.address) (sym same),
+        held opening t watch c f (are.each c in_also),
+        are.here c in_also ∙ ap (λ (x : Call). x.operation.address) (sym same),
       )),
       (λ in_calls.
           let h = (here c).0 in_calls in

@@ -1,15 +1,15 @@
 -- The loops that gather the configurations after an answer.
-use Rattle.std.proofs.Common.{◌≡◌, ◌≢◌, ◌⊎◌, inl, inr, ◌↔◌, ⊎_elim, ℕ, ◌+◌, ◌<◌, ◌≤◌, List, [], ◌∷◌, length, Some, None, refl, sym, ◌∙◌, ap, subst, arith, slice_get}
+use Rattle.std.proofs.Common.{◌≡◌, ◌≢◌, ◌⊎◌, inl, inr, ◌↔◌, ⊎_elim, ℕ, ◌+◌, ◌<◌, ◌≤◌, List, [], length, Some, None, refl, sym, ◌∙◌, subst, arith, slice_get}
 use Rattle.std.proofs.lemmas.Bool.{cases_eq}
 use Rattle.packet.specs.declared.kinds.Reply.{Reply}
 use Rattle.packet.specs.Memory.{new_word, reply_to}
 use Rattle.trace_laws.specs.declared.event.Call.{Call}
 use Rattle.trace_laws.proofs.Lists.{get_within}
-use Rattle.trace_laws.specs.Configs.{IsIn, GoesOn}
+use Rattle.trace_laws.specs.Configs.{IsIn}
 use Rattle.trace_watch.specs.declared.state.Effect.{Effect}
 use Rattle.trace_watch.specs.declared.state.State.{State}
 use Rattle.trace_watch.specs.declared.state.Glimpse.{Glimpse}
-use Rattle.trace_watch.specs.States.{Config, IsAmong, config_of, configs_of, less_one, taken}
+use Rattle.trace_watch.specs.States.{Config, config_of, configs_of, less_one, taken}
 use Rattle.trace_watch.specs.Lowered.{IsLowered, MayFind}
 use Rattle.trace_watch.specs.Matchings.{AreDistinctPartners, FitsPartner, HasNewest, IsPart, MayBe}
 use Rattle.trace_watch.specs.Closed.{Closes, FromOne, Gathers, IsAmongLowered, IsAnsweredBy, IsClaimed, IsClaimedAt, IsIdleClaim, IsOneMore, IsTakenConfig, LoweredFrom, MayClaim}

@@ -1,9 +1,8 @@
 -- Operations that took effect at words that were there, which they left as they were.
-use Rattle.std.proofs.Common.{◌≡◌, ◌≢◌, ◌⊎◌, inl, inr, ⊎_elim, ℕ, zero, suc, ◌<◌, ◌≤◌, max, true, List, [], ◌∷◌, ◌++◌, length, Some, None, refl, sym, ◌∙◌, ap, subst, arith}
+use Rattle.std.proofs.Common.{◌≡◌, ◌⊎◌, inl, inr, ⊎_elim, ℕ, zero, suc, ◌<◌, ◌≤◌, max, true, List, [], ◌∷◌, ◌++◌, length, Some, None, refl, sym, ◌∙◌, ap, subst, arith}
 use Rattle.std.proofs.Common.{slice_get, append-nil, append_assoc}
 use Rattle.std.specs.List.{insert, remove}
 use Rattle.std.proofs.lemmas.Bool.{cases_lt, eqb-true}
-use Rattle.packet.specs.declared.kinds.Reply.{Reply}
 use Rattle.packet.specs.Memory.{new_word, reply_to}
 use Rattle.trace_laws.specs.declared.event.Call.{Call}
 use Rattle.trace_laws.specs.declared.event.Event.{Event}
@@ -12,7 +11,7 @@ use Rattle.trace_laws.specs.Configs.{IsIn}
 use Rattle.trace_watch.specs.declared.state.Effect.{Effect}
 use Rattle.trace_watch.specs.declared.state.Glimpse.{Glimpse}
 use Rattle.trace_watch.specs.States.{Config, IsIdleIn, is_idle, newest_number, seen_by}
-use Rattle.trace_watch.specs.Matchings.{FitsPartner, Matches, MayBe, Other}
+use Rattle.trace_watch.specs.Matchings.{FitsPartner, Matches, Other}
 use Rattle.trace_watch.specs.Named.{NamedEffect, named}
 use Rattle.trace_watch.specs.Known.{AreIdleIn, Explains, HasIssued, IsExplainedWatch, IsOpenOn}
 use Rattle.trace_watch.proofs.Events.{issue_up}

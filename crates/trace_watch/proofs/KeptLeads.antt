@@ -1,5 +1,5 @@
 -- What an order leads to behind an answer.
-use Rattle.std.proofs.Common.{◌≡◌, ◌⊎◌, inl, inr, ⊎_elim, ℕ, ◌+◌, ◌≤◌, true, List, ◌++◌, length, Some, refl, sym, ◌∙◌, ap, subst}
+use Rattle.std.proofs.Common.{◌≡◌, inl, inr, ⊎_elim, ℕ, ◌≤◌, true, List, ◌++◌, length, Some, refl, sym, ◌∙◌, ap, subst}
 use Rattle.std.proofs.Common.{arith, slice_get, take}
 use Rattle.std.specs.List.{insert, remove}
 use Rattle.std.proofs.lemmas.Bool.{eqb-true}
@@ -197,17 +197,21 @@ module _ {words : ℕ} {opening : List ℕ} {t : List Event} {w : ℕ} {b : Call
       here_leads (take n order) found new c es cs kept idle (stays c.word s) (replies c.word s) other z takes)
       (λ (h : IsGlimpsed c.seen (record { word = i.word; newest = e.newest })).
       leads_among (take n order) new c es cs
-      (claims c (c, l.on, inr (
-        h.0,
-        h.1,
-        record {
-          idle = stays h.0.word (sym h.2);
-          early = let u = may.early in let v = h.3 in omega (arith, u, v);
-        },
-        replies h.0.word (sym h.2),
-        matches_front (IsIn others) c.effects es cs other,
-        refl,
-      ))) idle
+      (claims c (
+        c,
+        l.on,
+        inr (
+          h.0,
+          h.1,
+          record {
+            idle = stays h.0.word (sym h.2);
+            early = let u = may.early in let v = h.3 in omega (arith, u, v);
+          },
+          replies h.0.word (sym h.2),
+          matches_front (IsIn others) c.effects es cs other,
+          refl,
+        ),
+      )) idle
       (weaken (Other (IsOpenOn t w) b.id) (IsOpenOn (more a) w) (later_up a) (c.effects ++ es) cs m) z)
       i.there)
       (place_cases c.effects l.idle k e r.there)

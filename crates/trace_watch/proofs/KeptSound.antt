@@ -1,5 +1,5 @@
 -- What is kept behind an answer is explained.
-use Rattle.std.proofs.Common.{◌≡◌, ◌⊎◌, ⊎_elim, ℕ, zero, suc, ◌+◌, List, [], ◌∷◌, ◌++◌, length, Some, refl, sym, subst}
+use Rattle.std.proofs.Common.{◌≡◌, ⊎_elim, ℕ, zero, suc, List, [], ◌∷◌, ◌++◌, length, Some, refl, sym, subst}
 use Rattle.std.proofs.Common.{arith, slice_get}
 use Rattle.std.specs.List.{insert, remove}
 use Rattle.packet.specs.declared.kinds.Reply.{Reply}
@@ -10,7 +10,7 @@ use Rattle.trace_laws.specs.declared.event.Event.TheVariants.{Answer}
 use Rattle.trace_laws.proofs.Lists.{get_append_left}
 use Rattle.trace_laws.specs.Configs.{IsIn}
 use Rattle.trace_watch.specs.declared.state.Effect.{Effect}
-use Rattle.trace_watch.specs.States.{Config, IsIdleIn, newest_number, taken, with_idle}
+use Rattle.trace_watch.specs.States.{Config, IsIdleIn, newest_number, with_idle}
 use Rattle.trace_watch.specs.Matchings.{Matches, MayBe, Other}
 use Rattle.trace_watch.specs.Named.{named}
 use Rattle.trace_watch.specs.Known.{AreIdleIn, Explains, HasIssued, IsExplainedWatch, IsOpenOn}

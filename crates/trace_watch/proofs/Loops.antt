@@ -1,5 +1,5 @@
 -- The loops over states, as configurations.
-use Rattle.std.proofs.Common.{◌≡◌, true, false, ℕ, ◌+◌, ◌<◌, ◌≤◌, List, [], ◌∷◌, ◌++◌, length, Some, sym, ◌∙◌, ap, subst, arith, slice_get, get_or}
+use Rattle.std.proofs.Common.{◌≡◌, true, false, ℕ, ◌+◌, ◌<◌, ◌≤◌, List, [], ◌∷◌, length, Some, sym, ◌∙◌, ap, subst, arith, slice_get, get_or}
 use Rattle.std.proofs.lemmas.Option.{slice_get-get_or}
 use Rattle.trace_laws.specs.declared.event.Call.{Call}
 use Rattle.trace_laws.specs.Configs.{IsIn, GoesOn}
@@ -8,7 +8,7 @@ use Rattle.trace_watch.specs.declared.state.State.{State}
 use Rattle.trace_watch.specs.States.{Config, changed, config_of, configs_of, is_idle}
 use Rattle.trace_watch.specs.Matchings.{AreDistinctPartners, FitsPartner}
 use Rattle.trace_watch.specs.Closed.{CatchesUp, Closes, Expands, IsOneMore}
-use Rattle.trace_watch.proofs.Grown.{get_config, configs_push, long_configs}
+use Rattle.trace_watch.proofs.Grown.{get_config, long_configs}
 use Rattle.trace_watch.proofs.Growth.{goes_longer, expands_idle, expands_nothing, expands_one, Catching, catching_more, catching_all, Closing, closing_more, closing_all}
 
 -- what stands at a place, as the code reads it

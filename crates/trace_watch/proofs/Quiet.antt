@@ -1,5 +1,5 @@
 -- What an event leaves of a word that it doesn't answer anything on.
-use Rattle.std.proofs.Common.{◌≡◌, ◌≢◌, ◌⊎◌, inl, inr, ⊎_elim, ℕ, zero, suc, ◌<◌, ◌≤◌, List, [], ◌∷◌, ◌++◌, length, Some, refl, sym, ◌∙◌, ap, subst}
+use Rattle.std.proofs.Common.{◌≡◌, ◌≢◌, ⊎_elim, ℕ, zero, suc, ◌<◌, ◌≤◌, List, [], ◌∷◌, ◌++◌, length, Some, refl, sym, ◌∙◌, ap, subst}
 use Rattle.std.proofs.Common.{arith, slice_get, take}
 use Rattle.std.proofs.lemmas.Bool.{cases_eq, cases_lt}
 use Rattle.std.proofs.lemmas.List.{take-take, take_all}
@@ -16,9 +16,9 @@ use Rattle.trace_laws.proofs.Lists.{get_push, get_within, get_take, take_get}
 use Rattle.trace_laws.specs.Configs.{IsIn}
 use Rattle.trace_watch.specs.declared.state.Effect.{Effect}
 use Rattle.trace_watch.specs.States.{Config, with_idle}
-use Rattle.trace_watch.specs.Matchings.{FitsPartner, Matches, MayBe, Other}
+use Rattle.trace_watch.specs.Matchings.{Matches, MayBe, Other}
 use Rattle.trace_watch.specs.Named.{NamedConfig, named_config}
-use Rattle.trace_watch.specs.Known.{Explains, IsExplainedWatch, IsOpenOn, IsPendingCall, Knows, LeadsToConfig}
+use Rattle.trace_watch.specs.Known.{Explains, IsExplainedWatch, IsOpenOn, Knows, LeadsToConfig}
 use Rattle.trace_watch.proofs.Matched.{fits_weaken, weaken}
 use Rattle.trace_watch.proofs.Idle.{issued_up, issued_with}
 use Rattle.trace_watch.proofs.Events.{issue_up, answer_up, answered_up, issue_cases, answer_cases, no_answer, same_call, issue_down}

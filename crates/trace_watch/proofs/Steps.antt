@@ -1,5 +1,5 @@
 -- Effects of whatever operations they may be of: how orders go on.
-use Rattle.std.proofs.Common.{◌≡◌, ◌⊎◌, ⊎_elim, ℕ, ◌<◌, ◌≤◌, List, [], ◌∷◌, ◌++◌, length, Some, refl, sym, ◌∙◌, ap, subst, arith, slice_get}
+use Rattle.std.proofs.Common.{◌≡◌, ⊎_elim, ℕ, ◌<◌, List, [], ◌∷◌, ◌++◌, length, Some, refl, sym, ◌∙◌, ap, subst, slice_get}
 use Rattle.std.specs.List.{insert, remove}
 use Rattle.packet.specs.declared.kinds.Op.{Op}
 use Rattle.packet.specs.declared.kinds.Reply.{Reply}
@@ -12,9 +12,9 @@ use Rattle.trace_laws.proofs.Lists.{get_push_cases, get_append_left, get_push}
 use Rattle.trace_laws.specs.Configs.{IsIn}
 use Rattle.trace_watch.specs.declared.state.Effect.{Effect}
 use Rattle.trace_watch.specs.States.{Config, less_one}
-use Rattle.trace_watch.specs.Matchings.{Matches, MayBe, Other}
-use Rattle.trace_watch.specs.Named.{NamedConfig, NamedEffect, HasEffect, IsLike, IsWithoutCall, named, named_after, named_config}
-use Rattle.trace_watch.specs.Known.{Explains, IsOpenOn, IsPendingCall}
+use Rattle.trace_watch.specs.Matchings.{Matches, Other}
+use Rattle.trace_watch.specs.Named.{NamedConfig, NamedEffect, IsLike, IsWithoutCall, named, named_after, named_config}
+use Rattle.trace_watch.specs.Known.{Explains, IsOpenOn}
 use Rattle.trace_watch.proofs.Matched.{insert_from, insert_new, insert_old, match_place, named_insert}
 use Rattle.trace_watch.proofs.Effects.{explains_after, explains_answer, explains_like}
 

@@ -1,5 +1,5 @@
 -- Answers on a word: from what explains the trace before it, to what explains it with the answer.
-use Rattle.std.proofs.Common.{◌≡◌, ◌≢◌, ◌⊎◌, inl, inr, ⊎_elim, true, false, ℕ, zero, suc, ◌+◌, ◌<◌, ◌≤◌, List, [], ◌∷◌, ◌++◌, length, Some, refl, sym, ◌∙◌, ap, subst}
+use Rattle.std.proofs.Common.{◌≡◌, ◌≢◌, inl, ⊎_elim, true, false, ℕ, zero, suc, ◌+◌, ◌<◌, ◌≤◌, List, [], ◌∷◌, ◌++◌, length, Some, refl, sym, ◌∙◌, ap, subst}
 use Rattle.std.proofs.Common.{arith, slice_get, take, get_or}
 use Rattle.std.specs.List.{insert}
 use Rattle.std.proofs.lemmas.Bool.{cases_Bool, cases_eq, cases_lt, eqb-true}
@@ -260,9 +260,11 @@ knows_answer words opening t w b reply calls old new inside well is waits pendin
           let at : slice_get order y.0 ≡ Some b = y.2 ∙ ap (λ (g : Call). Some g) one in
           let k = by.closes.kept l.config l.on in
           ⊎_elim {C = (m : ℕ) × LeadsToConfig opening (t ++ Answer b.id reply ∷ []) w (take m order) new}
-          (λ there.
-          (n, claim_leads a order n old new by.found o l k (by.taken (distinct a)) (by.claimed (distinct a)) there.0 there.1
-          there.2))
+          (λ there. (
+            n,
+            claim_leads a order n old new by.found o l k (by.taken (distinct a)) (by.claimed (distinct a)) there.0 there.1
+                there.2,
+          ))
           (λ none.
           let start = ahead a by.found (take n order) l.config l.idle l.calls k l.seen
           (match_others (IsOpenOn t w) (l.config.effects ++ l.idle) l.calls b.id l.matches none) l.explains in

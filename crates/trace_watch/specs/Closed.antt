@@ -7,7 +7,7 @@ use Rattle.trace_laws.specs.Configs.{GoesOn, IsIn}
 use Rattle.trace_watch.specs.declared.state.Effect.{Effect}
 use Rattle.trace_watch.specs.declared.state.Glimpse.{Glimpse}
 use Rattle.trace_watch.specs.States.{Config, IsAmong, after, less_one, taken}
-use Rattle.trace_watch.specs.Matchings.{AreDistinctPartners, FitsPartner, HasNewest, IsPart, MayBe, Other}
+use Rattle.trace_watch.specs.Matchings.{AreDistinctPartners, FitsPartner, HasNewest, IsPart, MayBe}
 use Rattle.trace_watch.specs.Known.{StaysExplained}
 use Rattle.trace_watch.specs.Lowered.{IsLowered, MayFind}
 
@@ -15,11 +15,12 @@ use Rattle.trace_watch.specs.Lowered.{IsLowered, MayFind}
 abbrev pub IsOneMore : List Config → Config → List Config → Type 0
 IsOneMore old c new = ((new ≡ old) × IsAmong old c) ⊎ (new ≡ old ++ c ∷ [])
 
--- whichever of the newest operations takes effect in c, where these are enough for the effects, what
--- this leads to is among the configurations
+-- whichever of the newest operations takes effect in c, where these are enough for the effects,
+-- what this leads to is among the configurations
 abbrev pub IsExpandedState : List Call → List Call → List Config → Config → Type 0
-IsExpandedState calls newest configs c = AreDistinctPartners calls → (call : Call) → IsIn newest call
-    → FitsPartner (IsIn calls) (after calls c call).effects → IsAmong configs (after calls c call)
+IsExpandedState calls newest configs c = AreDistinctPartners calls → (call : Call)
+    → IsIn newest call → FitsPartner (IsIn calls) (after calls c call).effects
+    → IsAmong configs (after calls c call)
 
 -- whatever the newest operations lead to from one of the configurations is among more of them
 pub record Expands (at : ℕ) (calls newest : List Call) (old new : List Config) : Type 0 where
@@ -38,7 +39,8 @@ pub record CatchesUp (from : ℕ) (calls newest : List Call) (old new : List Con
 pub record Closes (calls newest : List Call) (old found : List Config) : Type 0 where
   pub kept : (c : Config) → IsIn old c → IsAmong found c
   pub closed : (c : Config) → IsIn found c → IsExpandedState calls newest found c
-  pub sound : (all : List Call) → IsPart calls all → IsPart newest all → StaysExplained all old found
+  pub sound : (all : List Call) → IsPart calls all → IsPart newest all
+      → StaysExplained all old found
 
 -- the answered operation takes effect last, and replies so; the others are enough for the effects
 abbrev pub IsTakenConfig : List Call → Call → Reply → Config → Config → Type 0
@@ -46,8 +48,8 @@ IsTakenConfig others call reply c d =
     (reply_to call.operation.op c.word ≡ reply) × FitsPartner (IsIn others) c.effects
     × (d ≡ taken others c call)
 
--- the effect at place k may be that of the answered operation, with this reply; the others are enough
--- for the other effects
+-- the effect at place k may be that of the answered operation, with this reply; the others are
+-- enough for the other effects
 abbrev pub IsClaimedAt : List Call → Call → Reply → Config → ℕ → Config → Type 0
 IsClaimedAt others call reply c k d = (e : Effect) × (slice_get c.effects k ≡ Some e)
     × (e.reply ≡ reply) × MayBe e call × FitsPartner (IsIn others) (less_one c k).effects

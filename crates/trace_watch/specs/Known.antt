@@ -1,10 +1,9 @@
 -- What is known of a trace so far.
 use Rattle.std.specs.Prelude.{◌≡◌, ◌⊎◌, ◌<◌, ◌≤◌, ◌++◌, ℕ, List, Option, Some, length, take, slice_get, slice_index}
-use Rattle.packet.specs.declared.kinds.Reply.{Reply}
 use Rattle.packet.specs.Memory.{reply_of_one}
 use Rattle.trace_laws.specs.declared.event.Call.{Call}
 use Rattle.trace_laws.specs.declared.event.Event.{Event}
-use Rattle.trace_laws.specs.Traces.{TraceIssuesAt, TraceAnswersAt, IsAnswered}
+use Rattle.trace_laws.specs.Traces.{TraceIssuesAt, IsAnswered}
 use Rattle.trace_laws.specs.Orders.{memory_of}
 use Rattle.trace_laws.specs.Locality.{IsOrderOn}
 use Rattle.trace_laws.specs.Configs.{IsIn}
@@ -57,9 +56,10 @@ abbrev pub AreIdleHere : Config → List Effect → Type 0
 AreIdleHere c es = (e : Effect) → IsIn es e → IsIdleHere c.word c.seen e
 
 -- Orders lead to a configuration: its effects may be of open operations on word w, each of its own,
--- and whichever they are of, an order explains it, with whatever other open operations took effect at
--- words that were there. Neither is of an operation yet to be issued.
-pub record IsExplainedWatch (opening : List ℕ) (trace : List Event) (w : ℕ) (c : Config) : Type 0 where
+-- and whichever they are of, an order explains it, with whatever other open operations took effect
+-- at words that were there. None of these is of an operation yet to be issued.
+pub record IsExplainedWatch (opening : List ℕ) (trace : List Event) (w : ℕ) (c : Config)
+    : Type 0 where
   pub fits : FitsPartner (IsOpenOn trace w) c.effects
   pub explained : (idle : List Effect) → AreIdleIn c.seen idle → (calls : List Call)
       → Matches (IsOpenOn trace w) (c.effects ++ idle) calls

@@ -1,6 +1,6 @@
 -- Configurations of one word: what it may have become, and how many of the open operations on it that
 -- ask the same have taken effect, with what they replied.
-use Rattle.std.specs.Prelude.{◌≡◌, ◌⊎◌, ◌≤◌, ◌==◌, ℕ, zero, suc, Bool, true, cond, nat_lt, max, List, [], ◌∷◌, ◌++◌, map}
+use Rattle.std.specs.Prelude.{◌≡◌, ◌⊎◌, ◌≤◌, ◌==◌, ℕ, suc, Bool, true, cond, nat_lt, max, List, [], ◌∷◌, ◌++◌, map}
 use Rattle.std.specs.List.{insert, remove}
 use Rattle.packet.specs.declared.kinds.Op.{Op}
 use Rattle.packet.specs.declared.kinds.Op.TheVariants.{Load, Store, Swap, Cas, Add, And, Or, Xor, Max, Min}
@@ -15,8 +15,8 @@ use Rattle.trace_watch.specs.declared.state.State.{State}
 
 -- a word, and the open operations that have taken effect (Lowe, Testing for linearizability,
 -- Concurrency and Computation 29(4), 2017: a configuration): what each asked and replied, and a
--- number that its own isn't above; and the words that were there, which open operations may have found
--- that leave them as they are
+-- number that its own isn't above; and the words that were there, which open operations may have
+-- found that leave them as they are
 pub record Config : Type 0 where
   pub word : ℕ
   pub effects : List Effect
@@ -137,11 +137,13 @@ newest_number (call ∷ calls) = max call.id (newest_number calls)
 -- the glimpses of other words than this one
 abbrev pub other_words : ℕ → List Glimpse → List Glimpse
 other_words word [] = []
-other_words word (g ∷ seen) = cond (g.word == word) (other_words word seen) (g ∷ other_words word seen)
+other_words word (g ∷ seen) =
+    cond (g.word == word) (other_words word seen) (g ∷ other_words word seen)
 
 -- the words that these operations may have found, once this word is there
 abbrev pub seen_by : List Call → Config → ℕ → List Glimpse
-seen_by calls c word = other_words word (record { word = c.word; newest = newest_number calls } ∷ c.seen)
+seen_by calls c word =
+    other_words word (record { word = c.word; newest = newest_number calls } ∷ c.seen)
 
 -- an operation takes effect that changes the word, while these are open
 abbrev pub changed : List Call → Config → Call → Config
@@ -151,8 +153,8 @@ changed calls c call = record {
   seen = seen_by calls c (new_word call.operation.op c.word);
 }
 
--- an operation takes effect (Lowe: just-in-time linearization); one that leaves the word as it is may
--- do so whenever it is that word
+-- an operation takes effect (Lowe: just-in-time linearization); one that leaves the word as it is
+-- may do so whenever it is that word
 abbrev pub after : List Call → Config → Call → Config
 after calls c call = cond (is_idle call.operation.op c.word) c (changed calls c call)
 

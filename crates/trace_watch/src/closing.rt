@@ -168,7 +168,8 @@ pub(crate) fn close<A: Allocator + Copy>(
     ensures closes { IfOk result (λ v. Closes calls.now newest.now (configs_of states.now)
         (configs_of v.items)) }
     ensures full { IfErr result (λ full. full ≡ Configurations → (all : List Call)
-        → IsPart calls.now all → IsPart newest.now all → IsOverfullCrowd all bound (configs_of states.now)) }
+        → IsPart calls.now all → IsPart newest.now all
+        → IsOverfullCrowd all bound (configs_of states.now)) }
     ensures few { IfOk result (λ v. length v.items ≤ bound) }
 {
     let mut found = Vec::new(alloc);

@@ -35,7 +35,10 @@ pub(crate) fn are_seen(seen: &[Glimpse], others: &[Glimpse]) -> bool
 }
 
 /// A copy of some glimpses.
-pub(crate) fn copied_seen<A: Allocator>(alloc: A, seen: &[Glimpse]) -> Result<Vec<Glimpse, A>, AllocError>
+pub(crate) fn copied_seen<A: Allocator>(
+    alloc: A,
+    seen: &[Glimpse],
+) -> Result<Vec<Glimpse, A>, AllocError>
     ensures { IfOk result (λ v. v.items ≡ seen.now) }
 {
     let mut copies = Vec::new(alloc);
@@ -88,7 +91,13 @@ pub(crate) fn seen_by<A: Allocator>(
     let mut seen = other_words(alloc, &state.seen, word)?;
     if state.word != word {
         let newest = newest_number(calls);
-        seen.insert(0, Glimpse { word: state.word, newest })?;
+        seen.insert(
+            0,
+            Glimpse {
+                word: state.word,
+                newest,
+            },
+        )?;
     }
     Ok(seen)
 }

@@ -9,7 +9,8 @@ ghost use Rattle.trace_watch.specs.Lowered.{MayFind};
 ghost use Rattle.trace_watch.specs.Matchings.{AreDistinctPartners, MayBe};
 ghost use Rattle.trace_watch.specs.Chains.{IsIndexed};
 ghost use Rattle.trace_watch.specs.Crowds.{AreFew, IsOverfullCrowd};
-ghost use Rattle.trace_watch.specs.Closed.{FromOne, Gathers, IsAnsweredBy, IsClaimed, IsClaimedAt, IsIdleClaim, IsTakenConfig, MayClaim};
+ghost use Rattle.trace_watch.specs.Closed.{FromOne, Gathers, IsAnsweredBy, IsClaimed, IsClaimedAt};
+ghost use Rattle.trace_watch.specs.Closed.{IsIdleClaim, IsTakenConfig, MayClaim};
 
 use crate::closing::{add, close};
 use crate::index::{Index, empty_index, widen};
@@ -51,7 +52,8 @@ fn claim<A: Allocator + Copy>(
 ) -> Result<(), AllocError>
     requires inside { at < length state.now.effects.items }
     requires indexed { IsIndexed index.old (configs_of kept.old.items) }
-    ensures gathers { OnOk result (Gathers calls.now (IsClaimedAt calls.now call reply (config_of state.now) at)
+    ensures gathers { OnOk result (Gathers calls.now
+        (IsClaimedAt calls.now call reply (config_of state.now) at)
         (configs_of kept.old.items) (configs_of kept.new.items)) }
     ensures indexed { OnOk result (IsIndexed index.new (configs_of kept.new.items)) }
 {
@@ -80,7 +82,8 @@ fn claim_each<A: Allocator + Copy>(
     index: &mut Index<A>,
 ) -> Result<(), AllocError>
     requires { IsIndexed index.old (configs_of kept.old.items) }
-    ensures gathers { OnOk result (Gathers calls.now (IsClaimed calls.now call reply (config_of state.now))
+    ensures gathers { OnOk result (Gathers calls.now
+        (IsClaimed calls.now call reply (config_of state.now))
         (configs_of kept.old.items) (configs_of kept.new.items)) }
     ensures indexed { OnOk result (IsIndexed index.new (configs_of kept.new.items)) }
 {
@@ -127,7 +130,8 @@ fn claim_idle<A: Allocator + Copy>(
     index: &mut Index<A>,
 ) -> Result<(), AllocError>
     requires { IsIndexed index.old (configs_of kept.old.items) }
-    ensures gathers { OnOk result (Gathers calls.now (IsIdleClaim calls.now call reply (config_of state.now))
+    ensures gathers { OnOk result (Gathers calls.now
+        (IsIdleClaim calls.now call reply (config_of state.now))
         (configs_of kept.old.items) (configs_of kept.new.items)) }
     ensures indexed { OnOk result (IsIndexed index.new (configs_of kept.new.items)) }
 {
@@ -154,7 +158,8 @@ fn claim_all<A: Allocator + Copy>(
     index: &mut Index<A>,
 ) -> Result<(), AllocError>
     requires { IsIndexed index.old (configs_of kept.old.items) }
-    ensures gathers { OnOk result (Gathers calls.now (MayClaim calls.now call reply (config_of state.now))
+    ensures gathers { OnOk result (Gathers calls.now
+        (MayClaim calls.now call reply (config_of state.now))
         (configs_of kept.old.items) (configs_of kept.new.items)) }
     ensures indexed { OnOk result (IsIndexed index.new (configs_of kept.new.items)) }
 {
@@ -174,7 +179,8 @@ fn claims<A: Allocator + Copy>(
     index: &mut Index<A>,
 ) -> Result<(), AllocError>
     requires { IsIndexed index.old (configs_of kept.old.items) }
-    ensures gathers { OnOk result (Gathers calls.now (FromOne (configs_of states.now) (MayClaim calls.now call reply))
+    ensures gathers { OnOk result (Gathers calls.now
+        (FromOne (configs_of states.now) (MayClaim calls.now call reply))
         (configs_of kept.old.items) (configs_of kept.new.items)) }
     ensures indexed { OnOk result (IsIndexed index.new (configs_of kept.new.items)) }
 {
@@ -196,7 +202,8 @@ fn take<A: Allocator + Copy>(
     index: &mut Index<A>,
 ) -> Result<(), AllocError>
     requires { IsIndexed index.old (configs_of kept.old.items) }
-    ensures gathers { OnOk result (Gathers calls.now (IsTakenConfig calls.now call reply (config_of state.now))
+    ensures gathers { OnOk result (Gathers calls.now
+        (IsTakenConfig calls.now call reply (config_of state.now))
         (configs_of kept.old.items) (configs_of kept.new.items)) }
     ensures indexed { OnOk result (IsIndexed index.new (configs_of kept.new.items)) }
 {
@@ -225,7 +232,8 @@ fn takes<A: Allocator + Copy>(
     index: &mut Index<A>,
 ) -> Result<(), AllocError>
     requires { IsIndexed index.old (configs_of kept.old.items) }
-    ensures gathers { OnOk result (Gathers calls.now (FromOne (configs_of states.now) (IsTakenConfig calls.now call reply))
+    ensures gathers { OnOk result (Gathers calls.now
+        (FromOne (configs_of states.now) (IsTakenConfig calls.now call reply))
         (configs_of kept.old.items) (configs_of kept.new.items)) }
     ensures indexed { OnOk result (IsIndexed index.new (configs_of kept.new.items)) }
 {

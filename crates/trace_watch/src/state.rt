@@ -186,7 +186,10 @@ fn effects_with<A: Allocator>(
 }
 
 /// A copy of a state.
-pub(crate) fn copy_of<A: Allocator + Copy>(alloc: A, state: &State<A>) -> Result<State<A>, AllocError>
+pub(crate) fn copy_of<A: Allocator + Copy>(
+    alloc: A,
+    state: &State<A>,
+) -> Result<State<A>, AllocError>
     ensures { IfOk result (λ s. config_of s ≡ config_of state.now) }
 {
     Ok(State {

@@ -54,7 +54,8 @@ pub struct Watch<A: Allocator> {
 
 /// A word that nothing was done to.
 fn first_states<A: Allocator + Copy>(alloc: A, word: u64) -> Result<Vec<State<A>, A>, AllocError>
-    ensures { IfOk result (λ v. configs_of v.items ≡ record { word = word; effects = []; seen = [] } ∷ []) }
+    ensures { IfOk result (λ v. configs_of v.items
+        ≡ record { word = word; effects = []; seen = [] } ∷ []) }
 {
     let mut states = Vec::new(alloc);
     states.push(State {

@@ -1,4 +1,3 @@
-use Rattle.std.proofs.Common.{refl}
 use Rattle.trace_watch.proofs.LowLoops.{FinderBelow}
 use Rattle.trace_watch.proofs.lowering.newest_finder.Given as goal
 

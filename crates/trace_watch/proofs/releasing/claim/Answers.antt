@@ -1,4 +1,4 @@
-use Rattle.std.proofs.Common.{length, refl, arith}
+use Rattle.std.proofs.Common.{length, refl}
 use Rattle.std.proofs.lemmas.Option.{slice_get_read}
 use Rattle.trace_watch.specs.States.{configs_of}
 use Rattle.trace_watch.proofs.Gathering.{claim_none, claim_stuck, claim_one}

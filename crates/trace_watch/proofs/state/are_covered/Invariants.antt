@@ -1,4 +1,3 @@
-use Rattle.std.proofs.Common.{refl}
 use Rattle.trace_watch.proofs.Compared.{Covering}
 use Rattle.trace_watch.proofs.state.are_covered.Given as goal
 
