@@ -1,6 +1,6 @@
 //! Judges a trace event by event while it goes on: of each word the configurations that its open
-//! operations may have led to, with what those that took effect replied; open operations that ask the
-//! same are counted, and not named.
+//! operations may have led to, with what those that took effect replied, and the words that were there;
+//! open operations that ask the same are counted, and not named.
 #![tactic(auto)]
 
 mod closing;
