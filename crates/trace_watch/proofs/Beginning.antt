@@ -7,15 +7,17 @@ use Rattle.trace_laws.specs.declared.event.Event.TheVariants.{Issue}
 use Rattle.trace_laws.specs.Locality.{IsOrderOn}
 use Rattle.trace_laws.specs.Configs.{IsIn}
 use Rattle.trace_watch.specs.declared.state.State.{State}
-use Rattle.trace_watch.specs.States.{Config, configs_of}
+use Rattle.trace_watch.specs.declared.state.Effect.{Effect}
+use Rattle.trace_watch.specs.States.{Config, configs_of, with_idle}
+use Rattle.trace_watch.specs.Matchings.{Matches}
 use Rattle.trace_watch.specs.Named.{named_config}
-use Rattle.trace_watch.specs.Known.{Explains, IsExplainedWatch, Knows, ArePending}
+use Rattle.trace_watch.specs.Known.{AreIdleIn, Explains, IsExplainedWatch, IsOpenOn, Knows, ArePending}
 use Rattle.trace_watch.specs.Follows.{Tracks, states_of}
 use Rattle.trace_watch.proofs.Events.{trace_none}
 
 -- a word that nothing was done to
 abbrev pub first_config : ℕ → Config
-first_config word = record { word = word; effects = [] }
+first_config word = record { word = word; effects = []; seen = [] }
 
 nothing_on : (opening : List ℕ) (w : ℕ) → IsOrderOn w opening [] []
 nothing_on opening w = record {
@@ -28,7 +30,7 @@ nothing_on opening w = record {
 }
 
 nothing_explained : (opening : List ℕ) (w : ℕ)
-    → Explains opening [] w [] (named_config (first_config (get_or opening w 0)) [])
+    → Explains opening [] w [] (named_config (with_idle (first_config (get_or opening w 0)) []) [])
 nothing_explained opening w = record {
   legal = nothing_on opening w;
   word = refl;
@@ -37,11 +39,20 @@ nothing_explained opening w = record {
   all = λ x c h never. absurd (let e : None ≡ Some c = h in cc);
 }
 
+-- nothing was there before
+none_idle : (opening : List ℕ) (w : ℕ) (es : List Effect) → AreIdleIn [] es
+    → (calls : List Call) → Matches (IsOpenOn [] w) es calls
+    → (order : List Call) × Explains opening [] w order (named_config (with_idle (first_config (get_or opening w 0)) es) calls)
+none_idle opening w [] idle calls m = ([], nothing_explained opening w)
+none_idle opening w (e ∷ es) idle calls m =
+    let i = idle e (0, refl) in absurd (let h : None ≡ Some i.glimpse = i.there.1 in cc)
+
 first_explained : (opening : List ℕ) (w : ℕ) → IsExplainedWatch opening [] w (first_config (get_or opening w 0))
 first_explained opening w = record {
   fits = ([], tt);
-  explained = λ calls m. ([], nothing_explained opening w);
+  explained = λ es idle calls m. none_idle opening w es idle calls m;
   issued = λ e on. absurd (let h : None ≡ Some e = on.1 in cc);
+  seen = λ g on. absurd (let h : None ≡ Some g = on.1 in cc);
 }
 
 knows_none : (opening : List ℕ) (w : ℕ) → Knows opening [] w (first_config (get_or opening w 0) ∷ [])
@@ -52,6 +63,8 @@ knows_none opening w = record {
     record {
       config = first_config (get_or opening w 0);
       on = (0, refl);
+      idle = [];
+      seen = λ e on. absurd (let h : None ≡ Some e = on.1 in cc);
       calls = [];
       matches = tt;
       explains = nothing_explained opening w;

@@ -1,6 +1,11 @@
 -- How many configurations open operations lead to.
-use Rattle.std.proofs.Common.{◌≡◌, ◌⊎◌, ◌↔◌, ⊎_elim, ℕ, ◌<◌, ◌≤◌, List, [], ◌∷◌, ◌++◌, length, Some, Vec, refl, sym, ◌∙◌, ap, subst, arith, slice_get, get_or}
+use Rattle.std.proofs.Common.{◌≡◌, ◌↔◌, ⊎_elim, ℕ, ◌<◌, ◌≤◌, List, [], ◌∷◌, length, Some, Vec, refl, sym, ◌∙◌, ap, subst, arith, slice_get, get_or}
+use Rattle.std.proofs.Common.{true, false, cond, suc}
+use Rattle.std.specs.List.{insert}
+use Rattle.std.proofs.lemmas.Bool.{cases_Bool}
+use Rattle.packet.specs.declared.kinds.Op.{Op}
 use Rattle.packet.specs.declared.kinds.Reply.{Reply}
+use Rattle.packet.specs.Memory.{new_word}
 use Rattle.trace_laws.specs.Traces.{IsAnswered}
 use Rattle.trace_laws.specs.declared.event.Call.{Call}
 use Rattle.trace_laws.specs.declared.event.Event.{Event}
@@ -9,34 +14,82 @@ use Rattle.trace_laws.proofs.Issues.{one_call, one_issue}
 use Rattle.trace_laws.specs.Configs.{IsIn}
 use Rattle.trace_watch.specs.declared.state.State.{State}
 use Rattle.trace_watch.specs.declared.watch.Watch.{Watch}
-use Rattle.trace_watch.specs.States.{Config, Covers, IsAmong, after, configs_of}
-use Rattle.trace_watch.specs.Matchings.{AreDistinctPartners, HasNewest, Other}
-use Rattle.trace_watch.specs.Known.{ArePendingOn, IsPendingCall}
+use Rattle.trace_watch.specs.States.{Config, Covers, IsAmong, after, changed, configs_of, effect_of, is_idle, newest_number, other_words, spot}
+use Rattle.trace_watch.specs.Matchings.{AreDistinctPartners, FitsPartner, HasNewest}
+use Rattle.trace_watch.specs.Known.{IsPendingCall}
 use Rattle.trace_watch.specs.Closed.{Closes, IsExpandedState}
 use Rattle.trace_watch.specs.Crowds.{ExplainsCrowd, AreFew}
 use Rattle.trace_watch.specs.Follows.{Tracks, AnswersFew, states_of}
 use Rattle.trace_watch.proofs.Events.{same_number, same_call}
 use Rattle.trace_watch.proofs.Matched.{fits_weaken}
-use Rattle.trace_watch.proofs.Covering.{covered_fits, covers_after, covers_trans}
+use Rattle.trace_watch.proofs.Covering.{covered_fits, covers_changed, covers_trans}
+use Rattle.trace_watch.proofs.Growth.{after_changed, after_idle}
+use Rattle.trace_watch.proofs.Idle.{newest_above}
 use Rattle.trace_watch.proofs.Grown.{long_configs}
 use Rattle.trace_watch.proofs.Watching.{pending_inside, states_read}
 
 -- whatever operations lead to is among the configurations that are closed under them
-reached : (id : ℕ) (calls others newest : List Call) (found : List Config)
-    → ((c : Call) → IsIn others c ↔ (IsIn calls c × (c.id ≡ id → ⊥))) → AreDistinctPartners others → HasNewest others newest
+reached : (others newest : List Call) (found : List Config) → AreDistinctPartners others → HasNewest others newest
     → ((f : Config) → IsIn found f → IsExpandedState others newest found f)
-    → (path : List Call) (c d f : Config) → IsIn found f → Covers f c → ExplainsCrowd id calls c path d → IsAmong found d
-reached id calls others newest found rest apart latest closed [] c d f on cov leads =
+    → (path : List Call) (c d f : Config) → IsIn found f → Covers f c → ExplainsCrowd others c path d → IsAmong found d
+reached others newest found apart latest closed [] c d f on cov leads =
     (f, on, subst (λ (x : Config). Covers f x) leads cov)
-reached id calls others newest found rest apart latest closed (call ∷ path) c d f on cov leads =
-    let listed = (rest call).1 (leads.0, leads.1) in
-    let r = latest.all call listed in
-    let over = covers_after f c r.0 call r.2 r.3 cov in
-    let fit = covered_fits (IsIn others) (after f r.0) (after c call) over
-    (fits_weaken (Other (IsIn calls) id) (IsIn others) (λ x o. (rest x).1 o) (after c call).effects leads.2) in
-    let a = closed f on apart r.0 r.1 fit in
-    reached id calls others newest found rest apart latest closed path (after c call) d a.0 a.1
-    (covers_trans a.0 (after f r.0) (after c call) a.2 over) leads.3
+reached others newest found apart latest closed (call ∷ path) c d f on cov leads =
+    ⊎_elim {C = IsAmong found d}
+    (λ (yes : is_idle call.operation.op c.word ≡ true).
+    reached others newest found apart latest closed path c d f on cov
+    (subst (λ (x : Config). ExplainsCrowd others x path d) (after_idle others c call yes) leads.2))
+    (λ (no : is_idle call.operation.op c.word ≡ false).
+    let moved = after_changed others c call no in
+    let r = latest.all call leads.0 in
+    let over = covers_changed others f c r.0 call r.2 r.3 cov in
+    let same = after_changed others f r.0
+    (ap (λ (o : Op). is_idle o f.word) r.2 ∙ (ap (λ (v : ℕ). is_idle call.operation.op v) cov.word ∙ no)) in
+    let fit = covered_fits (IsIn others) (changed others f r.0) (changed others c call) over
+    (subst (λ (x : Config). FitsPartner (IsIn others) x.effects) moved leads.1) in
+    let a = subst (λ (x : Config). IsAmong found x) same (closed f on apart r.0 r.1
+    (subst (λ (x : Config). FitsPartner (IsIn others) x.effects) (sym same) fit)) in
+    reached others newest found apart latest closed path (changed others c call) d a.0 a.1
+    (covers_trans a.0 (changed others f r.0) (changed others c call) a.2 over)
+    (subst (λ (x : Config). ExplainsCrowd others x path d) moved leads.2))
+    (cases_Bool (is_idle call.operation.op c.word))
+
+-- the highest number of some operations is no higher than that of others, if each is one of these
+newest_below : (calls more : List Call) → ((c : Call) → IsIn calls c → IsIn more c)
+    → newest_number calls ≤ newest_number more
+newest_below [] more part = omega arith
+newest_below (c ∷ calls) more part =
+    let on = part c (0, refl) in
+    let l = newest_above more on.0 c on.1 in
+    let m = newest_below calls more (λ d h. part d (suc h.0, h.1)) in
+    omega (arith, l, m)
+
+-- two lists of the same operations lead to the same
+leads_same : (calls more : List Call) → ((c : Call) → IsIn calls c ↔ IsIn more c) → (path : List Call) (c d : Config)
+    → ExplainsCrowd calls c path d → ExplainsCrowd more c path d
+leads_same calls more same [] c d leads = leads
+leads_same calls more same (call ∷ path) c d leads = (
+  (same call).0 leads.0,
+  fits_weaken (IsIn calls) (IsIn more) (λ x on. (same x).0 on) (after more c call).effects
+      (subst (λ (x : Config). FitsPartner (IsIn calls) x.effects) one leads.1),
+  leads_same calls more same path (after more c call) d (subst (λ (x : Config). ExplainsCrowd calls x path d) one leads.2),
+)
+  where
+    number : newest_number calls ≡ newest_number more
+    number =
+        let l = newest_below calls more (λ x on. (same x).0 on) in
+        let m = newest_below more calls (λ x on. (same x).1 on) in
+        omega (arith, l, m)
+
+    at : ℕ → Config
+    at n = cond (is_idle call.operation.op c.word) c (record {
+      word = new_word call.operation.op c.word;
+      effects = insert c.effects (spot c.effects (effect_of c call)) (effect_of c call);
+      seen = other_words (new_word call.operation.op c.word) (record { word = c.word; newest = n } ∷ c.seen);
+    })
+
+    one : after calls c call ≡ after more c call
+    one = ap at number
 
 pub few_found : (id : ℕ) (calls others newest : List Call) (bound : ℕ) (old found : List Config)
     → ((c : Call) → IsIn others c ↔ (IsIn calls c × (c.id ≡ id → ⊥))) → HasNewest others newest
@@ -44,11 +97,11 @@ pub few_found : (id : ℕ) (calls others newest : List Call) (bound : ℕ) (old 
 few_found id calls others newest bound old found rest latest short closes apart = record {
   found = found;
   short = short;
-  all = λ c d path on leads.
+  all = λ also c d path are on leads.
       let k = closes.kept c on in
-      reached id calls others newest found rest
+      reached others newest found
       (λ x y in_x in_y e. apart x y ((rest x).0 in_x).0 ((rest y).0 in_y).0 e) latest closes.closed path c d k.0 k.1 k.2
-      leads;
+      (leads_same also others (λ x. ((λ h. (rest x).1 ((are x).0 h)), (λ h. (are x).1 ((rest x).0 h)))) path c d leads);
 }
 
 -- as the code reads them
@@ -63,23 +116,17 @@ few_read_found id calls others newest first second also bound states found a b n
     (subst (λ (ns : List Call). Closes others ns (configs_of states) (configs_of found)) n
     (subst (λ (os : List Call). Closes os also (configs_of states) (configs_of found)) b closes)) apart
 
--- fewer operations lead to no more
-leads_more : (id : ℕ) (calls more : List Call) → ((c : Call) → IsIn calls c → IsIn more c)
-    → (path : List Call) (c d : Config) → ExplainsCrowd id calls c path d → ExplainsCrowd id more c path d
-leads_more id calls more among [] c d leads = leads
-leads_more id calls more among (call ∷ path) c d leads = (
-  among call leads.0,
-  leads.1,
-  fits_weaken (Other (IsIn calls) id) (Other (IsIn more) id) (λ x o. (among x o.0, o.1)) (after c call).effects leads.2,
-  leads_more id calls more among path (after c call) d leads.3,
-)
-
-few_fewer : (id : ℕ) (calls more : List Call) (bound : ℕ) (old : List Config)
-    → ((c : Call) → IsIn calls c → IsIn more c) → AreFew id more bound old → AreFew id calls bound old
-few_fewer id calls more bound old among few = record {
+-- operations that are members of one another lead to as many
+few_same : (id : ℕ) (calls more : List Call) (bound : ℕ) (old : List Config)
+    → ((c : Call) → IsIn calls c ↔ IsIn more c) → AreFew id more bound old → AreFew id calls bound old
+few_same id calls more bound old same few = record {
   found = few.found;
   short = few.short;
-  all = λ c d path on leads. few.all c d path on (leads_more id calls more among path c d leads);
+  all = λ others c d path are on leads. few.all others c d path
+      (λ x. (
+        (λ h. let r = (are x).0 h in ((same x).0 r.0, r.1)),
+        (λ h. (are x).1 ((same x).1 h.0, h.1)),
+      )) on leads;
 }
 
 -- an operation that is open is one of those that a watch holds
@@ -123,10 +170,19 @@ answers_few opening t watch call id reply bound calls on number here few f = λ 
     ap (λ (k : ℕ). slice_get t k) (sym at) ∙ q.issued.1 in
     let same : call ≡ other = same_call call other (let h : slice_get t p.issued.0 ≡ Some (Issue other) = p.issued.1 in cc) in
     subst (λ (x : Call). AreFew x.id also bound (states_of watch.words.items x.operation.address)) same
-    (few_fewer call.id also calls bound (states_of watch.words.items call.operation.address)
-    (λ c in_also. (here c).1 (
-      held opening t watch c f (are.each c in_also),
-      are.here c in_also ∙ ap (λ (x : Call). x.operation.address) (sym same),
+    (few_same call.id also calls bound (states_of watch.words.items call.operation.address)
+    (λ c. (
+      (λ in_also. (here c).1 (
+        held opening t watch c f (are.each c in_also),
+        are.here c in_also ∙ ap (λ (x : Call). x.operation.address) (sym same),
+      )),
+      (λ in_calls.
+          let h = (here c).0 in_calls in
+          let p = f.pending.each c h.0 in
+          ⊎_elim {C = IsIn also c}
+          (λ (told : IsAnswered t c.id). absurd (p.unanswered told))
+          (λ (on : IsIn also c). on)
+          (are.all p.issued.0 c p.issued.1 (h.1 ∙ ap (λ (x : Call). x.operation.address) same))),
     )) (few apart))
 
 -- as the code reads the word's states

@@ -1,16 +1,18 @@
 -- The loops that gather the configurations after an answer.
-use Rattle.std.proofs.Common.{◌≡◌, ◌≢◌, ◌⊎◌, inl, inr, ◌↔◌, ⊎_elim, ℕ, ◌+◌, ◌<◌, ◌≤◌, List, [], ◌∷◌, length, Some, None, refl, sym, ◌∙◌, ap, subst, arith, slice_get}
+use Rattle.std.proofs.Common.{◌≡◌, ◌≢◌, ◌⊎◌, inl, inr, ◌↔◌, ⊎_elim, ℕ, ◌+◌, ◌<◌, ◌≤◌, List, [], length, Some, None, refl, sym, ◌∙◌, subst, arith, slice_get}
 use Rattle.std.proofs.lemmas.Bool.{cases_eq}
 use Rattle.packet.specs.declared.kinds.Reply.{Reply}
 use Rattle.packet.specs.Memory.{new_word, reply_to}
 use Rattle.trace_laws.specs.declared.event.Call.{Call}
 use Rattle.trace_laws.proofs.Lists.{get_within}
-use Rattle.trace_laws.specs.Configs.{IsIn, GoesOn}
+use Rattle.trace_laws.specs.Configs.{IsIn}
 use Rattle.trace_watch.specs.declared.state.Effect.{Effect}
 use Rattle.trace_watch.specs.declared.state.State.{State}
-use Rattle.trace_watch.specs.States.{Config, IsAmong, config_of, configs_of, less_one}
+use Rattle.trace_watch.specs.declared.state.Glimpse.{Glimpse}
+use Rattle.trace_watch.specs.States.{Config, config_of, configs_of, less_one, taken}
+use Rattle.trace_watch.specs.Lowered.{IsLowered, MayFind}
 use Rattle.trace_watch.specs.Matchings.{AreDistinctPartners, FitsPartner, HasNewest, IsPart, MayBe}
-use Rattle.trace_watch.specs.Closed.{Closes, FromOne, Gathers, IsAnsweredBy, IsClaimed, IsClaimedAt, IsOneMore, IsTakenConfig}
+use Rattle.trace_watch.specs.Closed.{Closes, FromOne, Gathers, IsAmongLowered, IsAnsweredBy, IsClaimed, IsClaimedAt, IsIdleClaim, IsOneMore, IsTakenConfig, LoweredFrom, MayClaim}
 use Rattle.trace_watch.specs.Crowds.{IsOverfullCrowd}
 use Rattle.trace_watch.proofs.Grown.{get_config, goes_among, goes_more, goes_same, long_configs, more_among, more_from, more_goes}
 use Rattle.trace_watch.proofs.Loops.{fits_back, fits_read}
@@ -25,13 +27,15 @@ gathers_nothing others Kind old none = record {
 }
 
 -- one configuration is
-pub gathers_one : (others : List Call) (Kind : Config → Type 0) (old new : List Config) (c : Config) → Kind c
-    → ((d : Config) → Kind d → c ≡ d) → IsOneMore old c new → Gathers others Kind old new
-gathers_one others Kind old new c is one more = record {
-  grows = more_goes old new c more;
-  from = λ d on. ⊎_elim {C = IsIn old d ⊎ Kind d}
-      (λ (l : IsIn old d). inl l) (λ (e : c ≡ d). inr (subst Kind e is)) (more_from old new c d more on);
-  all = λ apart d kind. subst (λ (f : Config). IsAmong new f) (one d kind) (more_among old new c more);
+pub gathers_one : (others : List Call) (Kind : Config → Type 0) (old new : List Config) (c low : Config) → Kind c
+    → ((d : Config) → Kind d → c ≡ d) → IsLowered others c low → IsOneMore old low new → Gathers others Kind old new
+gathers_one others Kind old new c low is one lowers more = record {
+  grows = more_goes old new low more;
+  from = λ d on. ⊎_elim {C = IsIn old d ⊎ LoweredFrom others Kind d}
+      (λ (l : IsIn old d). inl l)
+      (λ (e : low ≡ d). inr (c, is, subst (λ (f : Config). IsLowered others c f) e lowers)) (more_from old new low d more on);
+  all = λ apart d kind. subst (λ (f : Config). IsAmongLowered others new f) (one d kind)
+      (low, lowers, more_among old new low more);
 }
 
 -- an effect that may not be of the answered operation
@@ -54,15 +58,48 @@ claim_stuck others call reply s less k es old is read never =
     never apart (fits_back others (config_of less) (less_one (config_of s) k) es read is claims.4))
 
 -- they are
-pub claim_one : {A : Type 0} (others : List Call) (call : Call) (reply : Reply) (s less : State A) (k : ℕ) (e : Effect)
+pub claim_one : {A : Type 0} (others : List Call) (call : Call) (reply : Reply) (s less low : State A) (k : ℕ) (e : Effect)
     (es : List Effect) (old new : List Config) → slice_get s.effects.items k ≡ Some e → e.reply ≡ reply → MayBe e call
     → config_of less ≡ less_one (config_of s) k → es ≡ less.effects.items → FitsPartner (IsIn others) es
-    → IsOneMore old (config_of less) new
+    → IsLowered others (config_of less) (config_of low) → IsOneMore old (config_of low) new
     → Gathers others (IsClaimedAt others call reply (config_of s) k) old new
-claim_one others call reply s less k e es old new there told may is read fit more =
-    gathers_one others (IsClaimedAt others call reply (config_of s) k) old new (less_one (config_of s) k)
+claim_one others call reply s less low k e es old new there told may is read fit lowers more =
+    gathers_one others (IsClaimedAt others call reply (config_of s) k) old new (less_one (config_of s) k) (config_of low)
     (e, there, told, may, fits_read others (config_of less) (less_one (config_of s) k) es read is fit, refl)
-    (λ d claims. sym claims.5) (subst (λ (c : Config). IsOneMore old c new) is more)
+    (λ d claims. sym claims.5) (subst (λ (c : Config). IsLowered others c (config_of low)) is lowers) more
+
+-- no word that was there may have been found
+pub found_none : {A : Type 0} (others : List Call) (call : Call) (reply : Reply) (s : State A) (seen : List Glimpse)
+    (old : List Config) → seen ≡ s.seen.items
+    → ((g : Glimpse) → IsIn seen g → MayFind g call → reply_to call.operation.op g.word ≡ reply → ⊥)
+    → Gathers others (IsIdleClaim others call reply (config_of s)) old old
+found_none others call reply s seen old read never =
+    gathers_nothing others (IsIdleClaim others call reply (config_of s)) old (λ apart d claims.
+    never claims.0 (subst (λ (gs : List Glimpse). IsIn gs claims.0) (sym read) claims.1) claims.2 claims.3)
+
+-- the others are not enough for the effects
+pub found_stuck : {A : Type 0} (others : List Call) (call : Call) (reply : Reply) (s : State A) (es : List Effect)
+    (old : List Config) → es ≡ s.effects.items → (AreDistinctPartners others → FitsPartner (IsIn others) es → ⊥)
+    → Gathers others (IsIdleClaim others call reply (config_of s)) old old
+found_stuck others call reply s es old read never =
+    gathers_nothing others (IsIdleClaim others call reply (config_of s)) old (λ apart d claims.
+    never apart (subst (λ (fs : List Effect). FitsPartner (IsIn others) fs) (sym read) claims.4))
+
+-- one may
+pub found_one : {A : Type 0} (others : List Call) (call : Call) (reply : Reply) (s low : State A) (seen : List Glimpse)
+    (es : List Effect) (old new : List Config) → seen ≡ s.seen.items
+    → ((g : Glimpse) × IsIn seen g × MayFind g call × (reply_to call.operation.op g.word ≡ reply))
+    → es ≡ s.effects.items → FitsPartner (IsIn others) es → IsLowered others (config_of s) (config_of low)
+    → IsOneMore old (config_of low) new → Gathers others (IsIdleClaim others call reply (config_of s)) old new
+found_one others call reply s low seen es old new saw has read fit lowers more =
+    gathers_one others (IsIdleClaim others call reply (config_of s)) old new (config_of s) (config_of low) (
+      has.0,
+      subst (λ (gs : List Glimpse). IsIn gs has.0) saw has.1,
+      has.2,
+      has.3,
+      subst (λ (fs : List Effect). FitsPartner (IsIn others) fs) read fit,
+      refl,
+    ) (λ d claims. sym claims.5) lowers more
 
 -- the answered operation takes effect with another reply
 pub take_none : {A : Type 0} (others : List Call) (call : Call) (reply told : Reply) (s : State A) (old : List Config)
@@ -80,19 +117,35 @@ take_stuck others call reply s es old read never =
     never apart (subst (λ (fs : List Effect). FitsPartner (IsIn others) fs) (sym read) takes.1))
 
 -- they are
-pub take_one : {A : Type 0} (others : List Call) (call : Call) (reply told : Reply) (word : ℕ) (s next : State A)
+pub take_one : {A : Type 0} (others : List Call) (call : Call) (reply told : Reply) (word : ℕ) (s next low : State A)
     (es : List Effect) (old new : List Config) → word ≡ new_word call.operation.op s.word
     → told ≡ reply_to call.operation.op s.word → told ≡ reply
-    → config_of next ≡ record { word = word; effects = s.effects.items } → es ≡ s.effects.items
-    → FitsPartner (IsIn others) es → IsOneMore old (config_of next) new
-    → Gathers others (IsTakenConfig others call reply (config_of s)) old new
-take_one others call reply told word s next es old new left is same made read fit more =
-    let d : Config = record { word = new_word call.operation.op s.word; effects = s.effects.items } in
-    let reached : config_of next ≡ d =
-    made ∙ ap (λ (w : ℕ). let c : Config = record { word = w; effects = s.effects.items } in c) left in
-    gathers_one others (IsTakenConfig others call reply (config_of s)) old new d
+    → ((c : Call) → word ≡ new_word c.operation.op s.word → config_of next ≡ taken others (config_of s) c)
+    → es ≡ s.effects.items → FitsPartner (IsIn others) es → IsLowered others (config_of next) (config_of low)
+    → IsOneMore old (config_of low) new → Gathers others (IsTakenConfig others call reply (config_of s)) old new
+take_one others call reply told word s next low es old new left is same made read fit lowers more =
+    gathers_one others (IsTakenConfig others call reply (config_of s)) old new (taken others (config_of s) call) (config_of low)
     (sym is ∙ same, subst (λ (fs : List Effect). FitsPartner (IsIn others) fs) read fit, refl)
-    (λ c takes. sym takes.2) (subst (λ (c : Config). IsOneMore old c new) reached more)
+    (λ c takes. sym takes.2)
+    (subst (λ (c : Config). IsLowered others c (config_of low)) (made call left) lowers) more
+
+-- two kinds one after the other
+pub gathers_both : (others : List Call) (Kind Other : Config → Type 0) (old new later : List Config)
+    → Gathers others Kind old new → Gathers others Other new later → Gathers others (λ d. Kind d ⊎ Other d) old later
+gathers_both others Kind Other old new later was next = record {
+  grows = goes_more old new later was.grows next.grows;
+  from = λ d on. ⊎_elim {C = IsIn old d ⊎ LoweredFrom others (λ x. Kind x ⊎ Other x) d}
+      (λ (l : IsIn new d). ⊎_elim {C = IsIn old d ⊎ LoweredFrom others (λ x. Kind x ⊎ Other x) d}
+      (λ (o : IsIn old d). inl o)
+      (λ (k : LoweredFrom others Kind d). inr (k.0, inl k.1, k.2))
+      (was.from d l))
+      (λ (k : LoweredFrom others Other d). inr (k.0, inr k.1, k.2))
+      (next.from d on);
+  all = λ apart d b. ⊎_elim {C = IsAmongLowered others later d}
+      (λ (k : Kind d). let r = was.all apart d k in (r.0, r.1, goes_among new later r.0 next.grows r.2))
+      (λ (k : Other d). next.all apart d k)
+      b;
+}
 
 -- the kinds of each place below one
 abbrev pub Below : (ℕ → Config → Type 0) → ℕ → Config → Type 0
@@ -108,17 +161,18 @@ pub gathering_more : (others : List Call) (Kind : ℕ → Config → Type 0) (i 
     → Gathers others (Below Kind (i + 1)) old later
 gathering_more others Kind i old new later was next = record {
   grows = goes_more old new later was.grows next.grows;
-  from = λ d on. ⊎_elim {C = IsIn old d ⊎ Below Kind (i + 1) d}
-      (λ (l : IsIn new d). ⊎_elim {C = IsIn old d ⊎ Below Kind (i + 1) d}
+  from = λ d on. ⊎_elim {C = IsIn old d ⊎ LoweredFrom others (Below Kind (i + 1)) d}
+      (λ (l : IsIn new d). ⊎_elim {C = IsIn old d ⊎ LoweredFrom others (Below Kind (i + 1)) d}
       (λ (o : IsIn old d). inl o)
-      (λ (b : Below Kind i d). let m = b.1 in inr (b.0, omega arith, b.2))
+      (λ (b : LoweredFrom others (Below Kind i) d). let m = b.1.1 in inr (b.0, (b.1.0, omega arith, b.1.2), b.2))
       (was.from d l))
-      (λ (k : Kind i d). inr (i, omega arith, k))
+      (λ (k : LoweredFrom others (Kind i) d). inr (k.0, (i, omega arith, k.1), k.2))
       (next.from d on);
-  all = λ apart d b. ⊎_elim {C = IsAmong later d}
+  all = λ apart d b. ⊎_elim {C = IsAmongLowered others later d}
       (λ (e : b.0 ≡ i). next.all apart d (subst (λ (n : ℕ). Kind n d) e b.2))
       (λ (ne : b.0 ≢ i).
-      let m = b.1 in goes_among new later d next.grows (was.all apart d (b.0, omega arith, b.2)))
+      let m = b.1 in
+      let r = was.all apart d (b.0, omega arith, b.2) in (r.0, r.1, goes_among new later r.0 next.grows r.2))
       (cases_eq b.0 i);
 }
 
@@ -128,7 +182,8 @@ pub gathers_as : (others : List Call) (Kind Other : Config → Type 0) (old new 
     → Gathers others Other old new
 gathers_as others Kind Other old new up down was = record {
   grows = was.grows;
-  from = λ d on. ⊎_elim {C = IsIn old d ⊎ Other d} (λ (l : IsIn old d). inl l) (λ (k : Kind d). inr (up d k)) (was.from d on);
+  from = λ d on. ⊎_elim {C = IsIn old d ⊎ LoweredFrom others Other d} (λ (l : IsIn old d). inl l)
+      (λ (k : LoweredFrom others Kind d). inr (k.0, up k.0 k.1, k.2)) (was.from d on);
   all = λ apart d o. was.all apart d (down d o);
 }
 
@@ -172,27 +227,27 @@ each_effect others call reply c i old new all was =
 
 -- both gather the configurations after the answer, as the code reads the others and what was found
 pub answered_by : {A : Type 0} (call : Call) (reply : Reply) (calls others newest : List Call)
-    (first second third fourth also : List Call) (states found read none taken kept : List (State A))
+    (first second third fourth also : List Call) (states found read none gained kept : List (State A))
     → first ≡ others → second ≡ others → third ≡ others → fourth ≡ others → also ≡ newest → read ≡ found → none ≡ []
     → ((c : Call) → IsIn others c ↔ (IsIn calls c × (c.id ≡ call.id → ⊥))) → HasNewest first newest
     → Closes second also (configs_of states) (configs_of found)
-    → Gathers third (FromOne (configs_of read) (IsTakenConfig third call reply)) (configs_of none) (configs_of taken)
-    → Gathers fourth (FromOne (configs_of states) (IsClaimed fourth call reply)) (configs_of taken) (configs_of kept)
+    → Gathers third (FromOne (configs_of read) (IsTakenConfig third call reply)) (configs_of none) (configs_of gained)
+    → Gathers fourth (FromOne (configs_of states) (MayClaim fourth call reply)) (configs_of gained) (configs_of kept)
     → IsAnsweredBy call reply calls (configs_of states) (configs_of kept)
-answered_by {A} call reply calls others newest first second third fourth also states found read none taken kept a b t f n r
+answered_by {A} call reply calls others newest first second third fourth also states found read none gained kept a b t f n r
     z rest latest closes takes claims =
     let by_others : Gathers others (FromOne (configs_of read) (IsTakenConfig others call reply)) (configs_of none)
-    (configs_of taken) = subst (λ (os : List Call). Gathers os (FromOne (configs_of read) (IsTakenConfig os call reply))
-    (configs_of none) (configs_of taken)) t takes in
+    (configs_of gained) = subst (λ (os : List Call). Gathers os (FromOne (configs_of read) (IsTakenConfig os call reply))
+    (configs_of none) (configs_of gained)) t takes in
     let of_found : Gathers others (FromOne (configs_of found) (IsTakenConfig others call reply)) (configs_of none)
-    (configs_of taken) = subst (λ (ss : List (State A)). Gathers others (FromOne (configs_of ss)
-    (IsTakenConfig others call reply)) (configs_of none) (configs_of taken)) r by_others in
-    let took : Gathers others (FromOne (configs_of found) (IsTakenConfig others call reply)) [] (configs_of taken) = subst
+    (configs_of gained) = subst (λ (ss : List (State A)). Gathers others (FromOne (configs_of ss)
+    (IsTakenConfig others call reply)) (configs_of none) (configs_of gained)) r by_others in
+    let took : Gathers others (FromOne (configs_of found) (IsTakenConfig others call reply)) [] (configs_of gained) = subst
     (λ (ss : List (State A)). Gathers others (FromOne (configs_of found) (IsTakenConfig others call reply)) (configs_of ss)
-    (configs_of taken)) z of_found in
-    let claimed : Gathers others (FromOne (configs_of states) (IsClaimed others call reply)) (configs_of taken)
-    (configs_of kept) = subst (λ (os : List Call). Gathers os (FromOne (configs_of states) (IsClaimed os call reply))
-    (configs_of taken) (configs_of kept)) f claims in
+    (configs_of gained)) z of_found in
+    let claimed : Gathers others (FromOne (configs_of states) (MayClaim others call reply)) (configs_of gained)
+    (configs_of kept) = subst (λ (os : List Call). Gathers os (FromOne (configs_of states) (MayClaim os call reply))
+    (configs_of gained) (configs_of kept)) f claims in
     record {
       others = others;
       newest = newest;
@@ -201,16 +256,19 @@ answered_by {A} call reply calls others newest first second third fourth also st
       latest = subst (λ (os : List Call). HasNewest os newest) a latest;
       closes = subst (λ (ns : List Call). Closes others ns (configs_of states) (configs_of found)) n
           (subst (λ (os : List Call). Closes os also (configs_of states) (configs_of found)) b closes);
-      from = λ d on. ⊎_elim {C = FromOne (configs_of found) (IsTakenConfig others call reply) d
-          ⊎ FromOne (configs_of states) (IsClaimed others call reply) d}
-          (λ (old : IsIn (configs_of taken) d). ⊎_elim {C = FromOne (configs_of found) (IsTakenConfig others call reply) d
-          ⊎ FromOne (configs_of states) (IsClaimed others call reply) d}
+      from = λ d on. ⊎_elim {C = LoweredFrom others (FromOne (configs_of found) (IsTakenConfig others call reply)) d
+          ⊎ LoweredFrom others (FromOne (configs_of states) (MayClaim others call reply)) d}
+          (λ (old : IsIn (configs_of gained) d). ⊎_elim
+          {C = LoweredFrom others (FromOne (configs_of found) (IsTakenConfig others call reply)) d
+          ⊎ LoweredFrom others (FromOne (configs_of states) (MayClaim others call reply)) d}
           (λ (never : IsIn [] d). absurd (let h : None ≡ Some d = never.1 in cc))
-          (λ (k : FromOne (configs_of found) (IsTakenConfig others call reply) d). inl k)
+          (λ (k : LoweredFrom others (FromOne (configs_of found) (IsTakenConfig others call reply)) d). inl k)
           (took.from d old))
-          (λ (k : FromOne (configs_of states) (IsClaimed others call reply) d). inr k)
+          (λ (k : LoweredFrom others (FromOne (configs_of states) (MayClaim others call reply)) d). inr k)
           (claimed.from d on);
-      taken = λ apart d k. goes_among (configs_of taken) (configs_of kept) d claimed.grows (took.all apart d k);
+      taken = λ apart d k.
+          let r = took.all apart d k in
+          (r.0, r.1, goes_among (configs_of gained) (configs_of kept) r.0 claimed.grows r.2);
       claimed = λ apart d k. claimed.all apart d k;
     }
 

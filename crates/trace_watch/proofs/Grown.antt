@@ -1,5 +1,5 @@
 -- Sets of configurations that grow, and what states say of them, place by place.
-use Rattle.std.proofs.Common.{◌≡◌, ◌⊎◌, inl, inr, ⊎_elim, ℕ, zero, suc, ◌+◌, ◌<◌, List, [], ◌∷◌, ◌++◌, length, Some, refl, sym, ◌∙◌, ap, subst}
+use Rattle.std.proofs.Common.{◌≡◌, ◌⊎◌, inl, inr, ⊎_elim, ℕ, zero, suc, ◌<◌, List, [], ◌∷◌, ◌++◌, length, Some, refl, sym, ◌∙◌, ap, subst}
 use Rattle.std.proofs.Common.{arith, slice_get, append-nil, append_assoc}
 use Rattle.trace_laws.proofs.Lists.{get_push_cases, get_append_left, get_push}
 use Rattle.trace_laws.specs.Configs.{IsIn, GoesOn}

@@ -1,20 +1,21 @@
 -- The loops over effects, operations and configurations.
-use Rattle.std.proofs.Common.{◌≡◌, ◌≢◌, ◌⊎◌, ⊎_elim, ℕ, zero, suc, ◌+◌, ◌<◌, ◌≤◌, List, [], ◌∷◌, ◌++◌, length, Some, None, refl, sym, ◌∙◌, ap, subst}
+use Rattle.packet.specs.Memory.{new_word}
+use Rattle.std.proofs.Common.{Bool, true, false, cond}
+use Rattle.std.proofs.Common.{◌≡◌, ◌≢◌, ⊎_elim, ℕ, zero, suc, ◌+◌, ◌<◌, ◌≤◌, List, [], ◌∷◌, ◌++◌, length, Some, None, refl, sym, ◌∙◌, ap, subst}
 use Rattle.std.proofs.Common.{arith, slice_get}
-use Rattle.std.proofs.lemmas.Bool.{cases_eq, cases_lt}
+use Rattle.std.proofs.lemmas.Bool.{cases_Bool, cases_eq, cases_lt}
 use Rattle.trace_laws.specs.declared.event.Call.{Call}
 use Rattle.trace_laws.specs.declared.event.Event.{Event}
 use Rattle.trace_laws.proofs.Lists.{get_within}
 use Rattle.trace_laws.specs.Configs.{IsIn, GoesOn}
-use Rattle.trace_laws.specs.Traces.{TraceIssuesAt}
 use Rattle.trace_watch.specs.declared.state.Effect.{Effect}
-use Rattle.trace_watch.specs.States.{Config, IsAmong, after, effect_of, spot}
-use Rattle.trace_watch.specs.Matchings.{AreDistinctPartners, FitsPartner, IsPart, Other}
-use Rattle.trace_watch.specs.Named.{named_config}
-use Rattle.trace_watch.specs.Known.{Explains, IsExplainedWatch, IsOpenOn, ArePendingOn, StaysExplained}
+use Rattle.trace_watch.specs.States.{Config, IsAmong, after, changed, effect_of, is_before, is_idle, spot}
+use Rattle.trace_watch.specs.Matchings.{AreDistinctPartners, FitsPartner, IsPart}
+use Rattle.trace_watch.specs.Known.{HasIssued, IsExplainedWatch, IsOpenOn, ArePendingOn, StaysExplained}
 use Rattle.trace_watch.specs.Closed.{IsOneMore, IsExpandedState, Expands, CatchesUp, Closes}
-use Rattle.trace_watch.proofs.Matched.{fits_weaken, insert_from, match_take, weaken}
-use Rattle.trace_watch.proofs.Steps.{left_out, step_explains}
+use Rattle.trace_watch.proofs.Matched.{fits_weaken, insert_from}
+use Rattle.trace_watch.proofs.Covering.{covers_self}
+use Rattle.trace_watch.proofs.Idle.{ExplainsAll, glimpse_all, glimpse_issued, insert_append, newest_issued, put_all}
 use Rattle.trace_watch.proofs.Grown.{goes_same, goes_more, goes_at, goes_among, goes_back, more_goes, more_among, more_from}
 
 -- a list of one has it alone
@@ -27,72 +28,115 @@ open_on : (t : List Event) (w : ℕ) (calls : List Call) (c : Call) → ArePendi
     → IsOpenOn t w c
 open_on t w calls c pending on = record { pending = pending.each c on; here = pending.here c on }
 
--- whichever open operation an effect is of, an order leads to it
-pub explained_after : (opening : List ℕ) (t : List Event) (w : ℕ) (calls : List Call) (c : Config) (call : Call)
-    → w < length opening → ArePendingOn t w calls → IsIn calls call → FitsPartner (IsIn calls) (after c call).effects
-    → IsExplainedWatch opening t w c → IsExplainedWatch opening t w (after c call)
-explained_after opening t w calls c call inside pending on fit x =
-    let k = spot c.effects (effect_of c call) in
-    record {
-      fits = fits_weaken (IsIn calls) (IsOpenOn t w) (λ d in_calls. open_on t w calls d pending in_calls)
-          (after c call).effects fit;
-      explained = λ cs m.
-          let r = match_take (IsOpenOn t w) c.effects k (effect_of c call) cs m in
-          let b = r.0 in
-          let rest = r.1 in
-          let y = x.explained rest (weaken (Other (IsOpenOn t w) b.id) (IsOpenOn t w) (λ d o. o.0) c.effects rest r.5) in (
-            y.0 ++ b ∷ [],
-            subst (λ (ds : List Call). Explains opening t w (y.0 ++ b ∷ []) (named_config (after c call) ds)) (sym r.2)
-                (step_explains (Other (IsOpenOn t w) b.id) opening t w y.0 c rest call b inside r.3 r.4.asks r.5
-                (left_out (IsOpenOn t w) c.effects rest b.id r.5) y.1),
-          );
-      issued = λ e in_e. ⊎_elim {C = (i : ℕ) × (d : Call) × TraceIssuesAt t i d × (e.newest ≤ d.id)}
-          (λ (old : IsIn c.effects e). x.issued e old)
-          (λ (new : effect_of c call ≡ e).
-          let issue = (pending.each call on).issued in
-          let same = ap (λ (f : Effect). f.newest) new in
-          (issue.0, call, issue.1, omega (arith, same)))
-          (insert_from c.effects k (effect_of c call) e in_e.0 in_e.1);
-    }
+-- how many effects stand before one more
+pub spot_low : (es : List Effect) (e : Effect) → spot es e ≤ length es
+spot_low [] e = omega arith
+spot_low (f ∷ es) e = ⊎_elim {C = spot (f ∷ es) e ≤ length (f ∷ es)}
+    (λ (t : is_before f e ≡ true).
+    let s = ap (λ (b : Bool). cond b (suc (spot es e)) 0) t in let l = spot_low es e in omega (arith, s, l))
+    (λ (n : is_before f e ≡ false).
+    let s = ap (λ (b : Bool). cond b (suc (spot es e)) 0) n in omega (arith, s))
+    (cases_Bool (is_before f e))
 
--- an operation can't take effect
-pub expands_nothing : (at : ℕ) (calls : List Call) (call : Call) (old : List Config) (c : Config)
-    → slice_get old at ≡ Some c → (AreDistinctPartners calls → FitsPartner (IsIn calls) (after c call).effects → ⊥)
-    → Expands at calls (call ∷ []) old old
-expands_nothing at calls call old c there never = record {
+-- whichever open operation an effect is of, an order leads to it
+pub explained_changed : (opening : List ℕ) (t : List Event) (w : ℕ) (all calls : List Call) (c : Config) (call : Call)
+    → w < length opening → ArePendingOn t w all → IsPart calls all → IsIn all call
+    → FitsPartner (IsIn calls) (changed calls c call).effects
+    → IsExplainedWatch opening t w c → IsExplainedWatch opening t w (changed calls c call)
+explained_changed opening t w all calls c call inside pending among on fit x = record {
+  fits = fits_weaken (IsIn calls) (IsOpenOn t w) (λ d in_calls. open_on t w all d pending (among d in_calls))
+      (changed calls c call).effects fit;
+  explained = λ es idle. subst (λ (fs : List Effect). ExplainsAll opening t w word fs)
+      (insert_append c.effects es k e (spot_low c.effects e))
+      (put_all opening t w c.word (c.effects ++ es) k e inside refl (glimpse_all opening t w calls c word es inside x idle));
+  issued = λ f in_f. ⊎_elim {C = HasIssued t f.newest}
+      (λ (old : IsIn c.effects f). x.issued f old)
+      (λ (new : e ≡ f).
+      let issue = (pending.each call on).issued in
+      let same = ap (λ (g : Effect). g.newest) new in
+      (issue.0, call, issue.1, omega (arith, same)))
+      (insert_from c.effects k e f in_f.0 in_f.1);
+  seen = glimpse_issued opening t w calls c word
+      (newest_issued t calls ((pending.each call on).issued.0, call, (pending.each call on).issued.1, omega arith)
+      (λ d in_calls. (pending.each d (among d in_calls)).issued)) x;
+}
+  where
+    e : Effect
+    e = effect_of c call
+
+    k : ℕ
+    k = spot c.effects e
+
+    word : ℕ
+    word = new_word call.operation.op c.word
+
+-- an operation that changes the word
+pub after_changed : (calls : List Call) (c : Config) (call : Call) → is_idle call.operation.op c.word ≡ false
+    → after calls c call ≡ changed calls c call
+after_changed calls c call moves = ap (λ (b : Bool). cond b c (changed calls c call)) moves
+
+pub after_idle : (calls : List Call) (c : Config) (call : Call) → is_idle call.operation.op c.word ≡ true
+    → after calls c call ≡ c
+after_idle calls c call idle = ap (λ (b : Bool). cond b c (changed calls c call)) idle
+
+-- it leaves the word as it is
+pub expands_idle : (at : ℕ) (calls : List Call) (call : Call) (old : List Config) (c : Config)
+    → slice_get old at ≡ Some c → is_idle call.operation.op c.word ≡ true → Expands at calls (call ∷ []) old old
+expands_idle at calls call old c there idle = record {
   expanded = λ d h apart other on fit.
       let same : c ≡ d = cc in
       let one : call ≡ other = one_in call other on in
-      absurd (never apart (subst (λ (f : Call). FitsPartner (IsIn calls) (after c f).effects) (sym one)
-      (subst (λ (f : Config). FitsPartner (IsIn calls) (after f other).effects) (sym same) fit)));
+      subst (λ (f : Call). IsAmong old (after calls d f)) one
+      (subst (λ (f : Config). IsAmong old (after calls f call)) same
+      (subst (λ (f : Config). IsAmong old f) (sym (after_idle calls c call idle)) (c, (at, there), covers_self c)));
+  grows = goes_same old;
+  sound = λ all among also opening trace w inside pending explained. explained;
+}
+
+-- an operation can't take effect
+pub expands_nothing : (at : ℕ) (calls : List Call) (call : Call) (old : List Config) (c : Config)
+    → slice_get old at ≡ Some c → is_idle call.operation.op c.word ≡ false
+    → (AreDistinctPartners calls → FitsPartner (IsIn calls) (changed calls c call).effects → ⊥)
+    → Expands at calls (call ∷ []) old old
+expands_nothing at calls call old c there moves never = record {
+  expanded = λ d h apart other on fit.
+      let same : c ≡ d = cc in
+      let one : call ≡ other = one_in call other on in
+      absurd (never apart (subst (λ (f : Config). FitsPartner (IsIn calls) f.effects) (after_changed calls c call moves)
+      (subst (λ (f : Call). FitsPartner (IsIn calls) (after calls c f).effects) (sym one)
+      (subst (λ (f : Config). FitsPartner (IsIn calls) (after calls f other).effects) (sym same) fit))));
   grows = goes_same old;
   sound = λ all among also opening trace w inside pending explained. explained;
 }
 
 -- it takes effect now
 pub expands_one : (at : ℕ) (calls : List Call) (call : Call) (old new : List Config) (c : Config)
-    → slice_get old at ≡ Some c → FitsPartner (IsIn calls) (after c call).effects → IsOneMore old (after c call) new
+    → slice_get old at ≡ Some c → is_idle call.operation.op c.word ≡ false
+    → FitsPartner (IsIn calls) (changed calls c call).effects → IsOneMore old (changed calls c call) new
     → Expands at calls (call ∷ []) old new
-expands_one at calls call old new c there fit more = record {
+expands_one at calls call old new c there moves fit more = record {
   expanded = λ d h apart other on enough.
       let same : c ≡ d = cc in
       let one : call ≡ other = one_in call other on in
-      subst (λ (f : Call). IsAmong new (after d f)) one
-      (subst (λ (f : Config). IsAmong new (after f call)) same (more_among old new (after c call) more));
-  grows = more_goes old new (after c call) more;
+      subst (λ (f : Call). IsAmong new (after calls d f)) one
+      (subst (λ (f : Config). IsAmong new (after calls f call)) same
+      (subst (λ (f : Config). IsAmong new f) (sym (after_changed calls c call moves))
+      (more_among old new (changed calls c call) more)));
+  grows = more_goes old new (changed calls c call) more;
   sound = λ all among also opening trace w inside pending explained d on.
       ⊎_elim {C = IsExplainedWatch opening trace w d}
       (λ (was : IsIn old d). explained d was)
-      (λ (e : after c call ≡ d). subst (λ (f : Config). IsExplainedWatch opening trace w f) e
-      (explained_after opening trace w all c call inside pending (also call (0, refl))
-      (fits_weaken (IsIn calls) (IsIn all) among (after c call).effects fit) (explained c (at, there))))
-      (more_from old new (after c call) d more on);
+      (λ (e : changed calls c call ≡ d). subst (λ (f : Config). IsExplainedWatch opening trace w f) e
+      (explained_changed opening trace w all calls c call inside pending among (also call (0, refl)) fit
+      (explained c (at, there))))
+      (more_from old new (changed calls c call) d more on);
 }
 
 -- of some operations those up to place i
 pub record Expanding (at : ℕ) (calls newest : List Call) (old : List Config) (i : ℕ) (new : List Config) : Type 0 where
   pub expanded : (c : Config) → slice_get old at ≡ Some c → AreDistinctPartners calls → (j : ℕ) (call : Call) → j < i
-      → slice_get newest j ≡ Some call → FitsPartner (IsIn calls) (after c call).effects → IsAmong new (after c call)
+      → slice_get newest j ≡ Some call → FitsPartner (IsIn calls) (after calls c call).effects
+      → IsAmong new (after calls c call)
   pub grows : GoesOn old new
   pub sound : (all : List Call) → IsPart calls all → IsPart newest all → StaysExplained all old new
 
@@ -107,13 +151,13 @@ pub expanding_more : (at : ℕ) (calls newest : List Call) (old : List Config) (
     (call : Call) → slice_get newest i ≡ Some call → at < length old → Expands at calls (call ∷ []) new later
     → Expanding at calls newest old i new → Expanding at calls newest old (i + 1) later
 expanding_more at calls newest old i new later call here low next was = record {
-  expanded = λ c h apart j other l k fit. ⊎_elim {C = IsAmong later (after c other)}
+  expanded = λ c h apart j other l k fit. ⊎_elim {C = IsAmong later (after calls c other)}
       (λ (e : j ≡ i).
       let there : slice_get newest i ≡ Some other = ap (λ (n : ℕ). slice_get newest n) (sym e) ∙ k in
       let same : call ≡ other = cc in
       next.expanded c (goes_at old new at c was.grows h) apart other (0, ap (λ (d : Call). Some d) same) fit)
       (λ (ne : j ≢ i).
-      goes_among new later (after c other) next.grows (was.expanded c h apart j other (omega arith) k fit))
+      goes_among new later (after calls c other) next.grows (was.expanded c h apart j other (omega arith) k fit))
       (cases_eq j i);
   grows = goes_more old new later was.grows next.grows;
   sound = λ all among also opening trace w inside pending explained.
@@ -141,7 +185,7 @@ goes_longer old new on =
 expanded_still : (calls newest : List Call) (old new : List Config) (c : Config) → GoesOn old new
     → IsExpandedState calls newest old c → IsExpandedState calls newest new c
 expanded_still calls newest old new c on was = λ apart call there fit.
-    goes_among old new (after c call) on (was apart call there fit)
+    goes_among old new (after calls c call) on (was apart call there fit)
 
 -- all configurations up to the next one have been expanded
 pub record Catching (from : ℕ) (calls newest : List Call) (begun : List Config) (next : ℕ) (found : List Config) : Type 0

@@ -1,10 +1,16 @@
 pub mod Events
 pub mod Matched
 pub mod Covering
+pub mod Compared
 pub mod Quiet
 pub mod Effects
 pub mod Steps
+pub mod Idle
+pub mod Bounds
+pub mod LowLoops
 pub mod Answered
+pub mod KeptSound
+pub mod KeptLeads
 pub mod Walk
 pub mod Sifting
 pub mod Grown

@@ -1,15 +1,15 @@
 -- The loops over states, as configurations.
-use Rattle.std.proofs.Common.{◌≡◌, ℕ, ◌+◌, ◌<◌, ◌≤◌, List, [], ◌∷◌, ◌++◌, length, Some, sym, ◌∙◌, ap, subst, arith, slice_get, get_or}
+use Rattle.std.proofs.Common.{◌≡◌, true, false, ℕ, ◌+◌, ◌<◌, ◌≤◌, List, [], ◌∷◌, length, Some, sym, ◌∙◌, ap, subst, arith, slice_get, get_or}
 use Rattle.std.proofs.lemmas.Option.{slice_get-get_or}
 use Rattle.trace_laws.specs.declared.event.Call.{Call}
 use Rattle.trace_laws.specs.Configs.{IsIn, GoesOn}
 use Rattle.trace_watch.specs.declared.state.Effect.{Effect}
 use Rattle.trace_watch.specs.declared.state.State.{State}
-use Rattle.trace_watch.specs.States.{Config, after, config_of, configs_of}
+use Rattle.trace_watch.specs.States.{Config, changed, config_of, configs_of, is_idle}
 use Rattle.trace_watch.specs.Matchings.{AreDistinctPartners, FitsPartner}
 use Rattle.trace_watch.specs.Closed.{CatchesUp, Closes, Expands, IsOneMore}
-use Rattle.trace_watch.proofs.Grown.{get_config, configs_push, long_configs}
-use Rattle.trace_watch.proofs.Growth.{goes_longer, expands_nothing, expands_one, Catching, catching_more, catching_all, Closing, closing_more, closing_all}
+use Rattle.trace_watch.proofs.Grown.{get_config, long_configs}
+use Rattle.trace_watch.proofs.Growth.{goes_longer, expands_idle, expands_nothing, expands_one, Catching, catching_more, catching_all, Closing, closing_more, closing_all}
 
 -- what stands at a place, as the code reads it
 pub index_there : {A : Type 0} (xs : List A) (k : ℕ) (x : A) → k < length xs → x ≡ get_or xs k x
@@ -34,23 +34,32 @@ fits_back calls c d es read same fit =
     subst (λ (fs : List Effect). FitsPartner (IsIn calls) fs) (sym read)
     (subst (λ (f : Config). FitsPartner (IsIn calls) f.effects) (sym same) fit)
 
-pub attempt_none : {A : Type 0} (at : ℕ) (calls : List Call) (call : Call) (found : List (State A)) (s next : State A)
-    (es : List Effect) → slice_get found at ≡ Some s → config_of next ≡ after (config_of s) call
-    → es ≡ next.effects.items → (AreDistinctPartners calls → FitsPartner (IsIn calls) es → ⊥)
+pub attempt_idle : {A : Type 0} (at : ℕ) (calls : List Call) (call : Call) (found : List (State A)) (s : State A)
+    → slice_get found at ≡ Some s → true ≡ is_idle call.operation.op s.word
     → Expands at calls (call ∷ []) (configs_of found) (configs_of found)
-attempt_none at calls call found s next es there is read never =
-    expands_nothing at calls call (configs_of found) (config_of s) (get_config found at s there)
-    (λ apart fit. never apart (fits_back calls (config_of next) (after (config_of s) call) es read is fit))
+attempt_idle at calls call found s there idle =
+    expands_idle at calls call (configs_of found) (config_of s) (get_config found at s there) (sym idle)
 
-pub attempt_new : {A : Type 0} (at : ℕ) (calls : List Call) (call : Call) (found later : List (State A))
-    (s next : State A) (es : List Effect) → slice_get found at ≡ Some s → config_of next ≡ after (config_of s) call
-    → es ≡ next.effects.items → FitsPartner (IsIn calls) es
-    → IsOneMore (configs_of found) (config_of next) (configs_of later)
+pub attempt_none : {A : Type 0} (at : ℕ) (calls read : List Call) (call : Call) (found : List (State A)) (s next : State A)
+    (es : List Effect) → slice_get found at ≡ Some s → false ≡ is_idle call.operation.op s.word → read ≡ calls
+    → config_of next ≡ changed read (config_of s) call → es ≡ next.effects.items
+    → (AreDistinctPartners calls → FitsPartner (IsIn calls) es → ⊥)
+    → Expands at calls (call ∷ []) (configs_of found) (configs_of found)
+attempt_none at calls read call found s next es there moves same is effects never =
+    expands_nothing at calls call (configs_of found) (config_of s) (get_config found at s there) (sym moves)
+    (λ apart fit. never apart (fits_back calls (config_of next) (changed calls (config_of s) call) es effects
+    (is ∙ ap (λ (cs : List Call). changed cs (config_of s) call) same) fit))
+
+pub attempt_new : {A : Type 0} (at : ℕ) (calls read : List Call) (call : Call) (found later : List (State A))
+    (s next : State A) (es : List Effect) → slice_get found at ≡ Some s → false ≡ is_idle call.operation.op s.word
+    → read ≡ calls → config_of next ≡ changed read (config_of s) call → es ≡ next.effects.items
+    → FitsPartner (IsIn calls) es → IsOneMore (configs_of found) (config_of next) (configs_of later)
     → Expands at calls (call ∷ []) (configs_of found) (configs_of later)
-attempt_new at calls call found later s next es there is read fit more =
-    expands_one at calls call (configs_of found) (configs_of later) (config_of s) (get_config found at s there)
-    (fits_read calls (config_of next) (after (config_of s) call) es read is fit)
-    (subst (λ (c : Config). IsOneMore (configs_of found) c (configs_of later)) is more)
+attempt_new at calls read call found later s next es there moves same is effects fit more =
+    let made = is ∙ ap (λ (cs : List Call). changed cs (config_of s) call) same in
+    expands_one at calls call (configs_of found) (configs_of later) (config_of s) (get_config found at s there) (sym moves)
+    (fits_read calls (config_of next) (changed calls (config_of s) call) es effects made fit)
+    (subst (λ (c : Config). IsOneMore (configs_of found) c (configs_of later)) made more)
 
 pub at_inside : {A : Type 0} (old new : List (State A)) (at : ℕ) → at < length old
     → GoesOn (configs_of old) (configs_of new) → at < length new

@@ -1,5 +1,5 @@
 -- Effects and the operations that they may be of.
-use Rattle.std.proofs.Common.{◌≡◌, ◌≢◌, ◌⊎◌, inl, inr, ⊎_elim, ℕ, zero, suc, ◌≤◌, List, [], ◌∷◌, Some, None, refl, sym, ◌∙◌, ap, subst, arith, slice_get}
+use Rattle.std.proofs.Common.{◌≡◌, ◌≢◌, ◌⊎◌, inl, inr, ⊎_elim, ℕ, zero, suc, ◌≤◌, List, [], ◌∷◌, Some, None, refl, sym, ◌∙◌, ap, arith, slice_get}
 use Rattle.std.specs.List.{insert, remove}
 use Rattle.std.proofs.lemmas.Bool.{cases_eq}
 use Rattle.trace_laws.specs.declared.event.Call.{Call}

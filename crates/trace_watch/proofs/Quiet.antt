@@ -1,5 +1,5 @@
 -- What an event leaves of a word that it doesn't answer anything on.
-use Rattle.std.proofs.Common.{◌≡◌, ◌≢◌, ◌⊎◌, inl, inr, ⊎_elim, ℕ, zero, suc, ◌<◌, ◌≤◌, List, [], ◌∷◌, ◌++◌, length, Some, refl, sym, ◌∙◌, ap, subst}
+use Rattle.std.proofs.Common.{◌≡◌, ◌≢◌, ⊎_elim, ℕ, zero, suc, ◌<◌, ◌≤◌, List, [], ◌∷◌, ◌++◌, length, Some, refl, sym, ◌∙◌, ap, subst}
 use Rattle.std.proofs.Common.{arith, slice_get, take}
 use Rattle.std.proofs.lemmas.Bool.{cases_eq, cases_lt}
 use Rattle.std.proofs.lemmas.List.{take-take, take_all}
@@ -15,11 +15,12 @@ use Rattle.trace_laws.proofs.Issues.{one_issue, one_call}
 use Rattle.trace_laws.proofs.Lists.{get_push, get_within, get_take, take_get}
 use Rattle.trace_laws.specs.Configs.{IsIn}
 use Rattle.trace_watch.specs.declared.state.Effect.{Effect}
-use Rattle.trace_watch.specs.States.{Config}
-use Rattle.trace_watch.specs.Matchings.{FitsPartner, Matches, MayBe, Other}
+use Rattle.trace_watch.specs.States.{Config, with_idle}
+use Rattle.trace_watch.specs.Matchings.{Matches, MayBe, Other}
 use Rattle.trace_watch.specs.Named.{NamedConfig, named_config}
-use Rattle.trace_watch.specs.Known.{Explains, IsExplainedWatch, IsOpenOn, IsPendingCall, Knows, LeadsToConfig}
+use Rattle.trace_watch.specs.Known.{Explains, IsExplainedWatch, IsOpenOn, Knows, LeadsToConfig}
 use Rattle.trace_watch.proofs.Matched.{fits_weaken, weaken}
+use Rattle.trace_watch.proofs.Idle.{issued_up, issued_with}
 use Rattle.trace_watch.proofs.Events.{issue_up, answer_up, answered_up, issue_cases, answer_cases, no_answer, same_call, issue_down}
 
 -- the event answers no operation on word w
@@ -188,12 +189,9 @@ short (suc p) (c ∷ order) = let l = short p order in omega arith
 -- a beginning of a beginning is one
 pub take_of_take : (n p : ℕ) (order : List Call) → (m : ℕ) × (take n (take p order) ≡ take m order)
 take_of_take n p order = ⊎_elim {C = (m : ℕ) × (take n (take p order) ≡ take m order)}
-    (λ (l : n ≤ p). (n, take-take n p order l))
     (λ (g : p < n). (p, take_all n (take p order) (let s = short p order in omega arith)))
-    (cases_le n p)
-  where
-    cases_le : (a b : ℕ) → (a ≤ b) ⊎ (b < a)
-    cases_le a b = ⊎_elim {C = (a ≤ b) ⊎ (b < a)} (λ (l : b < a). inr l) (λ (g : a ≤ b). inl g) (cases_lt b a)
+    (λ (l : n ≤ p). (n, take-take n p order l))
+    (cases_lt p n)
 
 -- fewer operations, where they are those that the effects may be of
 pub weaken_by : (P Q : Call → Type 0) (es : List Effect) (calls : List Call)
@@ -248,14 +246,15 @@ explained_kept words opening t w e c is quiet x =
     let more = t ++ e ∷ [] in
     record {
       fits = fits_weaken (IsOpenOn t w) (IsOpenOn more w) (λ d o. open_up t w e d quiet o) c.effects x.fits;
-      explained = λ calls m.
-          let old = weaken_by (IsOpenOn more w) (IsOpenOn t w) c.effects calls
+      explained = λ es idle calls m.
+          let old = weaken_by (IsOpenOn more w) (IsOpenOn t w) (c.effects ++ es) calls
           (λ d f on may o.
-          let q = x.issued f on in
+          let q = issued_with opening t w c es x idle f on in
           open_down words t w e d f.newest q.0 q.1 is q.2 q.3 may.early o) m in
-          let r = x.explained calls old in
-          (r.0, explains_kept words opening t w e r.0 (named_config c calls) is quiet r.1);
-      issued = λ f on. let q = x.issued f on in (q.0, q.1, issue_up t e q.0 q.1 q.2, q.3);
+          let r = x.explained es idle calls old in
+          (r.0, explains_kept words opening t w e r.0 (named_config (with_idle c es) calls) is quiet r.1);
+      issued = λ f on. issued_up t e f.newest (x.issued f on);
+      seen = λ g on. issued_up t e g.newest (x.seen g on);
     }
 
 leads_kept : (words : ℕ) (opening : List ℕ) (t : List Event) (w : ℕ) (e : Event) (order : List Call)
@@ -264,10 +263,12 @@ leads_kept : (words : ℕ) (opening : List ℕ) (t : List Event) (w : ℕ) (e : 
 leads_kept words opening t w e order configs is quiet l = record {
   config = l.config;
   on = l.on;
+  idle = l.idle;
+  seen = l.seen;
   calls = l.calls;
-  matches = weaken (IsOpenOn t w) (IsOpenOn (t ++ e ∷ []) w) (λ d o. open_up t w e d quiet o) l.config.effects l.calls
-      l.matches;
-  explains = explains_kept words opening t w e order (named_config l.config l.calls) is quiet l.explains;
+  matches = weaken (IsOpenOn t w) (IsOpenOn (t ++ e ∷ []) w) (λ d o. open_up t w e d quiet o) (l.config.effects ++ l.idle)
+      l.calls l.matches;
+  explains = explains_kept words opening t w e order (named_config (with_idle l.config l.idle) l.calls) is quiet l.explains;
 }
 
 -- what is known of a word, after an issue

@@ -1,5 +1,5 @@
 -- Effects of whatever operations they may be of: how orders go on.
-use Rattle.std.proofs.Common.{◌≡◌, ◌⊎◌, ⊎_elim, ℕ, ◌<◌, ◌≤◌, List, [], ◌∷◌, ◌++◌, length, Some, refl, sym, ◌∙◌, ap, subst, arith, slice_get}
+use Rattle.std.proofs.Common.{◌≡◌, ⊎_elim, ℕ, ◌<◌, List, [], ◌∷◌, ◌++◌, length, Some, refl, sym, ◌∙◌, ap, subst, slice_get}
 use Rattle.std.specs.List.{insert, remove}
 use Rattle.packet.specs.declared.kinds.Op.{Op}
 use Rattle.packet.specs.declared.kinds.Reply.{Reply}
@@ -11,10 +11,10 @@ use Rattle.trace_laws.specs.Traces.{IsTrace}
 use Rattle.trace_laws.proofs.Lists.{get_push_cases, get_append_left, get_push}
 use Rattle.trace_laws.specs.Configs.{IsIn}
 use Rattle.trace_watch.specs.declared.state.Effect.{Effect}
-use Rattle.trace_watch.specs.States.{Config, after, effect_of, less_one, spot}
-use Rattle.trace_watch.specs.Matchings.{Matches, MayBe, Other}
-use Rattle.trace_watch.specs.Named.{NamedConfig, NamedEffect, HasEffect, IsLike, IsWithoutCall, named, named_after, named_config}
-use Rattle.trace_watch.specs.Known.{Explains, IsOpenOn, IsPendingCall}
+use Rattle.trace_watch.specs.States.{Config, less_one}
+use Rattle.trace_watch.specs.Matchings.{Matches, Other}
+use Rattle.trace_watch.specs.Named.{NamedConfig, NamedEffect, IsLike, IsWithoutCall, named, named_after, named_config}
+use Rattle.trace_watch.specs.Known.{Explains, IsOpenOn}
 use Rattle.trace_watch.proofs.Matched.{insert_from, insert_new, insert_old, match_place, named_insert}
 use Rattle.trace_watch.proofs.Effects.{explains_after, explains_answer, explains_like}
 
@@ -46,30 +46,33 @@ inserted_like xs k x word other same = record {
   );
 }
 
--- an operation takes effect that asks the same as another one
-pub step_explains : (P : Call → Type 0) (opening : List ℕ) (t : List Event) (w : ℕ) (order : List Call) (c : Config)
-    (calls : List Call) (r b : Call) → w < length opening → IsOpenOn t w b → b.operation.op ≡ r.operation.op
-    → Matches P c.effects calls → ((x : NamedEffect) → IsIn (named c.effects calls) x → x.id ≡ b.id → ⊥)
-    → Explains opening t w order (named_config c calls)
+-- an operation takes effect whose effect stands at a place
+pub put_explains : (P : Call → Type 0) (opening : List ℕ) (t : List Event) (w : ℕ) (order : List Call) (word : ℕ)
+    (es : List Effect) (calls : List Call) (k : ℕ) (e : Effect) (b : Call) → w < length opening → IsOpenOn t w b
+    → b.operation.op ≡ e.op → e.reply ≡ reply_to e.op word → Matches P es calls
+    → ((x : NamedEffect) → IsIn (named es calls) x → x.id ≡ b.id → ⊥)
+    → Explains opening t w order (record { word = word; effects = named es calls })
     → Explains opening t w (order ++ b ∷ [])
-    (named_config (after c r) (insert calls (spot c.effects (effect_of c r)) b))
-step_explains P opening t w order c calls r b inside waits asks m none x =
-    let k = spot c.effects (effect_of c r) in
-    let xs = named c.effects calls in
-    let name : Op → NamedEffect = λ o. record { id = b.id; reply = reply_to o c.word } in
-    let later = explains_after opening t w order (named_config c calls) b inside waits.pending waits.here
+    (record { word = new_word e.op word; effects = named (insert es k e) (insert calls k b) })
+put_explains P opening t w order word es calls k e b inside waits asks replies m none x =
+    let xs = named es calls in
+    let was : NamedConfig = record { word = word; effects = xs } in
+    let name : Reply → NamedEffect = λ r. record { id = b.id; reply = r } in
+    let later = explains_after opening t w order was b inside waits.pending waits.here
     (λ has. none has.0 has.1 has.2) x in
-    let like : IsLike (record { word = new_word r.operation.op c.word; effects = insert xs k (name r.operation.op) })
-    (named_after (named_config c calls) b) = subst
-    (λ (o : Op). IsLike (record { word = new_word r.operation.op c.word; effects = insert xs k (name r.operation.op) })
-    (record { word = new_word o c.word; effects = xs ++ name o ∷ [] })) (sym asks)
-    (inserted_like xs k (name r.operation.op) (new_word r.operation.op c.word) (new_word r.operation.op c.word) refl) in
-    let same = named_insert P c.effects calls k (effect_of c r) b m in
-    let named_like : IsLike (named_config (after c r) (insert calls k b)) (named_after (named_config c calls) b) = subst
-    (λ (ys : List NamedEffect). IsLike (record { word = new_word r.operation.op c.word; effects = ys })
-    (named_after (named_config c calls) b)) (sym same) like in
-    explains_like opening t w (order ++ b ∷ []) (named_after (named_config c calls) b)
-    (named_config (after c r) (insert calls k b)) named_like later
+    let told : reply_to b.operation.op word ≡ e.reply = ap (λ (o : Op). reply_to o word) asks ∙ sym replies in
+    let like : IsLike (record { word = new_word e.op word; effects = insert xs k (name e.reply) })
+    (record { word = new_word b.operation.op word; effects = xs ++ name e.reply ∷ [] }) =
+    inserted_like xs k (name e.reply) (new_word e.op word) (new_word b.operation.op word)
+    (ap (λ (o : Op). new_word o word) (sym asks)) in
+    let named_like : IsLike (record { word = new_word e.op word; effects = named (insert es k e) (insert calls k b) })
+    (named_after was b) = subst
+    (λ (ys : List NamedEffect). IsLike (record { word = new_word e.op word; effects = ys }) (named_after was b))
+    (sym (named_insert P es calls k e b m)) (subst
+    (λ (r : Reply). IsLike (record { word = new_word e.op word; effects = insert xs k (name e.reply) })
+    (record { word = new_word b.operation.op word; effects = xs ++ name r ∷ [] })) (sym told) like) in
+    explains_like opening t w (order ++ b ∷ []) (named_after was b)
+    (record { word = new_word e.op word; effects = named (insert es k e) (insert calls k b) }) named_like later
 
 -- the answered operation takes effect last
 pub taken_explains : (P : Call → Type 0) (words : ℕ) (opening : List ℕ) (t : List Event) (w : ℕ) (order : List Call)
@@ -77,7 +80,7 @@ pub taken_explains : (P : Call → Type 0) (words : ℕ) (opening : List ℕ) (t
     → IsTrace words (t ++ Answer b.id reply ∷ []) → IsOpenOn t w b → reply_to b.operation.op c.word ≡ reply
     → Matches (Other P b.id) c.effects calls → Explains opening t w order (named_config c calls)
     → Explains opening (t ++ Answer b.id reply ∷ []) w (order ++ b ∷ [])
-    (named_config (record { word = new_word b.operation.op c.word; effects = c.effects }) calls)
+    (record { word = new_word b.operation.op c.word; effects = named c.effects calls })
 taken_explains P words opening t w order c calls b reply inside is waits replies m x =
     let xs = named c.effects calls in
     let none = left_out P c.effects calls b.id m in
@@ -85,7 +88,7 @@ taken_explains P words opening t w order c calls b reply inside is waits replies
     let later = explains_after opening t w order (named_config c calls) b inside waits.pending waits.here
     (λ has. none has.0 has.1 has.2) x in
     let less : IsWithoutCall b.id (named_after (named_config c calls) b)
-    (named_config (record { word = new_word b.operation.op c.word; effects = c.effects }) calls) = record {
+    (record { word = new_word b.operation.op c.word; effects = named c.effects calls }) = record {
       word = refl;
       effects = λ y. (
         (λ on. ((on.0, get_append_left xs (e ∷ []) on.0 y on.1), none y on)),
@@ -96,7 +99,7 @@ taken_explains P words opening t w order c calls b reply inside is waits replies
       );
     } in
     explains_answer words opening t w (order ++ b ∷ []) (named_after (named_config c calls) b)
-    (named_config (record { word = new_word b.operation.op c.word; effects = c.effects }) calls) e b.id reply is
+    (record { word = new_word b.operation.op c.word; effects = named c.effects calls }) e b.id reply is
     (length xs, get_push xs e) refl replies less later
 
 -- the answered operation has taken effect

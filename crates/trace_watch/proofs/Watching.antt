@@ -1,6 +1,6 @@
 -- What a watch knows, over one event.
 use Rattle.std.proofs.Common.{◌≡◌, ◌≢◌, ◌⊎◌, ◌↔◌, inl, inr, ⊎_elim, ℕ, ◌<◌, ◌≤◌, List, [], ◌∷◌, ◌++◌, length, Some, None, Vec, refl, sym, ◌∙◌, ap, subst}
-use Rattle.std.proofs.Common.{arith, slice_get, set, map, get_or, get_or-set_same, get_or-set_other, length-set}
+use Rattle.std.proofs.Common.{arith, append-nil, slice_get, set, map, get_or, get_or-set_same, get_or-set_other, length-set}
 use Rattle.std.proofs.lemmas.Bool.{cases_eq}
 use Rattle.std.proofs.lemmas.List.{map-set, length-map, get_or-map}
 use Rattle.packet.specs.declared.kinds.Reply.{Reply}
@@ -12,11 +12,13 @@ use Rattle.trace_laws.specs.Orders.{IsLinearizable}
 use Rattle.trace_laws.proofs.Merging.{one_order}
 use Rattle.trace_laws.proofs.WordOrders.{word_order}
 use Rattle.trace_laws.specs.Configs.{IsIn}
+use Rattle.trace_watch.specs.declared.state.Effect.{Effect}
 use Rattle.trace_watch.specs.declared.state.State.{State}
 use Rattle.trace_watch.specs.declared.watch.Watch.{Watch}
 use Rattle.trace_watch.specs.declared.watch.Seen.TheVariants.{Linearizable, NotLinearizable, NoTrace}
 use Rattle.trace_watch.specs.States.{Config, configs_of}
-use Rattle.trace_watch.specs.Known.{Knows, ArePending, ArePendingOn}
+use Rattle.trace_watch.specs.Matchings.{Matches}
+use Rattle.trace_watch.specs.Known.{IsOpenOn, Knows, ArePending, ArePendingOn}
 use Rattle.trace_watch.specs.Closed.{IsAnsweredBy}
 use Rattle.trace_watch.specs.Follows.{Tracks, TellsSeen, states_of}
 use Rattle.trace_watch.proofs.Events.{trace_issue, trace_answer, outside, not_rising, not_pending, pending_issue, pending_answer, newest_issue, newest_answer, above_all}
@@ -29,7 +31,8 @@ pub follows_order : {A : Type 0} (opening : List ℕ) (t : List Event) (watch : 
 follows_order opening t watch f = one_order opening t f.well (λ w l.
     let c = f.filled w l in
     let x = (f.known w l).sound c.0 c.1 in
-    let s = x.explained x.fits.0 x.fits.1 in
+    let s = x.explained [] (λ e on. absurd (let h : None ≡ Some e = on.1 in cc)) x.fits.0
+    (subst (λ (es : List Effect). Matches (IsOpenOn t w) es x.fits.0) (sym (append-nil c.0.effects)) x.fits.1) in
     (s.0, s.1.legal))
 
 -- an operation is issued

@@ -1,9 +1,9 @@
 -- How many configurations of a word are looked at.
-use Rattle.std.specs.Prelude.{◌≡◌, ◌<◌, ◌≤◌, ℕ, List, [], ◌∷◌, Some, length, slice_get}
+use Rattle.std.specs.Prelude.{◌≡◌, ◌<◌, ◌≤◌, ◌↔◌, ℕ, List, [], ◌∷◌, Some, length, slice_get}
 use Rattle.trace_laws.specs.declared.event.Call.{Call}
 use Rattle.trace_laws.specs.Configs.{IsIn}
 use Rattle.trace_watch.specs.States.{Config, Covers, IsAmong, after}
-use Rattle.trace_watch.specs.Matchings.{FitsPartner, IsPart, Other}
+use Rattle.trace_watch.specs.Matchings.{FitsPartner, IsPart}
 use Rattle.trace_watch.specs.Known.{StaysExplained}
 
 -- of the first so many none tells of whatever a later one does
@@ -28,16 +28,22 @@ pub record IsOverfullCrowd (calls : List Call) (bound : ℕ) (old : List Config)
   pub sound : StaysExplained calls old found
   pub crowd : IsOpenCrowd bound found
 
--- other operations than the one of this number take effect one after the other, of which each effect
--- may be (Lowe: just-in-time linearization)
-abbrev pub ExplainsCrowd : ℕ → List Call → Config → List Call → Config → Type 0
-ExplainsCrowd id calls c [] d = c ≡ d
-ExplainsCrowd id calls c (call ∷ path) d = IsIn calls call × (call.id ≡ id → ⊥)
-    × FitsPartner (Other (IsIn calls) id) (after c call).effects × ExplainsCrowd id calls (after c call) path d
+-- some operations take effect one after the other, of which each effect may be (Lowe: just-in-time
+-- linearization)
+abbrev pub ExplainsCrowd : List Call → Config → List Call → Config → Type 0
+ExplainsCrowd calls c [] d = c ≡ d
+ExplainsCrowd calls c (call ∷ path) d = IsIn calls call
+    × FitsPartner (IsIn calls) (after calls c call).effects
+    × ExplainsCrowd calls (after calls c call) path d
 
--- of whatever these operations so lead to from some configurations, one of so many at most tells
+-- the operations but for the one of this number
+abbrev pub AreOthers : ℕ → List Call → List Call → Type 0
+AreOthers id calls others = (c : Call) → IsIn others c ↔ (IsIn calls c × (c.id ≡ id → ⊥))
+
+-- of whatever the others of these operations so lead to from some configurations, one of so many at
+-- most tells
 pub record AreFew (id : ℕ) (calls : List Call) (bound : ℕ) (old : List Config) : Type 0 where
   pub found : List Config
   pub short : length found ≤ bound
-  pub all : (c d : Config) (path : List Call) → IsIn old c → ExplainsCrowd id calls c path d
-      → IsAmong found d
+  pub all : (others : List Call) (c d : Config) (path : List Call) → AreOthers id calls others
+      → IsIn old c → ExplainsCrowd others c path d → IsAmong found d

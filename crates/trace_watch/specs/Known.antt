@@ -1,15 +1,15 @@
 -- What is known of a trace so far.
-use Rattle.std.specs.Prelude.{◌≡◌, ◌⊎◌, ◌<◌, ◌≤◌, ℕ, List, Option, Some, length, take, slice_get, slice_index}
-use Rattle.packet.specs.declared.kinds.Reply.{Reply}
+use Rattle.std.specs.Prelude.{◌≡◌, ◌⊎◌, ◌<◌, ◌≤◌, ◌++◌, ℕ, List, Option, Some, length, take, slice_get, slice_index}
 use Rattle.packet.specs.Memory.{reply_of_one}
 use Rattle.trace_laws.specs.declared.event.Call.{Call}
 use Rattle.trace_laws.specs.declared.event.Event.{Event}
-use Rattle.trace_laws.specs.Traces.{TraceIssuesAt, TraceAnswersAt, IsAnswered}
+use Rattle.trace_laws.specs.Traces.{TraceIssuesAt, IsAnswered}
 use Rattle.trace_laws.specs.Orders.{memory_of}
 use Rattle.trace_laws.specs.Locality.{IsOrderOn}
 use Rattle.trace_laws.specs.Configs.{IsIn}
 use Rattle.trace_watch.specs.declared.state.Effect.{Effect}
-use Rattle.trace_watch.specs.States.{Config}
+use Rattle.trace_watch.specs.declared.state.Glimpse.{Glimpse}
+use Rattle.trace_watch.specs.States.{Config, IsIdleIn, IsIdleHere, with_idle}
 use Rattle.trace_watch.specs.Matchings.{FitsPartner, Matches}
 use Rattle.trace_watch.specs.Named.{NamedEffect, NamedConfig, HasEffect, named_config}
 
@@ -43,28 +43,46 @@ pub record IsOpenOn (trace : List Event) (w : ℕ) (call : Call) : Type 0 where
   pub pending : IsPendingCall trace call
   pub here : call.operation.address ≡ w
 
+-- an operation was issued whose number isn't below this one
+abbrev pub HasIssued : List Event → ℕ → Type 0
+HasIssued trace n = (i : ℕ) × (call : Call) × TraceIssuesAt trace i call × (n ≤ call.id)
+
+-- these took effect at words that were there
+abbrev pub AreIdleIn : List Glimpse → List Effect → Type 0
+AreIdleIn seen es = (e : Effect) → IsIn es e → IsIdleIn seen e
+
+-- or at the word that is there
+abbrev pub AreIdleHere : Config → List Effect → Type 0
+AreIdleHere c es = (e : Effect) → IsIn es e → IsIdleHere c.word c.seen e
+
 -- Orders lead to a configuration: its effects may be of open operations on word w, each of its own,
--- and whichever they are of, an order explains it. No effect is of an operation yet to be issued.
-pub record IsExplainedWatch (opening : List ℕ) (trace : List Event) (w : ℕ) (c : Config) : Type 0 where
+-- and whichever they are of, an order explains it, with whatever other open operations took effect
+-- at words that were there. None of these is of an operation yet to be issued.
+pub record IsExplainedWatch (opening : List ℕ) (trace : List Event) (w : ℕ) (c : Config)
+    : Type 0 where
   pub fits : FitsPartner (IsOpenOn trace w) c.effects
-  pub explained : (calls : List Call) → Matches (IsOpenOn trace w) c.effects calls
-      → (order : List Call) × Explains opening trace w order (named_config c calls)
-  pub issued : (e : Effect) → IsIn c.effects e
-      → (i : ℕ) × (call : Call) × TraceIssuesAt trace i call × (e.newest ≤ call.id)
+  pub explained : (idle : List Effect) → AreIdleIn c.seen idle → (calls : List Call)
+      → Matches (IsOpenOn trace w) (c.effects ++ idle) calls
+      → (order : List Call) × Explains opening trace w order (named_config (with_idle c idle) calls)
+  pub issued : (e : Effect) → IsIn c.effects e → HasIssued trace e.newest
+  pub seen : (g : Glimpse) → IsIn c.seen g → HasIssued trace g.newest
 
 -- orders lead to these configurations
 abbrev pub AreExplained : List ℕ → List Event → ℕ → List Config → Type 0
 AreExplained opening trace w configs =
     (c : Config) → IsIn configs c → IsExplainedWatch opening trace w c
 
--- an order leads to one of these configurations, whose effects are of these operations
+-- an order leads to one of these configurations, whose effects are of these operations, with others
+-- that took effect at words that were there
 pub record LeadsToConfig (opening : List ℕ) (trace : List Event) (w : ℕ) (order : List Call)
     (configs : List Config) : Type 0 where
   pub config : Config
   pub on : IsIn configs config
+  pub idle : List Effect
+  pub seen : AreIdleHere config idle
   pub calls : List Call
-  pub matches : Matches (IsOpenOn trace w) config.effects calls
-  pub explains : Explains opening trace w order (named_config config calls)
+  pub matches : Matches (IsOpenOn trace w) (config.effects ++ idle) calls
+  pub explains : Explains opening trace w order (named_config (with_idle config idle) calls)
 
 -- of a word orders lead to these configurations, and whatever order explains what the trace does on
 -- it, a beginning of that order leads to one

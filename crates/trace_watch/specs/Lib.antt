@@ -2,6 +2,7 @@ pub mod States
 pub mod Matchings
 pub mod Named
 pub mod Known
+pub mod Lowered
 pub mod Closed
 pub mod Crowds
 pub mod Chains

@@ -12,7 +12,7 @@ ghost use Rattle.trace_watch.specs.Closed.{CatchesUp, Closes, Expands, IsOneMore
 
 use crate::index::{Index, widen};
 use crate::matching::fits;
-use crate::state::{State, after, copy_of};
+use crate::state::{State, changed, copy_of, is_idle};
 use crate::watch::Full;
 use std::alloc::{AllocError, Allocator};
 use trace_laws::Call;
@@ -67,7 +67,8 @@ fn add_within<A: Allocator + Copy>(
     Ok(())
 }
 
-/// Lets an operation take effect in a state, where there is one of these operations for each effect.
+/// Lets an operation take effect in a state, where there is one of these operations for each effect. One
+/// that leaves the word as it is changes nothing: it may do so whenever it is that word.
 fn attempt<A: Allocator + Copy>(
     alloc: A,
     found: &mut Vec<State<A>, A>,
@@ -86,7 +87,11 @@ fn attempt<A: Allocator + Copy>(
     ensures few { OnOk result (length found.new.items ≤ max bound (length found.old.items)) }
     ensures indexed { OnOk result (IsIndexed index.new (configs_of found.new.items)) }
 {
-    let next = after(alloc, &found[at], call)?;
+    let state = &found[at];
+    if is_idle(call.operation.op, state.word) {
+        return Ok(());
+    }
+    let next = changed(alloc, state, calls, call)?;
     let enough = fits(alloc, calls, &next.effects)?;
     if !enough {
         return Ok(());
@@ -163,7 +168,8 @@ pub(crate) fn close<A: Allocator + Copy>(
     ensures closes { IfOk result (λ v. Closes calls.now newest.now (configs_of states.now)
         (configs_of v.items)) }
     ensures full { IfErr result (λ full. full ≡ Configurations → (all : List Call)
-        → IsPart calls.now all → IsPart newest.now all → IsOverfullCrowd all bound (configs_of states.now)) }
+        → IsPart calls.now all → IsPart newest.now all
+        → IsOverfullCrowd all bound (configs_of states.now)) }
     ensures few { IfOk result (λ v. length v.items ≤ bound) }
 {
     let mut found = Vec::new(alloc);

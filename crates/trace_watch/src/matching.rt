@@ -33,7 +33,7 @@ fn newer(effect: Effect, newest: Option<Call>, call: Call) -> Option<Call>
 }
 
 /// Of some operations the newest one that an effect may be of.
-fn newest_of(calls: &[Call], effect: Effect) -> Option<Call>
+pub(crate) fn newest_of(calls: &[Call], effect: Effect) -> Option<Call>
     ensures { MatchOption result
         ((k : ℕ) (c : Call) → slice_get calls.now k ≡ Some c → MayBe effect c → ⊥)
         (λ c. IsNewestOf calls.now effect c) }

@@ -3,16 +3,21 @@
 ghost use Rattle.std.specs.Prelude.{◌≡◌, ◌<◌, ℕ, List, true, false, IfErr, IfOk, OnOk, length};
 ghost use Rattle.trace_watch.specs.States.{Config, config_of, configs_of};
 ghost use Rattle.trace_watch.specs.declared.watch.Full.TheVariants.{Configurations};
+ghost use Rattle.packet.specs.Memory.{reply_to};
+ghost use Rattle.trace_laws.specs.Configs.{IsIn};
+ghost use Rattle.trace_watch.specs.Lowered.{MayFind};
 ghost use Rattle.trace_watch.specs.Matchings.{AreDistinctPartners, MayBe};
 ghost use Rattle.trace_watch.specs.Chains.{IsIndexed};
 ghost use Rattle.trace_watch.specs.Crowds.{AreFew, IsOverfullCrowd};
-ghost use Rattle.trace_watch.specs.Closed.{FromOne, Gathers, IsAnsweredBy, IsClaimed, IsClaimedAt, IsTakenConfig};
+ghost use Rattle.trace_watch.specs.Closed.{FromOne, Gathers, IsAnsweredBy, IsClaimed, IsClaimedAt};
+ghost use Rattle.trace_watch.specs.Closed.{IsIdleClaim, IsTakenConfig, MayClaim};
 
 use crate::closing::{add, close};
 use crate::index::{Index, empty_index, widen};
+use crate::lowering::{lowered, may_find};
 use crate::matching::{fits, may_be, newest_of_each};
 use crate::pending::without_call;
-use crate::state::{Effect, State, with_word, without};
+use crate::state::{Effect, Glimpse, State, taken, without};
 use crate::watch::Full;
 use packet::{Reply, apply};
 use std::alloc::{AllocError, Allocator};
@@ -47,7 +52,8 @@ fn claim<A: Allocator + Copy>(
 ) -> Result<(), AllocError>
     requires inside { at < length state.now.effects.items }
     requires indexed { IsIndexed index.old (configs_of kept.old.items) }
-    ensures gathers { OnOk result (Gathers calls.now (IsClaimedAt calls.now call reply (config_of state.now) at)
+    ensures gathers { OnOk result (Gathers calls.now
+        (IsClaimedAt calls.now call reply (config_of state.now) at)
         (configs_of kept.old.items) (configs_of kept.new.items)) }
     ensures indexed { OnOk result (IsIndexed index.new (configs_of kept.new.items)) }
 {
@@ -60,7 +66,8 @@ fn claim<A: Allocator + Copy>(
     if !enough {
         return Ok(());
     }
-    add(kept, index, less)?;
+    let low = lowered(alloc, calls, &less)?;
+    add(kept, index, low)?;
     Ok(())
 }
 
@@ -75,13 +82,89 @@ fn claim_each<A: Allocator + Copy>(
     index: &mut Index<A>,
 ) -> Result<(), AllocError>
     requires { IsIndexed index.old (configs_of kept.old.items) }
-    ensures gathers { OnOk result (Gathers calls.now (IsClaimed calls.now call reply (config_of state.now))
+    ensures gathers { OnOk result (Gathers calls.now
+        (IsClaimed calls.now call reply (config_of state.now))
         (configs_of kept.old.items) (configs_of kept.new.items)) }
     ensures indexed { OnOk result (IsIndexed index.new (configs_of kept.new.items)) }
 {
     for at in 0..state.effects.len() {
         claim(alloc, state, at, calls, call, reply, kept, index)?;
     }
+    Ok(())
+}
+
+/// Whether the answered operation may have found the word of a glimpse, and replied so.
+fn may_have_found(glimpse: Glimpse, call: Call, reply: Reply) -> bool
+    ensures yes { result ≡ true
+        → MayFind glimpse call × (reply_to call.operation.op glimpse.word ≡ reply) }
+    ensures no { result ≡ false → MayFind glimpse call
+        → reply_to call.operation.op glimpse.word ≡ reply → ⊥ }
+{
+    let (_, told) = apply(call.operation.op, glimpse.word);
+    may_find(glimpse, call) && told == reply
+}
+
+/// Whether the answered operation may have found one of these words, and replied so.
+fn has_found(seen: &[Glimpse], call: Call, reply: Reply) -> bool
+    ensures yes { result ≡ true → (g : Glimpse) × IsIn seen.now g × MayFind g call
+        × (reply_to call.operation.op g.word ≡ reply) }
+    ensures no { result ≡ false → (g : Glimpse) → IsIn seen.now g → MayFind g call
+        → reply_to call.operation.op g.word ≡ reply → ⊥ }
+{
+    for i in 0..seen.len() {
+        if may_have_found(seen[i], call, reply) {
+            return true;
+        }
+    }
+    false
+}
+
+/// The state, where the answered operation may have found a word that was there.
+fn claim_idle<A: Allocator + Copy>(
+    alloc: A,
+    state: &State<A>,
+    calls: &[Call],
+    call: Call,
+    reply: Reply,
+    kept: &mut Vec<State<A>, A>,
+    index: &mut Index<A>,
+) -> Result<(), AllocError>
+    requires { IsIndexed index.old (configs_of kept.old.items) }
+    ensures gathers { OnOk result (Gathers calls.now
+        (IsIdleClaim calls.now call reply (config_of state.now))
+        (configs_of kept.old.items) (configs_of kept.new.items)) }
+    ensures indexed { OnOk result (IsIndexed index.new (configs_of kept.new.items)) }
+{
+    if !has_found(&state.seen, call, reply) {
+        return Ok(());
+    }
+    let enough = fits(alloc, calls, &state.effects)?;
+    if !enough {
+        return Ok(());
+    }
+    let low = lowered(alloc, calls, state)?;
+    add(kept, index, low)?;
+    Ok(())
+}
+
+/// The states in which the answered operation may have taken effect.
+fn claim_all<A: Allocator + Copy>(
+    alloc: A,
+    state: &State<A>,
+    calls: &[Call],
+    call: Call,
+    reply: Reply,
+    kept: &mut Vec<State<A>, A>,
+    index: &mut Index<A>,
+) -> Result<(), AllocError>
+    requires { IsIndexed index.old (configs_of kept.old.items) }
+    ensures gathers { OnOk result (Gathers calls.now
+        (MayClaim calls.now call reply (config_of state.now))
+        (configs_of kept.old.items) (configs_of kept.new.items)) }
+    ensures indexed { OnOk result (IsIndexed index.new (configs_of kept.new.items)) }
+{
+    claim_each(alloc, state, calls, call, reply, kept, index)?;
+    claim_idle(alloc, state, calls, call, reply, kept, index)?;
     Ok(())
 }
 
@@ -96,13 +179,14 @@ fn claims<A: Allocator + Copy>(
     index: &mut Index<A>,
 ) -> Result<(), AllocError>
     requires { IsIndexed index.old (configs_of kept.old.items) }
-    ensures gathers { OnOk result (Gathers calls.now (FromOne (configs_of states.now) (IsClaimed calls.now call reply))
+    ensures gathers { OnOk result (Gathers calls.now
+        (FromOne (configs_of states.now) (MayClaim calls.now call reply))
         (configs_of kept.old.items) (configs_of kept.new.items)) }
     ensures indexed { OnOk result (IsIndexed index.new (configs_of kept.new.items)) }
 {
     for i in 0..states.len() {
         widen(alloc, index, kept)?;
-        claim_each(alloc, &states[i], calls, call, reply, kept, index)?;
+        claim_all(alloc, &states[i], calls, call, reply, kept, index)?;
     }
     Ok(())
 }
@@ -118,7 +202,8 @@ fn take<A: Allocator + Copy>(
     index: &mut Index<A>,
 ) -> Result<(), AllocError>
     requires { IsIndexed index.old (configs_of kept.old.items) }
-    ensures gathers { OnOk result (Gathers calls.now (IsTakenConfig calls.now call reply (config_of state.now))
+    ensures gathers { OnOk result (Gathers calls.now
+        (IsTakenConfig calls.now call reply (config_of state.now))
         (configs_of kept.old.items) (configs_of kept.new.items)) }
     ensures indexed { OnOk result (IsIndexed index.new (configs_of kept.new.items)) }
 {
@@ -130,8 +215,9 @@ fn take<A: Allocator + Copy>(
     if !enough {
         return Ok(());
     }
-    let next = with_word(alloc, state, word)?;
-    add(kept, index, next)?;
+    let next = taken(alloc, state, calls, word)?;
+    let low = lowered(alloc, calls, &next)?;
+    add(kept, index, low)?;
     Ok(())
 }
 
@@ -146,7 +232,8 @@ fn takes<A: Allocator + Copy>(
     index: &mut Index<A>,
 ) -> Result<(), AllocError>
     requires { IsIndexed index.old (configs_of kept.old.items) }
-    ensures gathers { OnOk result (Gathers calls.now (FromOne (configs_of states.now) (IsTakenConfig calls.now call reply))
+    ensures gathers { OnOk result (Gathers calls.now
+        (FromOne (configs_of states.now) (IsTakenConfig calls.now call reply))
         (configs_of kept.old.items) (configs_of kept.new.items)) }
     ensures indexed { OnOk result (IsIndexed index.new (configs_of kept.new.items)) }
 {

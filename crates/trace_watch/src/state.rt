@@ -1,10 +1,12 @@
 //! What may have become of a word.
 
-ghost use Rattle.std.specs.Prelude.{◌≡◌, ◌<◌, ◌≤◌, ℕ, true, false, IfOk, length};
-ghost use Rattle.std.specs.List.{remove};
-ghost use Rattle.trace_watch.specs.States.{AreCovered, Covers, after, config_of};
+ghost use Rattle.std.specs.Prelude.{◌≡◌, ◌<◌, ◌≤◌, ◌++◌, ◌∷◌, [], ℕ, List, Some, true, false, IfOk, length, slice_get};
+ghost use Rattle.std.specs.List.{insert, remove};
+ghost use Rattle.packet.specs.Memory.{new_word};
+ghost use Rattle.trace_watch.specs.States.{AreCovered, Covers, changed, config_of, is_idle, less_one, taken};
 ghost use Rattle.trace_watch.specs.States.{first_value, is_before, rank, second_value, spot, told_word};
 
+use crate::glimpses::{are_seen, copied_seen, seen_by};
 use packet::{Op, Reply, apply};
 use std::alloc::{AllocError, Allocator};
 use trace_laws::Call;
@@ -18,11 +20,19 @@ pub struct Effect {
     pub newest: u64,
 }
 
-/// A word, and the effects of open operations on it.
+/// A word that was there. Open operations up to this number may have found it, if they leave it as it is.
+#[derive(Clone, Copy, PartialEq, Eq)]
+pub struct Glimpse {
+    pub word: u64,
+    pub newest: u64,
+}
+
+/// A word, the effects of open operations on it, and the words that were there.
 #[derive(Drop)]
 pub struct State<A: Allocator> {
     pub word: u64,
     pub effects: Vec<Effect, A>,
+    pub seen: Vec<Glimpse, A>,
 }
 
 /// The word of a reply, or 0.
@@ -145,10 +155,12 @@ pub(crate) fn is_covered<A: Allocator>(one: &State<A>, other: &State<A>) -> bool
     ensures yes { result ≡ true → Covers (config_of one.now) (config_of other.now) }
     ensures no { result ≡ false → Covers (config_of one.now) (config_of other.now) → ⊥ }
 {
-    one.word == other.word && are_covered(&one.effects, &other.effects)
+    one.word == other.word
+        && are_covered(&one.effects, &other.effects)
+        && are_seen(&one.seen, &other.seen)
 }
 
-/// A copy of these effects.
+/// A copy of some effects.
 fn copied<A: Allocator>(alloc: A, effects: &[Effect]) -> Result<Vec<Effect, A>, AllocError>
     ensures { IfOk result (λ v. v.items ≡ effects.now) }
 {
@@ -159,58 +171,92 @@ fn copied<A: Allocator>(alloc: A, effects: &[Effect]) -> Result<Vec<Effect, A>, 
     Ok(copies)
 }
 
+/// A copy of some effects and one more, at its place.
+fn effects_with<A: Allocator>(
+    alloc: A,
+    effects: &[Effect],
+    effect: Effect,
+) -> Result<Vec<Effect, A>, AllocError>
+    ensures { IfOk result (λ v. v.items ≡ insert effects.now (spot effects.now effect) effect) }
+{
+    let mut more = copied(alloc, effects)?;
+    let at = spot(&more, effect);
+    more.insert(at, effect)?;
+    Ok(more)
+}
+
 /// A copy of a state.
-pub(crate) fn copy_of<A: Allocator>(alloc: A, state: &State<A>) -> Result<State<A>, AllocError>
+pub(crate) fn copy_of<A: Allocator + Copy>(
+    alloc: A,
+    state: &State<A>,
+) -> Result<State<A>, AllocError>
     ensures { IfOk result (λ s. config_of s ≡ config_of state.now) }
 {
-    with_word(alloc, state, state.word)
+    Ok(State {
+        word: state.word,
+        effects: copied(alloc, &state.effects)?,
+        seen: copied_seen(alloc, &state.seen)?,
+    })
 }
 
-/// A state with copies of the effects of this one, and another word.
-pub(crate) fn with_word<A: Allocator>(
-    alloc: A,
-    state: &State<A>,
-    word: u64,
-) -> Result<State<A>, AllocError>
-    ensures { IfOk result (λ s. config_of s
-        ≡ record { word = word; effects = state.now.effects.items }) }
+/// Whether an operation leaves a word as it is.
+pub(crate) fn is_idle(op: Op, word: u64) -> bool
+    ensures { result ≡ is_idle op word }
 {
-    let effects = copied(alloc, &state.effects)?;
-    Ok(State { word, effects })
+    let (next, _) = apply(op, word);
+    next == word
 }
 
-/// The state after an operation took effect.
-pub(crate) fn after<A: Allocator>(
+/// The state after an operation took effect that changes its word, while these are open.
+pub(crate) fn changed<A: Allocator + Copy>(
     alloc: A,
     state: &State<A>,
+    calls: &[Call],
     call: Call,
 ) -> Result<State<A>, AllocError>
-    ensures { IfOk result (λ s. config_of s ≡ after (config_of state.now) call) }
+    ensures { IfOk result (λ s. config_of s ≡ changed calls.now (config_of state.now) call) }
 {
     let op = call.operation.op;
     let (word, reply) = apply(op, state.word);
     let newest = call.id;
-    let effect = Effect { op, reply, newest };
-    let mut effects = copied(alloc, &state.effects)?;
-    let at = spot(&effects, effect);
-    effects.insert(at, effect)?;
-    Ok(State { word, effects })
+    Ok(State {
+        word,
+        effects: effects_with(alloc, &state.effects, Effect { op, reply, newest })?,
+        seen: seen_by(alloc, calls, state, word)?,
+    })
+}
+
+/// The state after the answered operation took effect, while these others are open.
+pub(crate) fn taken<A: Allocator + Copy>(
+    alloc: A,
+    state: &State<A>,
+    calls: &[Call],
+    word: u64,
+) -> Result<State<A>, AllocError>
+    ensures { IfOk result (λ s. (call : Call) → word ≡ new_word call.operation.op state.now.word
+        → config_of s ≡ taken calls.now (config_of state.now) call) }
+{
+    Ok(State {
+        word,
+        effects: copied(alloc, &state.effects)?,
+        seen: seen_by(alloc, calls, state, word)?,
+    })
 }
 
 /// The state without the effect at this place.
-pub(crate) fn without<A: Allocator>(
+pub(crate) fn without<A: Allocator + Copy>(
     alloc: A,
     state: &State<A>,
     at: usize,
 ) -> Result<State<A>, AllocError>
     requires { at < length state.now.effects.items }
-    ensures { IfOk result (λ s. config_of s
-        ≡ record { word = state.now.word; effects = remove state.now.effects.items at }) }
+    ensures { IfOk result (λ s. config_of s ≡ less_one (config_of state.now) at) }
 {
     let mut effects = copied(alloc, &state.effects)?;
     effects.remove(at);
     Ok(State {
         word: state.word,
         effects,
+        seen: copied_seen(alloc, &state.seen)?,
     })
 }

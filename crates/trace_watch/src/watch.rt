@@ -54,12 +54,14 @@ pub struct Watch<A: Allocator> {
 
 /// A word that nothing was done to.
 fn first_states<A: Allocator + Copy>(alloc: A, word: u64) -> Result<Vec<State<A>, A>, AllocError>
-    ensures { IfOk result (λ v. configs_of v.items ≡ record { word = word; effects = [] } ∷ []) }
+    ensures { IfOk result (λ v. configs_of v.items
+        ≡ record { word = word; effects = []; seen = [] } ∷ []) }
 {
     let mut states = Vec::new(alloc);
     states.push(State {
         word,
         effects: Vec::new(alloc),
+        seen: Vec::new(alloc),
     })?;
     Ok(states)
 }
@@ -71,7 +73,8 @@ fn first_words<A: Allocator + Copy>(
 ) -> Result<Vec<Vec<State<A>, A>, A>, AllocError>
     ensures sized { IfOk result (λ v. length v.items ≡ length opening.now) }
     ensures first { IfOk result (λ v. (w : ℕ) → w < length opening.now
-        → states_of v.items w ≡ record { word = slice_index opening.now w; effects = [] } ∷ []) }
+        → states_of v.items w
+        ≡ record { word = slice_index opening.now w; effects = []; seen = [] } ∷ []) }
 {
     let mut words = Vec::new(alloc);
     for i in 0..opening.len() {

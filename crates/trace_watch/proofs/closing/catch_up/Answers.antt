@@ -1,4 +1,4 @@
-use Rattle.std.proofs.Common.{◌<◌, List, length, sym, subst, arith}
+use Rattle.std.proofs.Common.{◌<◌, length, arith}
 use Rattle.std.proofs.lemmas.Result.{err_from_is_err_and}
 use Rattle.trace_watch.specs.States.{configs_of}
 use Rattle.trace_watch.proofs.Crowding.{catching_gives_up}

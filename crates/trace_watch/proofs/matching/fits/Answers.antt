@@ -1,6 +1,6 @@
 use Rattle.std.proofs.Common.{◌<◌, length, arith}
 use Rattle.std.proofs.lemmas.Option.{slice_get-get_or}
-use Rattle.trace_watch.proofs.Fitting.{fitting_none, fitting_taken, fitting_stuck, fitting_all}
+use Rattle.trace_watch.proofs.Fitting.{fitting_none, fitting_taken}
 use Rattle.trace_watch.proofs.matching.fits.Goals as goal
 
 pub loop-i-init : goal.loop-i-init

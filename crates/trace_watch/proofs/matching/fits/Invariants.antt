@@ -1,4 +1,3 @@
-use Rattle.std.proofs.Common.{refl}
 use Rattle.trace_watch.proofs.Fitting.{Fitting}
 use Rattle.trace_watch.proofs.matching.fits.Given as goal
 

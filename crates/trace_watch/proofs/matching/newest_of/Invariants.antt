@@ -1,4 +1,3 @@
-use Rattle.std.proofs.Common.{refl}
 use Rattle.trace_watch.proofs.Fitting.{NewestBelow}
 use Rattle.trace_watch.proofs.matching.newest_of.Given as goal
 

@@ -1,7 +1,7 @@
 use Rattle.std.proofs.Common.{◌≡◌, ◌<◌, ◌+◌, ◌-◌, List, length, refl, sym, subst, arith}
 use Rattle.std.proofs.lemmas.Option.{slice_get-get_or}
 use Rattle.trace_laws.specs.declared.event.Call.{Call}
-use Rattle.trace_watch.proofs.Fitting.{Newest, newest_none, newest_pushed, newest_kept, newest_all}
+use Rattle.trace_watch.proofs.Fitting.{Newest, newest_none, newest_pushed, newest_kept}
 use Rattle.trace_watch.proofs.matching.newest_of_each.Goals as goal
 use Rattle.trace_watch.proofs.matching.newest_of_each.Goals.{then-not-has_as_new+in_ok-push, else-not-has_as_new}
 

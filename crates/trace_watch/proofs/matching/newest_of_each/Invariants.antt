@@ -1,4 +1,3 @@
-use Rattle.std.proofs.Common.{refl}
 use Rattle.trace_watch.proofs.Fitting.{Newest}
 use Rattle.trace_watch.proofs.matching.newest_of_each.Given as goal
 

@@ -1,4 +1,3 @@
-use Rattle.std.proofs.Common.{refl}
 use Rattle.std.proofs.lemmas.Result.{err_from_is_err_and}
 use Rattle.trace_watch.specs.States.{configs_of}
 use Rattle.trace_watch.proofs.Few.{few_read_found}

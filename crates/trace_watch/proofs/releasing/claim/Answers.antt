@@ -1,4 +1,4 @@
-use Rattle.std.proofs.Common.{length, refl, arith}
+use Rattle.std.proofs.Common.{length, refl}
 use Rattle.std.proofs.lemmas.Option.{slice_get_read}
 use Rattle.trace_watch.specs.States.{configs_of}
 use Rattle.trace_watch.proofs.Gathering.{claim_none, claim_stuck, claim_one}
@@ -19,8 +19,8 @@ returns-then-not-enough-clause-gathers g c =
 pub returns-clause-gathers : goal.returns-clause-gathers
 returns-clause-gathers g c =
     let may = c.if-not-may_reply.ensures.yes refl in
-    claim_one c.args.calls.now c.args.call c.args.reply c.args.state.now c.in_ok-less.less c.args.at c.index-effect.result.now
-    c.deref.result.now (configs_of c.args.kept.now.items) (configs_of c.add.new.found.items)
+    claim_one c.args.calls.now c.args.call c.args.reply c.args.state.now c.in_ok-less.less c.in_ok-low.low c.args.at
+    c.index-effect.result.now c.deref.result.now (configs_of c.args.kept.now.items) (configs_of c.add.new.found.items)
     (slice_get_read c.args.state.now.effects.items (length c.args.state.now.effects.items) c.args.at c.index-effect.result.now refl
     c.requires.inside c.index-effect.ensures) may.0 may.1 c.in_ok-less.ensures c.deref.ensures.value
-    (c.in_ok-enough.ensures.yes c.if-not-enough.false) c.in_ok-add.ensures.added
+    (c.in_ok-enough.ensures.yes c.if-not-enough.false) c.in_ok-low.ensures c.in_ok-add.ensures.added

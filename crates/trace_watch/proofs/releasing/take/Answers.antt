@@ -16,8 +16,8 @@ returns-then-not-enough-clause-gathers g c =
 
 pub returns-clause-gathers : goal.returns-clause-gathers
 returns-clause-gathers g c =
-    take_one c.args.calls.now c.args.call c.args.reply _ _ c.args.state.now c.in_ok-next.next c.deref.result.now
-    (configs_of c.args.kept.now.items) (configs_of c.add.new.found.items)
+    take_one c.args.calls.now c.args.call c.args.reply _ _ c.args.state.now c.in_ok-next.next c.in_ok-low.low
+    c.deref.result.now (configs_of c.args.kept.now.items) (configs_of c.add.new.found.items)
     (ap (λ (p : ℕ × Reply). p.0) c.apply-word.ensures) (ap (λ (p : ℕ × Reply). p.1) c.apply-word.ensures)
-    (c.if-not-same_reply.ensures.yes refl) c.in_ok-next.ensures c.deref.ensures.value (c.in_ok-enough.ensures.yes c.if-not-enough.false)
-    c.in_ok-add.ensures.added
+    (c.if-not-same_reply.ensures.yes refl) c.in_ok-next.ensures c.deref.ensures.value
+    (c.in_ok-enough.ensures.yes c.if-not-enough.false) c.in_ok-low.ensures c.in_ok-add.ensures.added

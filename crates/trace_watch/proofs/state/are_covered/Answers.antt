@@ -1,6 +1,4 @@
-use Rattle.std.proofs.Common.{◌<◌, length, refl, arith}
-use Rattle.std.proofs.lemmas.Option.{slice_get-get_or}
-use Rattle.trace_watch.proofs.Covering.{covered_long, covering_none, covering_more, covering_not, covering_all}
+use Rattle.trace_watch.proofs.Compared.{covered_long, covering_none}
 use Rattle.trace_watch.proofs.state.are_covered.Goals as goal
 
 pub loop-i-init : goal.loop-i-init

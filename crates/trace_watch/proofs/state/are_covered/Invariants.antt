@@ -1,5 +1,4 @@
-use Rattle.std.proofs.Common.{refl}
-use Rattle.trace_watch.proofs.Covering.{Covering}
+use Rattle.trace_watch.proofs.Compared.{Covering}
 use Rattle.trace_watch.proofs.state.are_covered.Given as goal
 
 abbrev pub invariant-loop-i : goal.invariant-loop-i

@@ -1,4 +1,0 @@
-use Rattle.std.proofs.Common.{◌<◌, length, refl, sym, arith}
-use Rattle.std.proofs.lemmas.Option.{slice_get-get_or}
-use Rattle.trace_watch.proofs.Covering.{spot_on, spot_here, spot_end}
-use Rattle.trace_watch.proofs.state.spot.Goals as goal

@@ -5,5 +5,5 @@ use Rattle.trace_watch.proofs.watch.first_words.Given as goal
 abbrev pub invariant-loop-i : goal.invariant-loop-i
 invariant-loop-i g l = record {
   sized : length l.words.items ≡ l.i;
-  first : (w : ℕ) → w < l.i → states_of l.words.items w ≡ record { word = get_or l.opening w 0; effects = [] } ∷ [];
+  first : (w : ℕ) → w < l.i → states_of l.words.items w ≡ record { word = get_or l.opening w 0; effects = []; seen = [] } ∷ [];
 }
