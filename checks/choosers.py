@@ -68,7 +68,8 @@ class Routers:
     def choose(self, r: int, goal: int, ys: List[int], stays: bool = False) -> None:
         """The same choices behind each channel into a router; but behind escapes only escapes, if packets stay on them."""
         for x in self.into[r]:
-            kept = [y for y in ys if y in self.net.marks] if stays and x in (self.net.marks or ()) else ys
+            marks = self.net.marks or set()
+            kept = [y for y in ys if y in marks] if stays and x in marks else ys
             self.net.choose(x, self.count + goal, [self.count + goal] if r == goal else kept)
 
 

@@ -1,7 +1,10 @@
 """The numbers that documents state and that checks/documents counts in the tree."""
-import re
+from __future__ import annotations
 
-from tree import BLOCK, lines_in, read
+import re
+from typing import Callable
+
+from tree import BLOCK, Tree, lines_in, read
 
 README, CONTRIBUTING = "README.md", "CONTRIBUTING.md"
 TOUR, LIBRARY, ARCHITECTURE = "docs/TOUR.md", "docs/LIBRARY.md", "docs/ARCHITECTURE.md"
@@ -11,55 +14,55 @@ BOTH = (README, CONTRIBUTING)
 INSIDE = (CONTRIBUTING, ARCHITECTURE, DECISIONS)
 GATED = ("must-fail", "must-fail-in-batches")  # where the edits stand that the gate tries
 FURTHER = ("wrong-bodies",)  # and those that checks/wrong_bodies alone tries
-IN_WORDS = """no one two three four five six seven eight nine ten eleven twelve thirteen fourteen fifteen sixteen
+UP_TO_TWENTY = """no one two three four five six seven eight nine ten eleven twelve thirteen fourteen fifteen sixteen
     seventeen eighteen nineteen twenty""".split()
-IN_WORDS = {**{word: k for k, word in enumerate(IN_WORDS)}, "fifty": 50}
+IN_WORDS = {**{word: k for k, word in enumerate(UP_TO_TWENTY)}, "fifty": 50}
 
 
-def variants(path, name):
+def variants(path: str, name: str) -> int:
     """How many variants an enum has, or how many constructors a type of definitions."""
     text = read(path)
     if path.endswith(".rt"):
         body = next(body for kind, head, body in BLOCK.findall(text) if kind == "enum" and re.match(rf" {name}\b", head))
         return len(re.findall(r"(?m)^    (\w+)(?:\(.*\)|\s*\{.*\})?,", body))
-    body = re.search(rf"(?ms)^pub data {name} .*?where\n(.*?)(?:^\S|\Z)", text)[1]
-    return len(re.findall(r"(?m)^  (\w+) :", body))
+    found = re.search(rf"(?ms)^pub data {name} .*?where\n(.*?)(?:^\S|\Z)", text)
+    return len(re.findall(r"(?m)^  (\w+) :", found[1])) if found else 0
 
 
-def stands(path, number):
+def stands(path: str, number: int) -> int | None:
     """The number, where it stands in the file by itself; else None."""
     return number if re.search(rf"(?<![\w.]){number}(?![\w.])", read(path)) else None
 
 
-def calls_for_c(tree):
+def calls_for_c(tree: Tree) -> int:
     return sum(len(re.findall(r'pub (?:unsafe )?extern "C" fn torusmem_', read(it))) for it in tree.by_file)
 
 
-def trusted(crate, within=""):
+def trusted(crate: str, within: str = "") -> list[str]:
     """The C functions that docs/trusted.txt lists of a crate, but those by which it has threads."""
     rows = [it.split() for it in read("docs/trusted.txt").splitlines() if not it.startswith("#")]
     return [it[1] for it in rows if len(it) == 2 and it[0] == crate and it[1].startswith(within)]
 
 
-def threads(crate):
+def threads(crate: str) -> list[str]:
     """Those by which it has threads."""
     rows = [it.split() for it in read("docs/trusted.txt").splitlines() if not it.startswith("#")]
     return [it[2] for it in rows if it[:2] == [crate, "thread"]]
 
 
-def both(tree, kinds):
+def both(tree: Tree, kinds: tuple[str, ...]) -> int:
     """How many edits stand in these folders."""
     return tree.edits(kinds, True) + tree.edits(kinds, False)
 
 
-def tests(tree):
+def tests(tree: Tree) -> int:
     """How many tests stand below tests/."""
     return sum(len(re.findall(r"(?m)^#\[test\]$", read(it))) for it in tree.files if it.startswith("tests/") and it.endswith(".rattle"))
 
 
 # Each: the pages of which exactly one has the sentence, once; its words with one group for the number (digits or a
 # word); and how it is counted. A row whose sentence is gone for good leaves this table.
-NUMBERS = [
+NUMBERS: list[tuple[tuple[str, ...], str, Callable[[Tree], int | None]]] = [
     (BOTH, r"tries (\d+) edits", lambda t: both(t, GATED)),
     (BOTH, r"has (\d+) tests of public calls", tests),
     (BOTH, r"Another (\d+) wrong bodies", lambda t: t.edits(FURTHER, False)),

@@ -1,9 +1,11 @@
 """The documents line by line, and what a word in backticks of one of them names in the tree; for checks/documents."""
+from __future__ import annotations
+
 import os
 import re
 
 from sources import own_path
-from tree import SKIPPED, read
+from tree import SKIPPED, Tree, read
 
 MADE = {"./golden", "./rounds", "./clocked"}  # programs that commands of the documents make
 SUFFIXES = ".rt .antt .rattle .md .txt .svg .h .c .cpp .v .rs .py .edit .json .csv .toml .a".split()
@@ -17,12 +19,12 @@ EXCEPTED = {word for words in EXCEPTIONS.values() for word in words.split()}
 LINK = re.compile(r"(?<!!)\[[^\]]*\]\(([^)\s]+)\)|!\[[^\]]*\]\(([^)\s]+)\)")
 
 
-def is_path(word):
+def is_path(word: str) -> bool:
     """Whether a word is written as the path of a file or folder."""
     return bool(re.fullmatch(r"[\w.*-]+(/[\w.*-]+)*/?", word)) and ("/" in word or os.path.splitext(word)[1] in SUFFIXES)
 
 
-def anchor(heading):
+def anchor(heading: str) -> str:
     """How a link names a heading."""
     return re.sub(r"[^\w -]", "", heading.lower()).replace(" ", "-")
 
@@ -30,16 +32,19 @@ def anchor(heading):
 class Line:
     """A line of a document: its number, the heading above it, its block (None outside), and what it speaks of."""
 
-    def __init__(self, number, text, heading, block):
+    def __init__(self, number: int, text: str, heading: str, block: str | None) -> None:
         self.number, self.text, self.heading, self.block = number, text, heading, block
         # what is imported from std isn't looked up
         self.words = re.findall(r"`([^`\n]+)`", text) if block is None and "`Rattle.std." not in text else []
 
 
 class Document:
-    def __init__(self, path):
-        self.path, self.lines, self.headings = path, [], []
-        heading, block = "", None
+    def __init__(self, path: str) -> None:
+        self.path = path
+        self.lines: list[Line] = []
+        self.headings: list[str] = []
+        heading = ""
+        block: str | None = None
         for number, text in enumerate(read(path).split("\n"), 1):
             if text.startswith("```"):
                 block = (text[3:].strip() or "text") if block is None else None
@@ -53,7 +58,7 @@ class Document:
 class Names:
     """The documents, and the names that they may use: those of the tree, of scripts, of commands and of C."""
 
-    def __init__(self, tree):
+    def __init__(self, tree: Tree) -> None:
         self.tree = tree
         # The page of an archive speaks of the paths there.
         pages = [it for it in self.tree.files if it.endswith(".md") and not it.startswith("packaging/archive/")]
@@ -65,14 +70,14 @@ class Names:
         self.flags |= {f"--{it}" for path in self.tree.by_file if "/command_line/" in path
                        for it in re.findall(r'"([a-z]+)"', read(path))}
 
-    def has_path(self, word, folders):
+    def has_path(self, word: str, folders: list[str]) -> bool:
         """Whether a path leads somewhere, from the top or from one of the folders that are spoken of."""
         if SKIPPED & set(word.split("/")):
             return True  # it is built, and not kept
         word = re.sub(r"\bNAME\b", "*", word)
         return any(self.tree.has(f"{it}/{word}{end}" if it else word + end) for it in ["", "crates", *folders] for end in ("", ".antt"))
 
-    def why_no_command(self, words, folders):
+    def why_no_command(self, words: str, folders: list[str]) -> str:
         at = re.match(r"\(?cd ([\w./-]+)", words)
         folders = folders + [at[1]] if at else folders
         plain = re.sub(r"-?-o \S+|>\s*\S+", "", words)  # what a command writes needn't be there
@@ -82,7 +87,7 @@ class Names:
         bad += [it for it in re.findall(r"(?<![\w-])--[a-z][a-z-]*", words) if own and it not in self.flags]
         return f"there is no {bad[0]}" if bad else ""
 
-    def why_no_member(self, names):
+    def why_no_member(self, names: list[str]) -> str:
         first, last = names[0], names[-1]
         if first in self.tree.needs and len(names) > 2 and names[-2] in self.tree.members:
             good = names[-2] in self.tree.names[first] and last in self.tree.members[names[-2]]
@@ -95,7 +100,7 @@ class Names:
             return "" if last in self.tree.members[first] else f"{first} has no {last}"
         return "there is no such type or crate"
 
-    def why_no_module(self, word):
+    def why_no_module(self, word: str) -> str:
         """Of a whole name of definitions, as `Rattle.a.specs.M` or with `.{n}` behind it, also where `a` passes it on."""
         module, _, names = word.partition(".{")
         parts = [it for it in own_path(module).split(".")[1:] if it != "specs"]
@@ -105,7 +110,7 @@ class Names:
         bad = [it for it in re.findall(r"\w+", names) if it not in known]
         return "" if known and not bad else "there are no such definitions"
 
-    def why_not(self, word, crates, folders, inner):
+    def why_not(self, word: str, crates: list[str], folders: list[str], inner: bool) -> str:
         """Why a word names nothing of the tree; empty where it does, or where it is no name."""
         if re.search(r"\s", word):
             return self.why_no_command(word, folders)

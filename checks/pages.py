@@ -1,7 +1,10 @@
 """The pages that tools/reading prints, whole or a part of them, for checks/documents."""
+from __future__ import annotations
+
 import re
 import subprocess
 import sys
+from typing import Iterator
 
 from tree import ROOT, read
 
@@ -10,13 +13,13 @@ THEOREM, ARCHITECTURE = "docs/THEOREM.md", "docs/ARCHITECTURE.md"  # the end of 
 TABLE = ("<!-- crates: printed by tools/reading --crates -->", "<!-- end -->")  # around the table of crates in the second
 
 
-def printed(*words):
+def printed(*words: str) -> str:
     """What tools/reading prints."""
     made = subprocess.run([sys.executable, f"{ROOT}/tools/reading", *words], stdout=subprocess.PIPE, check=True)
     return made.stdout.decode("utf-8")
 
 
-def printed_pages():
+def printed_pages() -> Iterator[tuple[str, str, str]]:
     """Each page that a script prints, or of which it prints a part: what it must say, or why that can't be made."""
     for path, flag in PRINTED.items():
         yield path, printed(flag), ""

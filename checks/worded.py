@@ -3,7 +3,7 @@ from __future__ import annotations
 
 import copy
 from collections import Counter
-from typing import Iterator
+from typing import Callable, Iterator
 
 import clocked
 import drawn
@@ -18,7 +18,7 @@ def turned(shape: replay.Shape, number: int) -> Iterator[clocked.Attempt]:
 
 def moves(machine: replay.Machine, number: int, _: replay.Begins) -> list[str]:
     """Makes the clocked round of this number as docs/FORMATS.md words it, and answers the lines of its moves."""
-    twin = lambda: copy.deepcopy(machine, {id(machine.shape): machine.shape})
+    twin: Callable[[], replay.Machine] = lambda: copy.deepcopy(machine, {id(machine.shape): machine.shape})
     enabled, tried = [], twin()
     for attempt in turned(machine.shape, number):
         if tried.step(*attempt, number):
@@ -33,12 +33,13 @@ def stages(case: drawn.Case, schedule: str) -> int:
     for number, attempts in replay.schedule_of(schedule.encode("ascii")).rounds:
         gone: Counter[replay.Flit | None] = Counter()
         for agent, choice, port in attempts:
-            at = (machine.processors, machine.routers, machine.banks)[agent % 3][agent // 3]
-            flit = at.latches[port] if choice == "put" else None
+            tile, router = agent // 3, machine.routers[agent // 3]
+            end: replay.Processor | replay.Bank = machine.banks[tile] if agent % 3 == 2 else machine.processors[tile]
+            flit = router.latches[port] if choice == "put" else None
             if choice == "take":
-                flit = (at.inputs[port] if agent % 3 == 1 else at.input).flits[0]
+                flit = (router.inputs[port] if agent % 3 == 1 else end.input).flits[0]
             machine.step(agent, choice, port, number)
-            gone[at.output.flits[-1] if choice == "send" else flit] += 1
+            gone[end.output.flits[-1] if choice == "send" else flit] += 1
         del gone[None]
         most = max(most, *gone.values(), 0)
     return most

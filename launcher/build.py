@@ -295,8 +295,8 @@ class Build:
         out = f"{run.folder}/out"
         if is_proved:
             file, mark = self.mark_of(run.name, run.folder)
-            with open(file, "w", encoding="utf-8") as it:
-                it.write(mark)
+            with open(file, "w", encoding="utf-8") as marked:
+                marked.write(mark)
         elif os.path.isdir(out):
             for it in os.listdir(out):
                 if it != "incremental":
@@ -323,7 +323,8 @@ class Build:
         todo = [it for it in self.names if it not in self.done]
         uses = {it: [use for use in below(self.rows, it)[:-1] if use in todo] for it in todo}
         self.plan = Plan(uses, cores())
-        self.total, self.finished = len(todo), set[str]()
+        self.total = len(todo)
+        self.finished: set[str] = set()
         open(self.log_name, "wb").close()
         if todo:
             self.announce(todo)

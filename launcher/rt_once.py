@@ -46,7 +46,10 @@ def once(visit: Callable[[Any], Any]) -> Callable[[Any], Any]:
 def loaded(path: str) -> ModuleType:
     """The toolchain's `rt` as a module, with its visits replaced."""
     loader = importlib.machinery.SourceFileLoader("rt", path)
-    module = importlib.util.module_from_spec(importlib.util.spec_from_loader("rt", loader))
+    spec = importlib.util.spec_from_loader("rt", loader)
+    if spec is None:
+        raise ImportError(path)
+    module = importlib.util.module_from_spec(spec)
     loader.exec_module(module)
     crate = module.rtlib.Crate
     for name in VISITS:
@@ -62,7 +65,7 @@ def main(words: list[str]) -> int:
     sys.dont_write_bytecode = True
     sys.argv = [place, *words]
     try:
-        run = loaded(os.path.realpath(place)).main
+        run: Callable[[list[str]], int] = loaded(os.path.realpath(place)).main
     except (SyntaxError, ValueError, ImportError, AttributeError, OSError):
         os.execv(place, [place, *words])
     return run(words)

@@ -285,7 +285,7 @@ def unread(job: Job) -> Answer | None:
                 elif stat.S_ISDIR(kind):
                     why = WHY[errno.EISDIR]
             except (OSError, ValueError) as fault:
-                why = WHY.get(getattr(fault, "errno", None))
+                why = WHY.get(getattr(fault, "errno", None) or 0)
         if why != "":
             is_told = why and (job.is_explained or os.isatty(2))
             return Answer(f"cannot read {name}\n" + (f"{name}: {why}\n" if is_told else ""), 1)

@@ -151,7 +151,7 @@ class Walk:
             if rank is None:
                 return f"round {j} {self.first_round(j, comes)}"
             far: Dict[int, int] = {}
-            for x in sorted(comes, key=lambda it: -rank[it]):
+            for x in sorted(comes, key=rank.__getitem__, reverse=True):
                 far[x] = 1 + max((far[y] for y in self.after(x, j)), default=0)
             most = max([most, *(far[i] for i in self.starts[j])])
         return f"bounded {most}"

@@ -8,7 +8,7 @@ from collections import Counter
 from dataclasses import dataclass
 from itertools import accumulate, groupby
 from operator import itemgetter
-from typing import Any, Dict, List, Optional, Set, Tuple
+from typing import Any, Callable, Dict, List, Optional, Set, Tuple
 
 import command
 import exchange
@@ -70,7 +70,7 @@ class Verdict:
 
     def told(self) -> str:
         """The line of a good trace."""
-        many = lambda count, name: f"{count} {name}{'' if count == 1 else 's'}"
+        many: Callable[[int, str], str] = lambda count, name: f"{count} {name}{'' if count == 1 else 's'}"
         parts = f"{many(self.served, 'operation')} on {many(self.words, 'word')}, in {many(self.pieces, 'report')}"
         return f"good trace: {parts}\n"
 
@@ -85,7 +85,8 @@ def chunks_of(found: Table, processes: int) -> List[Chunk]:
         end = found.text.find(b"\n", min(end + CHUNK, len(found.text))) + 1 or len(found.text)
         ends.append(end)
     parts = list(zip([start, *ends], ends))
-    counts = jobs.answers(lambda part: found.text[part[0] : part[1]].count(b"\n"), parts, processes)
+    count: Callable[[Tuple[int, int]], Any] = lambda part: found.text[part[0] : part[1]].count(b"\n")
+    counts = jobs.answers(count, parts, processes)
     lines = accumulate(counts, initial=1)
     return [Chunk(number, *part, before) for number, (part, before) in enumerate(zip(parts, lines))]
 
@@ -130,7 +131,7 @@ class Check:
     def read(self, chunk: Chunk) -> Read:
         """Reads a chunk, and spreads it over its files."""
         rows = self.rows_of(chunk)
-        place = lambda name: os.path.join(self.judge.folder, f"{name}-{chunk.number}")
+        place: Callable[[str], str] = lambda name: os.path.join(self.judge.folder, f"{name}-{chunk.number}")
         served = len(rows.served)
         sort(rows.served)
         spread = exchange.spread(rows.served, self.borders, place("rows"))
@@ -174,7 +175,7 @@ class Check:
         addresses = [address for address, _ in groupby(rows, itemgetter(ADDRESS))]
         count = len(addresses) - (bool(pieces) and pieces[0].before is not None)
         given = [it for it in addresses if it in self.given]
-        return min(faults, key=place_of, default=None), len(pieces), count, given
+        return first_of(faults), len(pieces), count, given
 
     def untouched(self, touched: Set[int]) -> List[Fault]:
         """The words that no operation is on, and that end as others than they open."""
@@ -205,7 +206,7 @@ class Check:
             touched.update(given)
         faults += self.untouched(touched)
         served, unserved = sum(it.served for it in self.reads), sum(it.unserved for it in self.reads)
-        return Verdict(min(faults, key=place_of, default=None), served, unserved, words, pieces)
+        return Verdict(first_of(faults), served, unserved, words, pieces)
 
 
 def sort(rows: List[table.Row]) -> None:
@@ -215,6 +216,6 @@ def sort(rows: List[table.Row]) -> None:
     rows.sort(key=itemgetter(ADDRESS))
 
 
-def place_of(fault: Fault) -> Tuple[int, int, int]:
-    """Where a fault stands among others."""
-    return fault.place
+def first_of(faults: List[Fault]) -> Optional[Fault]:
+    """The first of some faults, where there are."""
+    return min(faults, key=lambda it: it.place) if faults else None

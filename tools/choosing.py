@@ -3,7 +3,7 @@ from __future__ import annotations
 
 import math
 from collections import deque
-from typing import Callable, Dict, Iterable, List, Tuple
+from typing import Callable, Dict, Iterable, List, Set, Tuple
 
 from command import Refusal
 from places import grid, torus_router
@@ -12,6 +12,8 @@ from walked import Network, Router, number_of
 # Directions of a mesh: east, west, north (the row number falls), south.
 STEPS = {"E": (1, 0), "W": (-1, 0), "N": (0, -1), "S": (0, 1)}
 Turn = Callable[[int, str, str], bool]
+# The channels of hops, by two routers or groups and a virtual channel.
+Hops = Dict[Tuple[int, int, int], int]
 
 
 def ends(net: Network, routers: Iterable[int]) -> Tuple[Dict[int, int], Dict[int, int]]:
@@ -120,7 +122,8 @@ def adaptive_torus(radices: List[int]) -> Network:
     into = inputs(net, inject)
     for r in range(tiles):
         for goal in range(tiles):
-            chosen, escape = [], []
+            chosen: List[int] = []
+            escape: List[int] = []
             for d, k in enumerate(radices):
                 here, there = r // weight[d] % k, goal // weight[d] % k
                 ahead = (there - here) % k
@@ -150,7 +153,7 @@ def fat_tree(arity: int, levels: int) -> Network:
                 t = s + (c - s // arity**level % arity) * arity**level
                 up[level, s, c] = net.channel("hop", level * width + s, (level + 1) * width + t)
                 down[level + 1, t, s // arity**level % arity] = net.channel("hop", (level + 1) * width + t, level * width + s)
-    into = {}
+    into: Dict[int, List[Tuple[int, bool]]] = {}
     for x, link in net.links.items():
         if net.kinds[x] != "eject":
             into.setdefault(link.end, []).append((x, link.start > link.end))
@@ -199,7 +202,7 @@ def up_down(links: Dict[int, List[int]], nodes: Dict[int, int]) -> Network:
     return net
 
 
-def ahead(links: Dict[int, List[int]], climbs: Dict[Tuple[int, int], bool], falls: set, hops: Dict[Tuple[int, int], int],
+def ahead(links: Dict[int, List[int]], climbs: Dict[Tuple[int, int], bool], falls: Set[int], hops: Dict[Tuple[int, int], int],
           r: int, last: int, may_climb: bool) -> List[int]:
     """The hops from a router that lead on to another: down where it is below, else up."""
     if r == last:
@@ -234,7 +237,8 @@ def dragonfly(size: int) -> Network:
     return net
 
 
-def leave(local: Dict, world: Dict, door: Dict, r: int, goal: int, out: Iterable[int], level: int, size: int, eject: Dict, stays: bool = False) -> List[int]:
+def leave(local: Hops, world: Hops, door: Dict[Tuple[int, int], int], r: int, goal: int, out: Iterable[int], level: int, size: int,
+          eject: Dict[int, int], stays: bool = False) -> List[int]:
     """The choices at a router of a dragonfly: within the home group, or out of this one to one of these groups."""
     g = r // size
     if g == goal // size:

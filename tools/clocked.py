@@ -5,11 +5,11 @@ Of a router the puts begin at the input whose turn it is: the number of rounds b
 """
 from __future__ import annotations
 
-from typing import Iterator
+from typing import Iterator, Tuple
 
 import replay
 
-Attempt = tuple[int, str, int]
+Attempt = Tuple[int, str, int]
 
 
 def of_processor(machine: replay.Machine, at: replay.Processor, begins: replay.Begins) -> Iterator[str]:

@@ -2,7 +2,7 @@
 from __future__ import annotations
 
 import itertools
-from typing import Any, Iterator
+from typing import Any, Dict, Iterator
 
 import drawing
 import palette
@@ -14,12 +14,17 @@ COLOURS.update({"neighbour": palette.SKY, "tornado": palette.PURPLE, "hot-spot":
 MARKS = {"uniform": "disc", "transpose": "square", "bit-complement": "up", "neighbour": "diamond", "tornado": "down", "hot-spot": "cross"}
 DASHES = (None, "5 2", "1.5 2", "7 2 1.5 2")
 SIGNS = ("hollow: saturated; at the top edge: above it", "bars: 95 % intervals over the seeds", "short thick line at the left: latency without load")
-Row = dict[str, Any]
+Row = Dict[str, Any]
 
 
 def round_step(most: float, wanted: int) -> float:
     """A round number, so that at most so many of it are the greatest one."""
     return next(f * 10.0**p for p in range(-6, 9) for f in (1, 2, 5) if f * 10.0**p * wanted >= most)
+
+
+def shown(x: float) -> str:
+    """A number of an axis."""
+    return f"{x:.6f}".rstrip("0").rstrip(".")
 
 
 class Panel:
@@ -39,7 +44,6 @@ class Panel:
     def axes(self, name: str, has_numbers: bool) -> Iterator[str]:
         """The lines, the numbers and the name of the axes; the numbers below only where they are wanted."""
         low, right, size = self.top + self.high, self.left + self.wide, self.letters
-        shown = lambda it: f"{it:.6f}".rstrip("0").rstrip(".")
         for count in range(round(self.ends[0] / self.steps[0]) + 1):
             x, _ = self.at(count * self.steps[0], 0)
             yield drawing.element("path", d=drawing.path([(x, self.top), (x, low)]), stroke=drawing.INK if not count else palette.GRID, stroke_width=0.6)

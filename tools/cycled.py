@@ -3,7 +3,7 @@ from __future__ import annotations
 
 import math
 from dataclasses import dataclass, field
-from typing import Dict, List, Optional, Tuple
+from typing import Callable, Dict, List, Optional, Tuple
 
 import drawing
 import paper
@@ -221,7 +221,7 @@ class Plan:
         if a == b and not sides:
             middle, is_down = one.x + one.wide / 2, one.y < other.y
             return [(middle, one.y + one.high() if is_down else one.y), (middle, other.y if is_down else other.y + other.high())]
-        border = lambda box, side: box.x if side < 0 else box.x + box.wide
+        border: Callable[[Box, int], float] = lambda box, side: box.x if side < 0 else box.x + box.wide
         if not sides:
             return [(border(one, b - a), out), (border(other, a - b), into)]
         first = self.lane(*sides[0])

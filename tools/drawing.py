@@ -18,7 +18,7 @@ def short(x: float) -> str:
     return f"{x:.2f}".rstrip("0").rstrip(".")
 
 
-def element(name: str, inside: str = "", **attributes: object) -> str:
+def element(name: str, inside: str = "", /, **attributes: object) -> str:
     """An element; `_` in a name of an attribute stands for `-`, and attributes of None are left out."""
     text = f"<{name}"
     for key, it in attributes.items():

@@ -5,6 +5,7 @@ The numbers come from the generator below and nothing else, so that a seed draws
 from __future__ import annotations
 
 from dataclasses import dataclass, field, replace
+from typing import TypeVar
 
 import report
 from operations import MASK
@@ -18,6 +19,7 @@ PATTERNS = ["uniform", "hot word", "hot bank", "neighbour", "transpose", "comple
 SIDES = range(2, 9)
 SHAPES = [[a] for a in SIDES] + [[a, b] for a in SIDES for b in SIDES]
 SHAPES += [[a, b, c] for a in SIDES for b in SIDES for c in SIDES if a * b * c <= report.MOST_TILES]
+Item = TypeVar("Item")
 
 
 class Numbers:
@@ -38,11 +40,11 @@ class Numbers:
         """A number below the limit."""
         return self.next() % limit
 
-    def among(self, items: list) -> object:
+    def among(self, items: list[Item]) -> Item:
         """One of the items."""
         return items[self.below(len(items))]
 
-    def order(self, items: list) -> list:
+    def order(self, items: list[Item]) -> list[Item]:
         """The items in a drawn order: Fisher and Yates, in the form of Durstenfeld, CACM 7(7), 1964."""
         made = list(items)
         for at in range(len(made) - 1, 0, -1):
@@ -188,7 +190,8 @@ def schedule(numbers: Numbers, case: Case) -> list[str]:
     while len(made) < room:
         kind = numbers.below(8)
         if kind < 4:
-            made += numbers.among(orders)
+            order = numbers.among(orders)
+            made += order
         elif kind == 4:
             starved = 3 * numbers.below(case.tiles())
             left_out = (f"{starved} ", f"{starved + 1} ", f"{starved + 2} ")

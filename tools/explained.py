@@ -177,6 +177,6 @@ def picture(text: bytes, path: str, first: int | None, last: int | None, tool: s
     trace = judge.trace({})
     read = traced.read(trace.text().encode("ascii"), path)
     read.times = {number: calls.times(it if it >= 0 else ~it)[it < 0] for number, it in enumerate(trace.events, 1)}
-    for it, at in zip(read.operations, (at for at in trace.events if at >= 0)):
-        it.lane = command.printable(f"{calls.who} {calls.processors[at]}")
+    for one, at in zip(read.operations, (at for at in trace.events if at >= 0)):
+        one.lane = command.printable(f"{calls.who} {calls.processors[at]}")
     return traced.drawn(read, traced.window_of(read, first, last), on, tool)

@@ -16,7 +16,7 @@ from events import Trace
 MOST = 20000
 # What a key holds and which open operations took effect; the state before, and the operation that led here, with the word found.
 Key = Tuple[int, int]
-Node = Tuple[Optional["Node"], int, int]  # type: ignore[misc]
+Node = Tuple[Optional["Node"], int, int]
 
 
 @dataclass

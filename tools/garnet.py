@@ -109,7 +109,8 @@ def routed(links: List[Tuple[int, int, int, str]], nodes: List[Tuple[str, int]],
     eject = [net.channel("eject", r, r) for _, r in nodes]
     for k, (name, _) in enumerate(nodes):
         net.names[inject[k]], net.names[eject[k]] = f"from {name}", f"to {name}"
-    hops, twice = [], {}
+    hops: List[int] = []
+    twice: Dict[Tuple[int, int], int] = {}
     for r, s, _, _ in links:
         hops.append(net.channel("hop", r, s, twice.setdefault((r, s), 0)))
         twice[r, s] += 1

@@ -6,7 +6,7 @@ from __future__ import annotations
 import json
 import re
 from dataclasses import dataclass, field
-from typing import Dict, Optional, Tuple
+from typing import Callable, Dict, Optional, Tuple
 
 import command
 import edn
@@ -229,6 +229,6 @@ def of_log(text: bytes, path: str, is_map: bool, is_hex: bool, progress: Progres
             raise command.Refusal(f"{path}, line {line}: {why}") from None
         if line % 4096 == 0:
             progress.say(f"{line} of {len(lines)} lines are read")
-    at = lambda line: f"line {line}" + "".join(f" at {it}" for it in TIME.findall(lines[line - 1])[:1]) if line else ""
+    at: Callable[[int], str] = lambda line: f"line {line}" + "".join(f" at {it}" for it in TIME.findall(lines[line - 1])[:1]) if line else ""
     log.calls.times = lambda it: (at(log.calls.issues[it]), at(log.calls.answers[it]))
     return log.calls

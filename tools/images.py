@@ -41,7 +41,8 @@ def memory_of(given: Namespace, limits: table.Limits) -> Memory:
     for word in given.init:
         if not isinstance(word, str):
             try:
-                add_word(opening, *word, limits, 0)
+                address, value = word
+                add_word(opening, address, value, limits, 0)
             except BadLine as why:
                 raise command.WrongWords(f"--init {' '.join(word)}: {why}") from None
     for word in given.init:

@@ -81,7 +81,8 @@ def in_order(pipes: List[connection.Connection], count: int) -> Iterator[Answer]
         while at not in early:
             if not pipes:
                 raise command.Refusal("a process was ended")
-            for pipe in connection.wait(pipes):
+            ready = connection.wait(pipes)
+            for pipe in [it for it in pipes if it in ready]:
                 try:
                     number, answer, why = pipe.recv()
                     early[number] = answer, why

@@ -9,10 +9,13 @@ from __future__ import annotations
 
 from collections import Counter
 from dataclasses import dataclass, field
+from typing import Tuple
 
 from drawn import Case
 from operations import written
 from report import Entry, Report
+# A service of a bank, or a fence of a processor: its kind, whose, and its number.
+Event = Tuple[str, int, int]
 
 
 class Wrong(Exception):
@@ -150,10 +153,10 @@ def check_one_order(
     scripts: dict[int, Followed], by_index: dict[int, dict[int, Entry]], entries: list[Entry]
 ) -> None:
     """There is an order of the services that keeps that of each bank and what waited: Kahn, CACM 5(11), 1962."""
-    behind: dict[tuple, list[tuple]] = {}
-    before: Counter = Counter()
+    behind: dict[Event, list[Event]] = {}
+    before: Counter[Event] = Counter()
 
-    def edge(one: tuple, other: tuple) -> None:
+    def edge(one: Event, other: Event) -> None:
         behind.setdefault(one, []).append(other)
         before[other] += 1
 
@@ -170,12 +173,12 @@ def check_one_order(
                 edge(("entry", mine[asked.after].bank, mine[asked.after].place), here)
         for fence in range(1, 1 + max((it.fences for it in scripts[processor].asked), default=0)):
             edge(("fence", processor, fence), ("fence", processor, fence + 1))
-    free = [it for it in behind if not before[it]]
+    free = [one for one in behind if not before[one]]
     while free:
-        for it in behind.pop(free.pop(), []):
-            before[it] -= 1
-            if not before[it]:
-                free.append(it)
+        for one in behind.pop(free.pop(), []):
+            before[one] -= 1
+            if not before[one]:
+                free.append(one)
     if behind:
         raise Wrong("order", "no order of the services keeps that of the banks, and what waited for answers")
 
@@ -201,7 +204,7 @@ def check_report(case: Case, found: Report, status: int) -> None:
         raise Wrong("order", "there are `order` lines" if has_order else "there are no `order` lines")
     if has_order:
         check_tags(case, found, is_finished)
-        for it in lines:
-            check_waits(it, scripts[it], by_index[it])
+        for at in lines:
+            check_waits(at, scripts[at], by_index[at])
     else:
         check_one_order(scripts, by_index, found.entries)

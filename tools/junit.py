@@ -54,7 +54,8 @@ def text_of(tool: str, path: str, cases: List[Case], seconds: float) -> bytes:
     for each in root.iter():
         each.tail = "\n"
         each.text = each.text or ("\n" if len(each) else None)
-    return ElementTree.tostring(root, encoding="utf-8", xml_declaration=True)
+    made: bytes = ElementTree.tostring(root, encoding="utf-8", xml_declaration=True)
+    return made
 
 
 def write(path: str, text: bytes) -> None:

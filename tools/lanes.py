@@ -3,7 +3,7 @@ is broken into pieces that stand below each other, as lines of a text do."""
 from __future__ import annotations
 
 from dataclasses import dataclass
-from typing import List, Optional, Tuple
+from typing import Callable, Iterator, List, Optional, Tuple
 
 import drawing
 import paper
@@ -108,7 +108,7 @@ def told(entry: report.Entry) -> str:
 
 def labels(bar: Bar) -> List[Tuple[float, str]]:
     """The texts in a bar, each with the place where it begins: what there is room for."""
-    fits = lambda said, room: len(said) * FONT * drawing.MONO_WIDTH + 8 <= room
+    fits: Callable[[str, float], bool] = lambda said, room: len(said) * FONT * drawing.MONO_WIDTH + 8 <= room
     entry, before, after = bar.entry, bar.service - bar.start, bar.end - bar.service
     asked, replied = entry.asked(), entry.replied()
     reply = [(bar.service + 5, replied)] if fits(replied, after) else []
@@ -126,9 +126,12 @@ def labels(bar: Bar) -> List[Tuple[float, str]]:
 def outline(bar: Bar) -> List[str]:
     """The border of a bar, open at an end that isn't shown, and dashed from the service on without an answer."""
     dark, low = palette.dark(palette.ink(bar.entry.bank)), bar.top + BAR
-    sides = lambda x, end: " ".join(drawing.path([(x, y), (end, y)]) for y in (bar.top, low))
-    across = lambda x: " " + drawing.path([(x, bar.top), (x, low)])
-    line = lambda d, **more: drawing.element("path", d=d, fill="none", stroke=dark, **more)
+    sides: Callable[[float, float], str] = lambda x, end: " ".join(drawing.path([(x, y), (end, y)]) for y in (bar.top, low))
+    across: Callable[[float], str] = lambda x: " " + drawing.path([(x, bar.top), (x, low)])
+
+    def line(d: str, **more: object) -> str:
+        return drawing.element("path", d=d, fill="none", stroke=dark, **more)
+
     is_answered = bar.entry.answered is not None
     solid = sides(bar.start, bar.end if is_answered else bar.service)
     solid += across(bar.start) if bar.shows_issue else ""
@@ -144,7 +147,7 @@ def outline(bar: Bar) -> List[str]:
 
 def drawn_bar(bar: Bar) -> str:
     """An operation: the halves of its bar before and after the service, the border, the texts, the tooltip."""
-    half = lambda x, end, light: drawing.element(
+    half: Callable[[float, float, float], str] = lambda x, end, light: drawing.element(
         "rect", x=x, y=bar.top, width=end - x, height=BAR, fill=palette.tint(palette.ink(bar.entry.bank), light)
     )
     after = 0.65 if bar.entry.answered is not None else 0.94
@@ -169,11 +172,8 @@ def named(scale: Scale, y: float, said: str) -> str:
 
 def step_of(scale: Scale) -> int:
     """How many events lie between two numbers of the axis, so that the numbers lie apart."""
-    for power in range(7):
-        for factor in (1, 2, 5):
-            if factor * 10**power * scale.step >= 48:
-                return factor * 10**power
-    return 10**7
+    steps: Iterator[int] = (factor * 10**power for power in range(7) for factor in (1, 2, 5))
+    return next((it for it in steps if it * scale.step >= 48), 10**7)
 
 
 def drawn_axis(scale: Scale, tops: List[float], low: float) -> List[str]:

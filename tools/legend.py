@@ -69,7 +69,7 @@ def head_of(net: Network, plan: Plan, verdict: Verdict) -> str:
 
 def turned(net: Network, plan: Plan, found: Found) -> List[Tuple[str, ...]]:
     """The rows of a table on a cycle of dependencies."""
-    rows = [("channel", "between", "packets to", "go on over", "and wait for")]
+    rows: List[Tuple[str, ...]] = [("channel", "between", "packets to", "go on over", "and wait for")]
     for x, edge, y in found.turns:
         to = "answers" if edge.to is None else f"{edge.to} ({name_of(net, plan, edge.to)})"
         rows.append((str(x), name_of(net, plan, x), to, " ".join(map(str, edge.over)), str(y)))
@@ -83,7 +83,7 @@ def say_cycle(found: Legend, net: Network, plan: Plan, verdict: Verdict) -> None
         found.say("channel of the cycle, with its number", sign_of(FULL, THICK))
     if verdict.held:
         ends = {x: f"{x} ({name_of(net, plan, x)})" for it in verdict.held for x in (it.start, it.end)}
-        rows = [("channel", "between", "full of packets", "waiting for")]
+        rows: List[Tuple[str, ...]] = [("channel", "between", "full of packets", "waiting for")]
         rows += [(str(it.channel), name_of(net, plan, it.channel), f"{ends[it.start]} to {ends[it.end]}", str(it.awaited)) for it in verdict.held]
         found.table(rows)
         found.say("full channel, with its number", sign_of(FULL, THICK))

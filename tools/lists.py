@@ -5,6 +5,7 @@ A module, not a tool: checks/documents compares the printed pages by it, and wri
 from __future__ import annotations
 
 import re
+from typing import Callable
 
 from contracts import Contract, contracts_in, files_of, modules_of
 from sources import comment_of, floors, purpose, sentence
@@ -75,7 +76,7 @@ def word_rows(crate: str) -> list[str]:
     return rows
 
 
-def by_crate(head: str, rows_of) -> str:
+def by_crate(head: str, rows_of: Callable[[str], list[str]]) -> str:
     """A page: a heading for each floor and one for each crate, where there are rows, and the rows."""
     page = [head, ""]
     for floor, crates in floors().items():

@@ -32,7 +32,8 @@ def colour(part: float) -> str:
 
 def step_of(most: int, wanted: int) -> int:
     """The least round number, of at most so many of which there are in the greatest one."""
-    return next(f * 10**p for p in range(12) for f in (1, 2, 5) if f * 10**p * wanted >= most)
+    step: int = next(f * 10**p for p in range(12) for f in (1, 2, 5) if f * 10**p * wanted >= most)
+    return step
 
 
 def told(rows: List[Row]) -> str:

@@ -5,7 +5,7 @@ from __future__ import annotations
 
 import re
 from dataclasses import dataclass, field
-from typing import Dict, Iterator, List, Optional, Tuple
+from typing import Callable, Dict, Iterator, List, Optional, Tuple
 
 import command
 import events
@@ -103,7 +103,7 @@ def row_of(said: Dict[str, str], line: int, counts: Dict[int, int], is_hex: bool
 def read(text: bytes, path: str, opening: Dict[int, int], is_hex: bool) -> Table:
     """The operations of a table. Refused with the first line that can't be understood."""
     rows = table.cut(table.with_commas(text, path), path)
-    columns = next(rows, (0, []))[1]
+    columns: List[str] = next((it for _, it in rows), [])
     if missing := [it for it in COLUMNS if it not in columns]:
         raise table.unnamed(path, missing, columns, [*COLUMNS, "order", "source"])
     found, counts = Table(), {}  # type: Table, Dict[int, int]
@@ -189,7 +189,7 @@ def by_value(it: Row, left: Dict[int, List[Optional[Row]]]) -> Optional[Row]:
 
 def judged(lines: List[Tuple[int, str]], path: str) -> Tuple[str, bool]:
     """What `torusmem model` says of the log, its lines as those of the table, and whether it obeys each model."""
-    at = lambda told: re.sub(r"\bline ([0-9]+)", lambda it: f"line {lines[int(it[1]) - 1][0]}", told)
+    at: Callable[[str], str] = lambda told: re.sub(r"\bline ([0-9]+)", lambda it: f"line {lines[int(it[1]) - 1][0]}", told)
     with command.kept("".join(f"{text}\n" for _, text in lines).encode("ascii")) as name:
         try:
             said = command.torusmem("model", name, fine=(0, 1)) or command.torusmem("model", name)
@@ -204,5 +204,5 @@ def cases_of(said: str, path: str) -> List[junit.Case]:
     lines = said.rstrip("\n").split("\n")
     models = [it.split(" ", 1) for it in lines if re.fullmatch("[a-z]+ (yes|no)", it)]
     cycle = lines[len(models) :]
-    why = lambda name: cycle if cycle and cycle[0].startswith(f"no order of {name}") else []
+    why: Callable[[str], List[str]] = lambda name: cycle if cycle and cycle[0].startswith(f"no order of {name}") else []
     return [junit.Case(f"{path}: {name}", int(it == "no"), f"{name} {it}", why(name)) for name, it in models]

@@ -105,10 +105,10 @@ class Machine:
 
     def end_round(self) -> None:
         """Counts for each channel the round at whose end a flit stands before it without a credit."""
-        for agents in (self.processors, self.routers, self.banks):
-            for agent in agents:
-                for channel in agent.blocked():
-                    channel.waited += 1
+        agents: list[Processor | Router | Bank] = [*self.processors, *self.routers, *self.banks]
+        for agent in agents:
+            for channel in agent.blocked():
+                channel.waited += 1
 
     def operations(self) -> list[Operation]:
         """All operations that are issued, by processor and index."""

@@ -2,7 +2,7 @@
 from __future__ import annotations
 
 import math
-from typing import Any, Dict, List, Optional, Tuple
+from typing import Any, Callable, Dict, List, Optional, Tuple
 
 import command
 import drawing
@@ -113,7 +113,7 @@ def standing(run: Simulation, stage: Stage, film: Film, depth: int) -> List[List
 
 def happened(courses: List[Course], now: int) -> List[str]:
     """What is begun and delivered in a round."""
-    told = lambda k, it: f"packet {k}, {it.size} flit{'s' * (it.size > 1)} from channel {it.start} to {it.end}"
+    told: Callable[[int, Packet], str] = lambda k, it: f"packet {k}, {it.size} flit{'s' * (it.size > 1)} from channel {it.start} to {it.end}"
     begun = [f"begun: {told(k, it.packet)}" for k, it in enumerate(courses) if it.begun == now]
     return begun + [f"delivered: {told(k, it.packet)}, latency {now - it.packet.round + 1}" for k, it in enumerate(courses) if it.delivered == now]
 

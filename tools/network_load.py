@@ -2,7 +2,7 @@
 from __future__ import annotations
 
 import math
-from typing import Any, Dict, List, Optional, Tuple
+from typing import Any, Callable, Dict, List, Optional, Tuple
 
 import drawing
 from columns import aligned
@@ -45,7 +45,7 @@ def summed(rows: List[Row]) -> List[Row]:
 def figures(net: Network, found: Delivered, top: int) -> Row:
     """All that is counted."""
     plan = plan_of(net)
-    rows = [{"channel": x, "kind": KINDS[net.kinds[x]], "name": name_of(net, plan, x), "flits": flits, "waited": waited}
+    rows: List[Row] = [{"channel": x, "kind": KINDS[net.kinds[x]], "name": name_of(net, plan, x), "flits": flits, "waited": waited}
             for x, (flits, waited) in enumerate(found.channels)]
     times = [it for it in map(times_of, found.sent) if it]
     hottest = sorted((it for it in rows if it["flits"]), key=lambda it: (-it["flits"], -it["waited"], it["channel"]))
@@ -57,7 +57,7 @@ def figures(net: Network, found: Delivered, top: int) -> Row:
 def table(made: Row) -> str:
     """What is counted, as text."""
     lines = [f"{len(made['channels'])} channels: {made['delivered']} of {made['packets']} packets delivered, {made['end']}"]
-    shown = lambda key, it: f"{it[key]:.2f}" if key == "mean" else str(it[key])
+    shown: Callable[[str, Row], str] = lambda key, it: f"{it[key]:.2f}" if key == "mean" else str(it[key])
     cells = [[TIMES[it], *(shown(key, of) for key in of)] for it, of in made["times"].items() if of]
     heads = ["rounds", "count", "least", "mean", "median", "p95", "p99", "greatest"]
     lines += ["", *aligned([heads, *cells])] if cells else []
@@ -74,6 +74,7 @@ def histograms(made: Row, given: Optional[Paper]) -> str:
         raise Refusal("no packet is delivered, so that there are no times to draw")
     said = f"{len(made['channels'])} channels: {len(of)} packets"
     parts = [drawing.text(12, 24, said, 11 if given else 14, font_weight="bold")]
+    ways: Tuple[Tuple[str, Callable[[Row], Any]], ...]
     ways = (("wait at the sender", lambda it: it["begun"] - it["round"]), ("from begun to delivered", lambda it: it["delivered"] - it["begun"] + 1),
             ("latency", lambda it: it["delivered"] - it["round"] + 1))
     for at, (heading, time) in enumerate(ways):

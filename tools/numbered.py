@@ -132,7 +132,7 @@ class Names:
 
     def shown_key(self, number: str) -> str:
         """A key as the text names it."""
-        return self.key_names.get(number) or self.spelled_keys.get(number, number)
+        return self.key_names.get(number, "") or self.spelled_keys.get(number, number)
 
     def shown(self, number: str) -> str:
         """A value as the text names it."""

@@ -9,7 +9,7 @@ from __future__ import annotations
 
 import itertools
 from dataclasses import dataclass
-from typing import Any
+from typing import Any, Callable
 
 import clocked
 import command
@@ -128,7 +128,7 @@ def measured(point: Point) -> Found:
 
 def found_of(point: Point, machine: replay.Machine, asks: list[list[int]]) -> Found:
     """What a run came to. A time counts the round in which an operation is asked for and that in which it is answered."""
-    within = lambda now: point.warm_up < now <= point.warm_up + point.window
+    within: Callable[[int], bool] = lambda now: point.warm_up < now <= point.warm_up + point.window
     answered = sum(it.answered is not None and within(it.answered) for it in machine.operations())
     times, is_drained = [], True
     for processor, rounds in zip(machine.processors, asks):

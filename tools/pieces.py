@@ -14,7 +14,7 @@ import os
 from dataclasses import dataclass, field, replace
 from itertools import chain, groupby, islice
 from operator import itemgetter
-from typing import Dict, Iterator, List, Optional, Tuple
+from typing import Dict, Final, Iterator, List, Optional, Tuple
 
 import command
 from operations import written
@@ -23,7 +23,9 @@ from table import Row, moment_text
 MOST_ENTRIES = 65536
 LATER_KINDS = {"and", "or", "xor", "max", "min"}
 BANKS = 64
-ADDRESS, SERVED, LINE = 0, 1, 2
+ADDRESS: Final = 0
+SERVED: Final = 1
+LINE: Final = 2
 
 
 @dataclass

@@ -19,11 +19,9 @@ from machine import Machine
 from rounds import Begins, Rounds, at_once, attempts, in_order, scheduled
 from tiles import Shape
 
-__all__ = [
-    *["Bank", "Channel", "Flit", "Machine", "Operation", "Processor", "Router", "Shape", "packet"],
-    *["Begins", "Rounds", "at_once", "attempts", "in_order", "scheduled"],
-    *["MOST_BYTES", "Schedule", "Texts", "case_of", "compare", "last", "replayed", "schedule_of"],
-]
+__all__ = ["Bank", "Channel", "Flit", "Machine", "Operation", "Processor", "Router", "Shape", "packet"]
+__all__ += ["Begins", "Rounds", "at_once", "attempts", "in_order", "scheduled"]
+__all__ += ["MOST_BYTES", "Schedule", "Texts", "case_of", "compare", "last", "replayed", "schedule_of"]
 # A schedule of the longest run: 241 moves for each of 65,536 operations, and a heading for each round.
 MOST_BYTES = 1 << 30
 HEADING = re.compile(rb"# round ([0-9]{1,20})")
@@ -115,9 +113,8 @@ def compare(machine: Machine, found: report.Report) -> None:
         for it in machine.operations()
         if it.answered is not None
     }
-    events = lambda it: (it.issued, it.served, it.answered)
     told = {
-        (it.source, it.index): (it.bank, it.kind, it.address, it.values, it.reply or 0, *events(it))
+        (it.source, it.index): (it.bank, it.kind, it.address, it.values, it.reply or 0, it.issued, it.served, it.answered)
         for it in found.entries
         if it.index is not None
     }

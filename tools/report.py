@@ -195,7 +195,7 @@ class Reader:
         found.index = number(index, 0, 4095, "an index")
 
     def order_line(self, bank: str, place: str, issued: str, served: str, answered: str) -> None:
-        event = lambda word: number(word, 1, MOST_EVENTS, "an event")
+        event: Callable[[str], int] = lambda word: number(word, 1, MOST_EVENTS, "an event")
         found = self.entry(bank, place)
         found.issued, found.served = event(issued), event(served)
         found.answered = None if answered == "-" else event(answered)

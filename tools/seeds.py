@@ -4,7 +4,7 @@ from __future__ import annotations
 import argparse
 import os
 import selectors
-from typing import Iterator, NoReturn
+from typing import Generator, NoReturn
 
 import command
 import drawn
@@ -46,7 +46,7 @@ def row_told(line: str) -> Row:
     return found
 
 
-def rows_made(seeds: list[int], given: argparse.Namespace, programs: trial.Programs, folder: str) -> Iterator[Row]:
+def rows_made(seeds: list[int], given: argparse.Namespace, programs: trial.Programs, folder: str) -> Generator[Row, None, None]:
     """Makes the runs of the seeds, so many at once as is asked, and answers their lines as they come."""
     pipes, children = selectors.DefaultSelector(), []
     try:

@@ -7,14 +7,15 @@ fault.
 """
 from __future__ import annotations
 
-from typing import Callable, Iterator
+from typing import Callable, Iterator, List, Tuple, TypeVar
 
 from drawn import Case
 
 Fails = Callable[[Case], bool]
+Item = TypeVar("Item")
 
 
-def without_parts(items: list, fails: Callable[[list], bool]) -> list:
+def without_parts(items: List[Item], fails: Callable[[List[Item]], bool]) -> List[Item]:
     """As few of the items as one comes to by leaving out parts, larger ones first."""
     size = max(1, len(items) // 2)
     while items:
@@ -125,7 +126,7 @@ def plainer(case: Case, fails: Fails) -> Case:
     return case
 
 
-def size(case: Case) -> tuple:
+def size(case: Case) -> Tuple[object, ...]:
     """What is compared of two runs."""
     texts = (case.lines, case.steps, case.opening, case.datelines, case.options)
     return (case.tiles(), len(case.radices), case.depth, case.tags, case.words, *texts)

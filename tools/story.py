@@ -66,7 +66,7 @@ class Story:
 
     def last_writer(self) -> Optional[Operation]:
         """The writer of the value whose issue is the last."""
-        return max(self.writers, key=lambda it: it.issued, default=None)
+        return max(self.writers, key=lambda it: it.issued) if self.writers else None
 
     def gone_after(self, writer: Optional[Operation]) -> Tuple[int, Optional[Operation], Optional[Operation]]:
         """When the value of a writer, or the opening word, was surely gone, who wrote over it, and who saw that it was gone."""

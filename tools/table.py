@@ -11,7 +11,7 @@ import csv
 import io
 import re
 from dataclasses import dataclass, field
-from typing import Iterator, List, Optional, Sequence, Tuple
+from typing import Callable, Iterator, List, Optional, Sequence, Tuple
 
 import command
 import headings
@@ -191,8 +191,8 @@ def entry_of(fields: list[str], limits: Limits) -> Entry | None:
     row = dict(zip(COLUMNS, fields))
     if not row["served"] and not row["answered"]:
         return None
-    tile = lambda name, word: literals.number(word, 0, limits.last_tile(), f"the {name}")
-    time = lambda name: moment(row[name], f"the time `{name}`")
+    tile: Callable[[str, str], int] = lambda name, word: literals.number(word, 0, limits.last_tile(), f"the {name}")
+    time: Callable[[str], int] = lambda name: moment(row[name], f"the time `{name}`")
     address = literals.number(row["address"], 0, limits.last_address(), "the address", limits.is_hex)
     kind = row["operation"]
     bank = tile("bank", row["bank"] or str(address % (limits.tiles or 1)))
@@ -208,7 +208,7 @@ def entry_of(fields: list[str], limits: Limits) -> Entry | None:
 
 def first_row(text: bytes, path: str) -> None:
     """Refuses a table whose first line doesn't name its columns."""
-    columns = next(cut(text, path), (0, []))[1]
+    columns: list[str] = next((it for _, it in cut(text, path)), [])
     if columns != COLUMNS:
         hint = headings.hint([it for it in COLUMNS if it not in columns], columns, COLUMNS)
         raise command.Refusal(f"{path}: the first line isn't {','.join(COLUMNS)}{hint}")

@@ -224,7 +224,8 @@ def of_table(text: bytes, path: str, is_strict: bool, is_hex: bool, progress: Pr
     calls = Calls(path)
     calls.names.is_hex = is_hex
     rows = table.cut(text, path)
-    first, columns = next(rows, (0, []))
+    none: tuple[int, list[str]] = (0, [])
+    first, columns = next(rows, none)
     if missing := [it for it in COLUMNS if it not in columns]:
         raise table.unnamed(path, missing, columns, table.COLUMNS)
     reader = Reader(calls, columns, b"." in text)

@@ -78,8 +78,8 @@ def is_trace(path: str) -> bool:
             lines = file.read(2**16).split(b"\n")
     except OSError:
         return False
-    words = next((it for it in map(bytes.split, lines) if it and not it[0].startswith(b"#")), [])
-    return words[:1] == [b"trace"]
+    first = next((it[0] for it in map(bytes.split, lines) if it and not it[0].startswith(b"#")), b"")
+    return first == b"trace"
 
 
 def parsed(text: bytes) -> Trace:

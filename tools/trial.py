@@ -7,6 +7,7 @@ import subprocess
 import tempfile
 import time
 from dataclasses import dataclass, field
+from typing import List, Optional
 
 import command
 import report
@@ -103,7 +104,7 @@ def write(case: Case, folder: str) -> None:
                 file.write(text)
 
 
-def store(case: drawn.Case, found: Outcome, folder: str) -> None:
+def store(case: Case, found: Outcome, folder: str) -> None:
     """Keeps the texts of a run, its report, and what is wrong with it."""
     # steps that are wrong themselves are drawn again
     write(case.with_(steps=found.steps) if found.steps and found.kind != "draw" else case, folder)
@@ -192,7 +193,8 @@ def tried(case: Case, programs: Programs, folder: str, takes_report: bool = Fals
     """Makes a run in a folder, and judges it."""
     write(case, folder)
     begun = time.monotonic()
-    drawn, steps, wrong = None, [], ""
+    drawn: Optional[int] = None
+    steps: List[str] = []
     if case.way == "draw" and not case.steps and case.options:
         drawn, steps, wrong = schedule(case, programs, folder)
         if wrong:

@@ -10,7 +10,7 @@ from __future__ import annotations
 
 import re
 from dataclasses import dataclass, field
-from typing import Dict, List, Optional, Tuple
+from typing import Callable, Dict, List, Optional, Tuple
 
 import command
 import failed
@@ -131,8 +131,8 @@ def unplaced(judge: Judge, trace: Trace, order: List[str]) -> bool:
     if not left:
         return False
     names = {(trace.lanes[it], str(trace.indexes[it])): it for it in trace.events if it >= 0}
-    row_of = [names[tuple(it.split(" ", 3)[1:3])] for it in order]
-    key_of = lambda at: judge.calls.asked[at].split(" ", 2)[1]
+    row_of = [names[lane, index] for _, lane, index, *_ in (it.split(" ", 3) for it in order)]
+    key_of: Callable[[int], str] = lambda at: judge.calls.asked[at].split(" ", 2)[1]
     keys = {key_of(it) for it in left}
     by_key: Dict[str, List[int]] = {it: [] for it in keys}
     for it in row_of:
@@ -152,7 +152,8 @@ def without_place(judge: Judge, key: str, rows: List[int], left: set[int]) -> bo
         change[at] = change[at + 1] if words[at] == words[at + 1] else at + 1
     mine = [it for it in calls.order if (it if it >= 0 else ~it) in place or (it if it >= 0 else ~it) in left]
     mine = [it for it in mine if calls.asked[it if it >= 0 else ~it].split(" ", 2)[1] == key]
-    found, latest = {}, 0
+    found: Dict[int, int] = {}
+    latest = 0
     for it in mine:
         at = ~it if it < 0 else it
         if it < 0:

@@ -147,7 +147,8 @@ class Reader:
 
     def take_name(self, kind: str, words: List[str]) -> None:
         """Takes a line that names something, or says where it lies."""
-        figures, names = {"router": (words[:1] + words[2:], words[1:2]), "link": (words, []), "name": (words[:1], words[1:])}[kind]
+        parts: Dict[str, Tuple[List[str], List[str]]] = {"router": (words[:1] + words[2:], words[1:2]), "link": (words, [])}
+        figures, names = parts.get(kind, (words[:1], words[1:]))
         numbers = [number_of(word) for word in figures]
         if len(words) not in NAMES[kind] or min(numbers) < 0:
             raise ValueError("no line of a network begins so, or it hasn't so many numbers")

@@ -158,7 +158,7 @@ class Catalogue:
 
     def of_definition(self, name: Name) -> Optional[Item]:
         """The item of a definition, or of the type that declares it."""
-        seen = set()
+        seen: Set[Name] = set()
         while name not in seen:
             seen.add(name)
             if name.module.startswith("declared/"):
@@ -168,7 +168,7 @@ class Catalogue:
             item = self.by_definition.get((name.crate, name.module, name.name)) or self.by_definition.get((name.crate, above, last))
             if item:
                 return item
-            here = self.modules.get(name.crate, {}).get(name.module)
+            here = self.modules[name.crate].get(name.module) if name.crate in self.modules else None
             if here is None or name.name not in here.imports:
                 return None
             name = here.imports[name.name]

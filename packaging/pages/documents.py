@@ -9,7 +9,7 @@ import posixpath
 import re
 import shutil
 from html import escape
-from typing import List, Optional, Set, Tuple
+from typing import Callable, List, Optional, Set, Tuple
 
 from catalogue import Catalogue, Item
 from frame import framed
@@ -120,7 +120,7 @@ class Document:
         heading = self.markdown.headings[-1][1] if self.markdown.headings else ""
         floor = [it for name, crates in self.floors.items() if name in heading.lower() for it in crates]
         floor += [it for it in re.findall(r"\w+", heading) if it in self.catalogue.rooms]
-        rank = lambda it: (near.get(it.crate, 10**6 if it.crate in floor else 10**7), it.name not in (word, word.split("::", 1)[-1]), FIRST.index(it.kind))
+        rank: Callable[[Item], Tuple[int, bool, int]] = lambda it: (near.get(it.crate, 10**6 if it.crate in floor else 10**7), it.name not in (word, word.split("::", 1)[-1]), FIRST.index(it.kind))
         best = min(found, key=rank)
         rivals = [it for it in found if rank(it) == rank(best)]
         if len(rivals) > 1 or rank(best)[0] == 10**7 and len({it.crate for it in found}) > 1 and not re.search("[A-Z_]", word):

@@ -62,7 +62,7 @@ class Markdown:
     def table(self, rows: List[str]) -> str:
         """A table: its head, the line below it, and its rows."""
         cells = [[it.strip().replace("\\|", "|") for it in re.split(r"(?<!\\)\|", row.strip().strip("|"))] for row in rows]
-        line = lambda kind, row, text: "<tr>" + "".join(f"<{kind}>{self.inline(it, text, max(text.find(it), 0))}</{kind}>" for it in row) + "</tr>"
+        line: Callable[[str, List[str], str], str] = lambda kind, row, text: "<tr>" + "".join(f"<{kind}>{self.inline(it, text, max(text.find(it), 0))}</{kind}>" for it in row) + "</tr>"
         head = line("th", cells[0], rows[0]) if any(cells[0]) else ""
         return "<table>" + head + "\n".join(line("td", row, text) for row, text in zip(cells[2:], rows[2:])) + "</table>"
 

@@ -6,7 +6,7 @@ from __future__ import annotations
 
 import re
 from html import escape
-from typing import Dict, List, Tuple
+from typing import Dict, List, Set, Tuple
 
 from catalogue import Catalogue, Item, Room, slug
 from linked_code import Linker, library_url, way
@@ -91,7 +91,7 @@ def house_page(catalogue: Catalogue) -> Tuple[str, str]:
 
 def library_page(catalogue: Catalogue) -> str:
     """The words of the toolchain's library that contracts and definitions use, module by module."""
-    words: Dict[str, set] = {}
+    words: Dict[str, Set[str]] = {}
     for room in catalogue.rooms.values():
         for item in room.items():
             for name, where in (item.module.library if item.module else {}).items():
