@@ -1,11 +1,10 @@
-"""Goals of ../rtl/torus_router.v that look at its registers, from every state: that heads want the output of their route, that
-what can move does, and what a reset leaves."""
+"""Goals of ../rtl/torus_router.v that look at its registers, from every state: that it depends on them, that heads want the
+output of their route, that what can move does, and what a reset leaves."""
 
 import os
-import re
 
 import table
-from registers import OPENED, Side, escaped, yosys
+from registers import NOT_SO, OPENED, UNDECIDED, Side, escaped, verdicts, yosys
 
 GOALS = ("routes", "progress", "reset")
 
@@ -78,21 +77,21 @@ def room(top, output):
 
 
 def wrong(folder, given, goals):
-    """The goals that aren't proved."""
+    """The goals that aren't proved, and what is known of each."""
+    others = [it for it in goals if it != "depends"]
     try:
         top = Top(opened(folder, given))
         bad = goals_of(top, given)
     except KeyError as gone:
+        # yosys leaves out what nothing depends on. Of the other goals nothing can be said then.
         print(f"  router: nothing depends on its {gone.args[0]}")
-        return list(goals)
+        return {it: NOT_SO if it == "depends" else UNDECIDED for it in goals}
     with open(os.path.join(folder, "top.v"), "w", encoding="ascii") as file:
         file.write(top.text(bad))
     script = [f"read_rtlil {folder}/router.il", f"read_verilog -sv {folder}/top.v", "hierarchy -check -top top",
               "proc; flatten; opt -full; opt_clean -purge", "design -save base"]
-    for goal in goals:
-        others = " ".join(f"top/bad_{it}" for it in GOALS if it != goal)
-        script += ["design -load base", f"delete -output {others}", "opt_clean -purge; opt -full", f"log GOAL {goal}",
+    for goal in others:
+        left_out = " ".join(f"top/bad_{it}" for it in GOALS if it != goal)
+        script += ["design -load base", f"delete -output {left_out}", "opt_clean -purge; opt -full", f"log GOAL {goal}",
                    f"sat -prove bad_{goal} 0 -set {top.wires['reset']} {int(goal == 'reset')} -timeout {given.timeout} top"]
-    parts = re.split(r"(?m)^GOAL ", yosys(folder, "goals", script))[1:]
-    good = {it.split("\n", 1)[0] for it in parts if "no model found: SUCCESS" in it}
-    return [it for it in goals if it not in good]
+    return verdicts(yosys(folder, "goals", script), others)
