@@ -60,6 +60,22 @@ class Side:
         return {re.sub(r"^i\.", "", it): it for it in self.ports}
 
 
+class Wires(dict):
+    """The wires of registers and outputs by their names. What nothing depends on, yosys leaves out: it may hold anything, so it
+    becomes an input of the module around, with the width that `widths` tells by the end of its name. `gone` lists these."""
+
+    def __init__(self, inputs, widths):
+        super().__init__()
+        self.inputs, self.widths, self.gone = inputs, widths, []
+
+    def __missing__(self, name):
+        width = next(width for end, width in self.widths.items() if re.sub(r"\[\d+\]$|\.[qd]$", "", name).endswith(end))
+        self[name] = f"gone_{len(self.gone)}_{len(self.inputs)}"
+        self.inputs.append(f"input [{width - 1}:0] {self[name]}")
+        self.gone.append(name)
+        return self[name]
+
+
 def escaped(name):
     """A name as Verilog spells it."""
     return name if re.fullmatch(r"[A-Za-z_]\w*", name) else f"\\{name} "

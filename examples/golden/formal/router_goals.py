@@ -4,7 +4,7 @@ output of their route, that what can move does, and what a reset leaves."""
 import os
 
 import table
-from registers import NOT_SO, OPENED, UNDECIDED, Side, escaped, verdicts, yosys
+from registers import NOT_SO, OPENED, Side, Wires, escaped, verdicts, yosys
 
 GOALS = ("routes", "progress", "reset")
 
@@ -23,8 +23,10 @@ def opened(folder, given):
 class Top:
     """The module with the router and the goals in Verilog."""
 
-    def __init__(self, side):
-        self.wires, self.heading, self.body, ports = {}, [], [], []
+    def __init__(self, side, depth):
+        self.heading, self.body, ports = [], [], []
+        self.wires = Wires(self.heading, {"full": 1, "held": 63, "owns": 1, "owned": 5, "used": depth, "next_take": 3,
+                                          "next_put": 3, "inbox.credit": 1, "credits": 4, "wanted": 5})
         for at, (port, (direction, width)) in enumerate(sorted(side.ports.items())):
             self.wires[port] = f"wire_{at}"
             kind = "input" if direction == "input" else "wire"
@@ -79,13 +81,8 @@ def room(top, output):
 def wrong(folder, given, goals):
     """The goals that aren't proved, and what is known of each."""
     others = [it for it in goals if it != "depends"]
-    try:
-        top = Top(opened(folder, given))
-        bad = goals_of(top, given)
-    except KeyError as gone:
-        # yosys leaves out what nothing depends on. Of the other goals nothing can be said then.
-        print(f"  router: nothing depends on its {gone.args[0]}")
-        return {it: NOT_SO if it == "depends" else UNDECIDED for it in goals}
+    top = Top(opened(folder, given), given.depth)
+    bad = goals_of(top, given)
     with open(os.path.join(folder, "top.v"), "w", encoding="ascii") as file:
         file.write(top.text(bad))
     script = [f"read_rtlil {folder}/router.il", f"read_verilog -sv {folder}/top.v", "hierarchy -check -top top",
@@ -94,4 +91,8 @@ def wrong(folder, given, goals):
         left_out = " ".join(f"top/bad_{it}" for it in GOALS if it != goal)
         script += ["design -load base", f"delete -output {left_out}", "opt_clean -purge; opt -full", f"log GOAL {goal}",
                    f"sat -prove bad_{goal} 0 -set {top.wires['reset']} {int(goal == 'reset')} -timeout {given.timeout} top"]
-    return verdicts(yosys(folder, "goals", script), others)
+    said = verdicts(yosys(folder, "goals", script), others)
+    if top.wires.gone and "depends" in goals:
+        print(f"  router: nothing depends on its {', '.join(top.wires.gone[:3])}")
+        said["depends"] = NOT_SO
+    return said
