@@ -5,7 +5,7 @@ import json
 import os
 
 import table
-from registers import yosys
+from registers import NOT_SO, yosys
 
 
 def cells(folder, name, tops, blackboxes, parameters):
@@ -88,13 +88,13 @@ def of_tile(folder, given, shape):
 
 
 def wrong(folder, given, goals):
-    """The goals of the links that aren't so; each wrong wire is printed."""
+    """The goals of the links that aren't so, each with these words; wrong wires are printed."""
     shape = table.Shape(given.shape, given.datelines)
-    failed = []
+    failed = {}
     for goal, compare in (("torus", of_torus), ("tile", of_tile)):
         if goal in goals:
             found = compare(folder, given, shape)
             for it in found[:3]:
                 print(f"  links.{goal}: {it}")
-            failed += [goal] * bool(found)
+            failed.update({goal: NOT_SO} if found else {})
     return failed

@@ -1,11 +1,10 @@
-"""Goals of ../rtl/torus_router.v that look at its registers, from every state: that heads want the output of their route, that
-what can move does, and what a reset leaves."""
+"""Goals of ../rtl/torus_router.v that look at its registers, from every state: that it depends on them, that heads want the
+output of their route, that what can move does, and what a reset leaves."""
 
 import os
-import re
 
 import table
-from registers import OPENED, Side, escaped, yosys
+from registers import NOT_SO, OPENED, Side, Wires, escaped, verdicts, yosys
 
 GOALS = ("routes", "progress", "reset")
 
@@ -24,8 +23,10 @@ def opened(folder, given):
 class Top:
     """The module with the router and the goals in Verilog."""
 
-    def __init__(self, side):
-        self.wires, self.heading, self.body, ports = {}, [], [], []
+    def __init__(self, side, depth):
+        self.heading, self.body, ports = [], [], []
+        self.wires = Wires(self.heading, {"full": 1, "held": 63, "owns": 1, "owned": 5, "used": depth, "next_take": 3,
+                                          "next_put": 3, "inbox.credit": 1, "credits": 4, "wanted": 5})
         for at, (port, (direction, width)) in enumerate(sorted(side.ports.items())):
             self.wires[port] = f"wire_{at}"
             kind = "input" if direction == "input" else "wire"
@@ -78,21 +79,20 @@ def room(top, output):
 
 
 def wrong(folder, given, goals):
-    """The goals that aren't proved."""
-    try:
-        top = Top(opened(folder, given))
-        bad = goals_of(top, given)
-    except KeyError as gone:
-        print(f"  router: nothing depends on its {gone.args[0]}")
-        return list(goals)
+    """The goals that aren't proved, and what is known of each."""
+    others = [it for it in goals if it != "depends"]
+    top = Top(opened(folder, given), given.depth)
+    bad = goals_of(top, given)
     with open(os.path.join(folder, "top.v"), "w", encoding="ascii") as file:
         file.write(top.text(bad))
     script = [f"read_rtlil {folder}/router.il", f"read_verilog -sv {folder}/top.v", "hierarchy -check -top top",
               "proc; flatten; opt -full; opt_clean -purge", "design -save base"]
-    for goal in goals:
-        others = " ".join(f"top/bad_{it}" for it in GOALS if it != goal)
-        script += ["design -load base", f"delete -output {others}", "opt_clean -purge; opt -full", f"log GOAL {goal}",
+    for goal in others:
+        left_out = " ".join(f"top/bad_{it}" for it in GOALS if it != goal)
+        script += ["design -load base", f"delete -output {left_out}", "opt_clean -purge; opt -full", f"log GOAL {goal}",
                    f"sat -prove bad_{goal} 0 -set {top.wires['reset']} {int(goal == 'reset')} -timeout {given.timeout} top"]
-    parts = re.split(r"(?m)^GOAL ", yosys(folder, "goals", script))[1:]
-    good = {it.split("\n", 1)[0] for it in parts if "no model found: SUCCESS" in it}
-    return [it for it in goals if it not in good]
+    said = verdicts(yosys(folder, "goals", script), others)
+    if top.wires.gone and "depends" in goals:
+        print(f"  router: nothing depends on its {', '.join(top.wires.gone[:3])}")
+        said["depends"] = NOT_SO
+    return said
