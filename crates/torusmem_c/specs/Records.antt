@@ -49,9 +49,9 @@ has_old Stored = 0
 has_old (Old word) = 1
 
 -- the old word of a reply, or 0
-abbrev pub old_word : Reply → ℕ
-old_word Stored = 0
-old_word (Old word) = word
+abbrev pub word_before : Reply → ℕ
+word_before Stored = 0
+word_before (Old word) = word
 
 -- what C sees of an answer
 abbrev pub answer_record : Answer → AnswerRecord
@@ -64,7 +64,7 @@ answer_record a = record {
   has_old = has_old a.reply;
   first = c_first_value a.op;
   second = c_second_value a.op;
-  old = old_word a.reply;
+  old = word_before a.reply;
 }
 
 -- a code, and all else 0
@@ -97,7 +97,7 @@ entry_record e = record {
   has_old = has_old e.reply;
   first = c_first_value e.op;
   second = c_second_value e.op;
-  old = old_word e.reply;
+  old = word_before e.reply;
 }
 
 -- a code, and all else 0

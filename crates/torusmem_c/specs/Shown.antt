@@ -33,8 +33,8 @@ abbrev pub words_told : Core → Outcome
 words_told c = c_outcome code.Done (length c.opening)
 
 -- the word of an address
-abbrev pub word_told : ℕ → Core → Outcome
-word_told address c = number_outcome (slice_get (shown c).memory address)
+abbrev pub memory_word_told : ℕ → Core → Outcome
+memory_word_told address c = number_outcome (slice_get (shown c).memory address)
 
 -- the word at a place of the row
 abbrev pub row_told : ℕ → Core → Outcome

@@ -9,7 +9,7 @@ ghost use Rattle.torusmem_c.specs.Held.{OfHeld, OnHeld, HandleTells};
 ghost use Rattle.torusmem_c.specs.Records.{no_answer, no_entry};
 ghost use Rattle.torusmem_c.specs.Shown.{PutsRow, answer_of_told, answer_told, answers_told};
 ghost use Rattle.torusmem_c.specs.Shown.{entries_told, entry_told, next_told};
-ghost use Rattle.torusmem_c.specs.Shown.{number_outcome, row_told, tiles_told, word_told, words_told};
+ghost use Rattle.torusmem_c.specs.Shown.{number_outcome, row_told, tiles_told, memory_word_told, words_told};
 ghost use Rattle.torusmem_c.specs.declared.outcome.Code.TheVariants as code;
 
 use crate::outcome::{Code, Outcome};
@@ -54,7 +54,8 @@ pub extern "C" fn torusmem_words(handle: &mut MachineHandle) -> Outcome
 /// The word of an address.
 #[unsafe(no_mangle)]
 pub extern "C" fn torusmem_word(handle: &mut MachineHandle, address: u32) -> Outcome
-    ensures { OnHeld (HandleTells (word_told address)) (held handle.old) (held handle.new) result }
+    ensures { OnHeld (HandleTells (memory_word_told address)) (held handle.old) (held handle.new)
+        result }
 {
     match handle.machine() {
         Some(machine) => number_outcome(machine.machine().word(address)),

@@ -2,7 +2,7 @@
 
 ghost use Rattle.std.specs.Prelude.{◌≡◌};
 ghost use Rattle.torusmem_c.specs.Outcome.{c_flag, c_code};
-ghost use Rattle.torusmem_c.specs.Records.{operation_number, c_first_value, c_second_value, has_old, old_word};
+ghost use Rattle.torusmem_c.specs.Records.{operation_number, c_first_value, c_second_value, has_old, word_before};
 ghost use Rattle.torusmem_c.specs.Records.{answer_record, no_answer, answer_or_none, entry_record, no_entry};
 ghost use Rattle.torusmem_c.specs.Records.{entry_or_none};
 
@@ -192,7 +192,7 @@ fn has_old(reply: Reply) -> u32
 
 /// The old word of a reply, or 0.
 fn old_word(reply: Reply) -> u64
-    ensures { result ≡ old_word reply }
+    ensures { result ≡ word_before reply }
 {
     match reply {
         Reply::Ok => 0,
