@@ -14,8 +14,8 @@ use program_fault::{
     Failure, ProgramFault, Texts, Unread, explain_unread, fault_text, status_of,
 };
 use report_lines::Piped;
-use std::alloc::Global;
-use std::io::{Input, Write};
+use std::alloc::{AllocError, Global};
+use std::io::Input;
 use std::rt::{Clock, Files};
 use std::sync::Wait;
 use std::thread::Threads;
@@ -88,6 +88,17 @@ fn verdict_of(outcome: &Outcome) -> Verdict {
     }
 }
 
+/// Adds the line on an answer.
+fn put_line(
+    alloc: Global,
+    text: &mut Vec<u8, Global>,
+    outcome: Outcome,
+) -> Result<(), AllocError> {
+    let line = OutcomeLine { outcome };
+    let line = format!(in alloc; "{line}")?;
+    text.extend_from_slice(line.as_bytes())
+}
+
 /// The answer of a job that judges; what it prints goes to `text`, and the line on the answer behind it.
 ///
 /// Errors: as `answer`, and out of memory.
@@ -105,13 +116,10 @@ fn gathered<R: Eprint + Clock + AllocGlobal + Threads + Wait + Sync>(
     let outcome = answer(rt, job, texts, is_seen, &mut Piped::new(&mut judging), &mut end);
     judging.end();
     match outcome {
-        Ok(outcome) => {
-            let line = OutcomeLine { outcome };
-            match write!(text, "{line}") {
-                Ok(()) => Ok(outcome),
-                Err(_) => Err(ProgramFault::Fault(Fault::Memory)),
-            }
-        }
+        Ok(outcome) => match put_line(rt.alloc(), text, outcome) {
+            Ok(()) => Ok(outcome),
+            Err(_) => Err(ProgramFault::Fault(Fault::Memory)),
+        },
         Err(ProgramFault::Output) => Err(ProgramFault::Fault(Fault::Memory)),
         Err(fault) => Err(fault),
     }
