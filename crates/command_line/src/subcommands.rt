@@ -96,7 +96,8 @@ pub(crate) fn of_one_file<'a>(
 pub(crate) fn network<'a>(alloc: Global) -> Making<'a>
     ensures { IsCommand network_app result }
 {
-    let about = "Judges a network: free of deadlock, a pair without a route, or a cycle that can deadlock";
+    let about =
+        "Judges a network: free of deadlock, a pair without a route, or a cycle that can deadlock";
     let command = named(alloc, "network", about);
     let command = with_argument(command, file(alloc, "NETWORK", "The file with the network"));
     let help = "Prints the run by which it deadlocks, move by move";
@@ -142,8 +143,7 @@ pub(crate) fn linearize<'a>(alloc: Global) -> Making<'a>
 pub(crate) fn watch<'a>(alloc: Global) -> Making<'a>
     ensures { IsCommand watch_app result }
 {
-    let about =
-        "Judges a trace online, and ends at the first answer that no order explains";
+    let about = "Judges a trace online, and ends at the first answer that no order explains";
     let command = named(alloc, "watch", about);
     let help = "The file with the trace, or - for standard input";
     let command = with_argument(command, file(alloc, "TRACE", help));

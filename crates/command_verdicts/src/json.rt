@@ -76,11 +76,7 @@ fn put_number<A: Allocator>(json: &mut Vec<u8, A>, byte: u8) -> Result<(), Alloc
 }
 
 /// Adds a byte of a line that is UTF-8 or isn't.
-fn put_byte<A: Allocator>(
-    json: &mut Vec<u8, A>,
-    utf8: bool,
-    byte: u8,
-) -> Result<(), AllocError>
+fn put_byte<A: Allocator>(json: &mut Vec<u8, A>, utf8: bool, byte: u8) -> Result<(), AllocError>
     ensures { OnOk result (json.new.items ≡ json.old.items ++ json_byte utf8 byte) }
 {
     if byte == b'"' || byte == b'\\' {
@@ -93,11 +89,7 @@ fn put_byte<A: Allocator>(
 }
 
 /// Adds the bytes of a line that is UTF-8 or isn't.
-fn put_bytes<A: Allocator>(
-    json: &mut Vec<u8, A>,
-    utf8: bool,
-    line: &[u8],
-) -> Result<(), AllocError>
+fn put_bytes<A: Allocator>(json: &mut Vec<u8, A>, utf8: bool, line: &[u8]) -> Result<(), AllocError>
     ensures { OnOk result (json.new.items ≡ json.old.items ++ flat_map (json_byte utf8) line.now) }
 {
     for byte in line {
@@ -167,7 +159,11 @@ pub fn json_object<A: Allocator>(
 {
     let mut json = Vec::new(alloc);
     put_behind(&mut json, b"{\"command\": ", command.as_bytes())?;
-    put_behind(&mut json, b", \"verdict\": ", verdict_word(verdict).as_bytes())?;
+    put_behind(
+        &mut json,
+        b", \"verdict\": ",
+        verdict_word(verdict).as_bytes(),
+    )?;
     json.extend_from_slice(b", \"lines\": [")?;
     put_strings(&mut json, text)?;
     json.extend_from_slice(b"]}\n")?;

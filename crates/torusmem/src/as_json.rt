@@ -8,11 +8,9 @@ use crate::telling::{OutcomeLine, explain_fault, explain_outcome, outcome_status
 use command_jobs::{RunEnd, all_printed, fault_told, texts_read, unread_told};
 use command_line::{Job, Request};
 use command_verdicts::{
-    Verdict, decided_status, judged_verdict, json_object, model_verdict, verdict_by,
+    Verdict, decided_status, json_object, judged_verdict, model_verdict, verdict_by,
 };
-use program_fault::{
-    Failure, ProgramFault, Texts, Unread, explain_unread, fault_text, status_of,
-};
+use program_fault::{Failure, ProgramFault, Texts, Unread, explain_unread, fault_text, status_of};
 use report_lines::Piped;
 use std::alloc::{AllocError, Global};
 use std::io::Input;
@@ -51,7 +49,13 @@ pub(crate) fn fault_said<R: Print + Eprint + AllocGlobal>(
     };
     let text = fault_text(fault);
     let status = status_of(&Err(*fault));
-    object_told(rt, command, Verdict::Fault, text.as_str().as_bytes(), status)
+    object_told(
+        rt,
+        command,
+        Verdict::Fault,
+        text.as_str().as_bytes(),
+        status,
+    )
 }
 
 /// Says that a text can't be read, as an object where the answer of this command is to be one, and answers the
@@ -89,11 +93,7 @@ fn verdict_of(outcome: &Outcome) -> Verdict {
 }
 
 /// Adds the line on an answer.
-fn put_line(
-    alloc: Global,
-    text: &mut Vec<u8, Global>,
-    outcome: Outcome,
-) -> Result<(), AllocError> {
+fn put_line(alloc: Global, text: &mut Vec<u8, Global>, outcome: Outcome) -> Result<(), AllocError> {
     let line = OutcomeLine { outcome };
     let line = format!(in alloc; "{line}")?;
     text.extend_from_slice(line.as_bytes())
@@ -113,7 +113,14 @@ fn gathered<R: Eprint + Clock + AllocGlobal + Threads + Wait + Sync>(
 {
     let mut end = RunEnd::new(rt.alloc(), false, &texts.first, &texts.second);
     let mut judging = Judging::begin(rt, &mut *text, job, texts, is_seen);
-    let outcome = answer(rt, job, texts, is_seen, &mut Piped::new(&mut judging), &mut end);
+    let outcome = answer(
+        rt,
+        job,
+        texts,
+        is_seen,
+        &mut Piped::new(&mut judging),
+        &mut end,
+    );
     judging.end();
     match outcome {
         Ok(outcome) => match put_line(rt.alloc(), text, outcome) {
@@ -129,12 +136,7 @@ fn gathered<R: Eprint + Clock + AllocGlobal + Threads + Wait + Sync>(
 /// says more of it where that is asked for or it `is_seen`.
 pub(crate) fn judged_as_json<
     R: Files + Input + Print + Eprint + Clock + AllocGlobal + Threads + Wait + Sync,
->(
-    rt: &R,
-    command: &str,
-    request: &Request,
-    is_seen: bool,
-) -> u8
+>(rt: &R, command: &str, request: &Request, is_seen: bool) -> u8
     requires { AreJobLimits request.now.job }
 {
     let is_explained = request.explain || is_seen;

@@ -65,7 +65,10 @@ fn put_unmodelled<W: fmt::Write>(f: &mut fmt::Formatter<W>, modelled: Modelled) 
             line,
             processor,
             ..
-        } => writeln!(f, "another operation of processor {processor} at line {line}"),
+        } => writeln!(
+            f,
+            "another operation of processor {processor} at line {line}"
+        ),
         _ => Ok(()),
     }
 }
