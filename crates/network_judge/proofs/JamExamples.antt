@@ -6,7 +6,6 @@ use Rattle.network_judge.specs.declared.table.Kind.TheVariants.{Injection, Hop, 
 use Rattle.network_judge.specs.declared.table.Reply.{Reply}
 use Rattle.network_judge.specs.Table.{Table, kind_of}
 use Rattle.network_judge.specs.Ways.{place, IsWay}
-use Rattle.network_judge.specs.Replies.{IsReply}
 use Rattle.network_judge.specs.declared.fill.Fill.{Fill}
 use Rattle.network_judge.specs.Jams.{is_filled, ComesIn, WaitsForFilled, IsJam}
 use Rattle.network_judge.specs.LockUps.{IsLockUp, LocksUp, HasOneFlitPackets, plain_format}

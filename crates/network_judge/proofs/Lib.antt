@@ -27,4 +27,5 @@ pub mod JamLinks
 pub mod Both
 mod JamExamples
 pub mod Walks
+pub mod NoJams
 mod SearchExamples

@@ -18,8 +18,13 @@ only_2 = false ∷ false ∷ true ∷ []
 
 -- with channel 2 filled, packets still come to channel 1
 comes_to_1 : IsClearWalk line only_2 0 2 1 1
-comes_to_1 = record { here = refl; inside = omega arith; clear = clear; goes_on = goes_on }
+comes_to_1 = record { here = refl; inside = inside; clear = clear; goes_on = goes_on }
   where
+    inside : (k : ℕ) → k ≤ 1 → place line 2 0 k < 3
+    inside zero l = omega arith
+    inside (suc zero) l = omega arith
+    inside (suc (suc k)) l = absurd (omega arith)
+
     clear : (k : ℕ) → k ≤ 1 → is_marked_at only_2 (place line 2 0 k) ≡ false
     clear zero l = refl
     clear (suc zero) l = refl

@@ -21,14 +21,19 @@ cell_read t columns width i j n k at m r wide u here e =
     ∙ (ap (λ z. z * width + slice_index columns j) here
     ∙ (ap (λ z. place t j i k * z + slice_index columns j) wide ∙ ap (λ z. place t j i k * columns_of t + z) (r.each j low)))
 
--- a column is one of the columns
+-- the column of an ejection channel is one of the columns
+pub column_of_end : (t : Table) (columns : List ℕ) (width j : ℕ) → AreColumns t.kinds columns → width ≡ columns_of t
+    → kind_of t j ≡ Some Ejection → slice_index columns j < width
+column_of_end t columns width j r wide receiver =
+    let low : j < channels_of t = slice_get_within t.kinds j Ejection receiver in
+    let column : slice_index columns j ≡ column_of t j = r.each j low in
+    let less : column_of t j < columns_of t = column_low t.kinds j receiver in
+    omega arith
+
+-- of a walk's end too
 pub column_within : (t : Table) (columns : List ℕ) (width i j n : ℕ) → AreColumns t.kinds columns → width ≡ columns_of t
     → IsUnderWay t i j n → slice_index columns j < width
-column_within t columns width i j n r wide u =
-    let low : j < channels_of t = slice_get_within t.kinds j Ejection u.receiver in
-    let column : slice_index columns j ≡ column_of t j = r.each j low in
-    let less : column_of t j < columns_of t = column_low t.kinds j u.receiver in
-    omega arith
+column_within t columns width i j n r wide u = column_of_end t columns width j r wide u.receiver
 
 -- the choice that is read at the place of a step is the next place
 pub next_read : (t : Table) (i j n m : ℕ) → m ≡ walk_cell t i j n → slice_index t.choices m ≡ place t j i (n + 1)

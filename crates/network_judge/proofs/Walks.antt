@@ -60,12 +60,13 @@ marked_more t arrive fs from next marks ends x m step joined w =
     let f : Fill = fill_at fs next in
     let count = m.count in
     let long = length-append ends (x ∷ []) in
+    let inside : x < length marks = subst (λ z. z < length marks) (sym w.here) (w.inside (fill_at fs next).step (omega arith)) in
     let left : drop next fs ≡ fill_at fs next ∷ drop from fs =
     drop_more fs next (record { from = 0; to = 0; step = 0 }) (omega arith) ∙ ap (λ k. fill_at fs next ∷ drop k fs) (sym step) in
     record {
       size = length-set marks x true ∙ m.size;
       count = omega arith;
-      marked = λ y. marks_set t marks (fill_at fs next) (drop from fs) x y w.here w.inside m.marked ∙ sym (ap (λ gs. is_filled t gs y) left);
+      marked = λ y. marks_set t marks (fill_at fs next) (drop from fs) x y w.here inside m.marked ∙ sym (ap (λ gs. is_filled t gs y) left);
       in_turn = subst (AreFilledInTurn t) (sym left) (comes_in t arrive marks (fill_at fs next) x (drop from fs) joined w m.marked, m.in_turn);
       places = λ k low high. elim (cases_lt next k) [
         | inl behind ↦ get_or-append ends (x ∷ []) 0 (length fs - 1 - k) (omega arith) ∙ m.places k (omega arith) high

@@ -9,10 +9,11 @@ use Rattle.network_judge.specs.Replies.{IsReply}
 use Rattle.network_judge.specs.declared.fill.Fill.{Fill}
 use Rattle.network_judge.specs.Jams.{fill_channel, is_filled, AreFilledInTurn}
 
--- a walk of so many steps to channel x, over no marked channel and past no receiver
+-- a walk of so many steps to channel x, over channels that have marks, none of them set, and past no
+-- receiver
 pub record IsClearWalk (t : Table) (marks : List Bool) (from to steps x : ℕ) : Type 0 where
   pub here : x ≡ place t to from steps
-  pub inside : x < length marks
+  pub inside : (k : ℕ) → k ≤ steps → place t to from k < length marks
   pub clear : (k : ℕ) → k ≤ steps → is_marked_at marks (place t to from k) ≡ false
   pub goes_on : (k : ℕ) → k < steps → place t to from k ≢ to
 

@@ -1,12 +1,15 @@
 //! Whether some channels are a jam.
 
-ghost use Rattle.std.specs.Prelude.{◌≡◌, ◌+◌, ◌<◌, true, false, ℕ, length, All, IfOk, IfSome};
+ghost use Rattle.std.specs.Prelude.{◌≡◌, ◌+◌, ◌<◌, true, false, Some, ℕ, length, All, IfOk, IfSome};
+ghost use Rattle.std.specs.Prelude.{IfNone};
+ghost use Rattle.network_judge.specs.declared.table.Kind.TheVariants.{Ejection};
 ghost use Rattle.network_judge.specs.Table.{table_of, columns_of, table_next, joins_of, IsFull};
+ghost use Rattle.network_judge.specs.Table.{kind_of};
 ghost use Rattle.network_judge.specs.Columns.{AreColumns};
 ghost use Rattle.network_judge.specs.Replies.{IsReply};
 ghost use Rattle.network_judge.specs.Marks.{is_marked_at};
 ghost use Rattle.network_judge.specs.Verdicts.{AllArrive};
-ghost use Rattle.network_judge.specs.Jams.{IsJam, WaitsForFilled};
+ghost use Rattle.network_judge.specs.Jams.{IsJam, WaitsForFilled, AreFilledInTurn};
 ghost use Rattle.network_judge.specs.Clear.{IsClearWalk, WaitsForMarked, AreFillsMarked};
 
 use crate::columns::{columns_of, ends_of};
@@ -14,7 +17,7 @@ use crate::walk::cell;
 use crate::{Fill, Join, Kind, Reply};
 use std::alloc::{AllocError, Allocator};
 
-/// The choice behind a channel for packets to an ejection channel, if these are channels.
+/// The choice behind a channel for packets to an ejection channel, if these are such channels.
 pub fn next_of(
     kinds: &[Kind],
     joins: &[Join],
@@ -27,7 +30,11 @@ pub fn next_of(
     requires full { IsFull (table_of kinds.now joins.now choices.now) }
     requires columns { AreColumns kinds.now columns.now }
     requires width { width ≡ columns_of (table_of kinds.now joins.now choices.now) }
-    ensures { IfSome result (λ y. y ≡ table_next (table_of kinds.now joins.now choices.now) x to) }
+    ensures some { IfSome result
+        (λ y. y ≡ table_next (table_of kinds.now joins.now choices.now) x to) }
+    ensures none { IfNone result
+        (kind_of (table_of kinds.now joins.now choices.now) to ≡ Some Ejection
+        → x < length kinds.now → ⊥) }
 {
     if to >= columns.len() || x >= kinds.len() {
         return None;
@@ -59,8 +66,13 @@ pub fn clear_walk(
     requires full { IsFull (table_of kinds.now joins.now choices.now) }
     requires columns { AreColumns kinds.now columns.now }
     requires width { width ≡ columns_of (table_of kinds.now joins.now choices.now) }
-    ensures { IfSome result (IsClearWalk (table_of kinds.now joins.now choices.now) marks.now
+    ensures some { IfSome result (IsClearWalk (table_of kinds.now joins.now choices.now) marks.now
         item.from item.to item.step) }
+    ensures none { IfNone result
+        (kind_of (table_of kinds.now joins.now choices.now) item.to ≡ Some Ejection
+        → length marks.now ≡ length kinds.now → (x : ℕ)
+        → IsClearWalk (table_of kinds.now joins.now choices.now) marks.now item.from item.to
+        item.step x → ⊥) }
 {
     let mut at = item.from;
     for step in 0..item.step {
@@ -86,8 +98,10 @@ pub fn clear_walk(
 
 /// Whether packets from an ejection channel are answered on a marked channel.
 pub fn is_answered(replies: &[Reply], marks: &[bool], to: usize) -> bool
-    ensures { result ≡ true
+    ensures yes { result ≡ true
         → (y : ℕ) × IsReply replies.now to y × (is_marked_at marks.now y ≡ true) }
+    ensures no { result ≡ false
+        → (y : ℕ) → IsReply replies.now to y → is_marked_at marks.now y ≡ true → ⊥ }
 {
     for place in 0..replies.len() {
         let reply = replies[place];
@@ -115,8 +129,13 @@ pub fn waits(
     requires full { IsFull (table_of kinds.now joins.now choices.now) }
     requires columns { AreColumns kinds.now columns.now }
     requires width { width ≡ columns_of (table_of kinds.now joins.now choices.now) }
-    ensures { result ≡ true
+    ensures yes { result ≡ true
         → WaitsForMarked (table_of kinds.now joins.now choices.now) replies.now marks.now to x }
+    ensures no { result ≡ false
+        → kind_of (table_of kinds.now joins.now choices.now) to ≡ Some Ejection
+        → x < length kinds.now
+        → WaitsForMarked (table_of kinds.now joins.now choices.now) replies.now marks.now to x
+        → ⊥ }
 {
     if x == to {
         return is_answered(replies, marks, to);
@@ -152,9 +171,11 @@ pub fn mark_all<A: Allocator + Copy>(
     requires arrive { AllArrive (table_of kinds.now joins.now choices.now) }
     requires size { length marks.old ≡ length kinds.now }
     requires clear { (m : ℕ) → is_marked_at marks.old m ≡ false }
-    ensures { IfOk result (λ found. IfSome found (λ ends.
+    ensures some { IfOk result (λ found. IfSome found (λ ends.
         AreFillsMarked (table_of kinds.now joins.now choices.now) items.now 0 marks.new
         ends.items)) }
+    ensures none { IfOk result (λ found. IfNone found
+        (AreFilledInTurn (table_of kinds.now joins.now choices.now) items.now → ⊥)) }
 {
     let mut ends = Vec::with_capacity(alloc, items.len())?;
     for done in 0..items.len() {
@@ -190,9 +211,12 @@ pub fn all_wait(
     requires width { width ≡ columns_of (table_of kinds.now joins.now choices.now) }
     requires marked { AreFillsMarked (table_of kinds.now joins.now choices.now) items.now 0
         marks.now ends.now }
-    ensures { result ≡ true
+    ensures yes { result ≡ true
         → All (WaitsForFilled (table_of kinds.now joins.now choices.now) replies.now items.now)
         items.now }
+    ensures no { result ≡ false
+        → All (WaitsForFilled (table_of kinds.now joins.now choices.now) replies.now items.now)
+        items.now → ⊥ }
 {
     for place in 0..items.len() {
         let x = ends[items.len() - 1 - place];
@@ -226,8 +250,10 @@ pub fn is_jam<A: Allocator + Copy>(
 ) -> Result<bool, AllocError>
     requires full { IsFull (table_of kinds.now joins.now choices.now) }
     requires arrive { AllArrive (table_of kinds.now joins.now choices.now) }
-    ensures { IfOk result (λ is. is ≡ true
+    ensures yes { IfOk result (λ is. is ≡ true
         → IsJam (table_of kinds.now joins.now choices.now) replies.now items.now) }
+    ensures no { IfOk result (λ is. is ≡ false
+        → IsJam (table_of kinds.now joins.now choices.now) replies.now items.now → ⊥) }
 {
     if items.is_empty() {
         return Ok(false);
