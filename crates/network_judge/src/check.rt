@@ -17,7 +17,8 @@ use crate::walk::cell;
 use crate::{Fill, Join, Kind, Reply};
 use std::alloc::{AllocError, Allocator};
 
-/// The choice behind a channel for packets to an ejection channel, if these are such channels.
+/// The choice behind a channel for packets to an ejection channel; none only of what are no such
+/// channels.
 pub fn next_of(
     kinds: &[Kind],
     joins: &[Join],

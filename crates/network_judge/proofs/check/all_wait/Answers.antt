@@ -16,8 +16,6 @@ returns-clause-yes c = λ yes. (let end = c.loop-place-test.false in
 pub returns-then-not-waits-clause-no : goal.returns-then-not-waits-clause-no
 returns-then-not-waits-clause-no c =
     let t : Table = table_of c.args.kinds.now c.args.joins.now c.args.choices.now in
-    let fs = c.args.items.now in
-    let k : ℕ = c.loop-place.place in
     let m = c.requires.marked in
     let low = c.loop-place-test.true in
     let x : ℕ = slice_index c.args.ends.now (length c.args.items.now - 1 - c.loop-place.place) in
