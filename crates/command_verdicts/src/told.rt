@@ -4,8 +4,9 @@
 ghost use Rattle.std.specs.Prelude.{◌≡◌, option_map};
 ghost use Rattle.command_verdicts.specs.Told.{judged_status, unfit_text, verdict_text_of};
 ghost use Rattle.command_verdicts.specs.Told.{is_obeyed, modelled_status, told_status};
+ghost use Rattle.command_verdicts.specs.Told.{judged_verdict, modelled_verdict};
 
-use crate::{Judged, Modelled};
+use crate::{Judged, Modelled, Verdict, verdict_of_status};
 use model_answer::{MemoryModel, Obeys, is_told};
 use program_fault::{ProgramFault, status_of};
 use trace_answer::{LineText, Unfit, not_linearizable, undecided};
@@ -92,5 +93,31 @@ pub fn model_status(modelled: Modelled, model: MemoryModel) -> u8
         Modelled::Wrong(_) => 1,
         Modelled::OtherShape { .. } => 1,
         Modelled::OtherOperation { .. } => 1,
+    }
+}
+
+/// What a trace is judged to be in one word. Where it has an order and the report of that passes a limit, that
+/// is a fault.
+pub fn judged_verdict(judged: Judged) -> Verdict
+    ensures { result ≡ judged_verdict judged }
+{
+    match judged {
+        Judged::Linearizable => Verdict::Yes,
+        Judged::NotLinearizable { .. } => Verdict::No,
+        Judged::TooMany { .. } => Verdict::Undecided,
+        Judged::TooOpen { .. } => Verdict::Undecided,
+        Judged::NoReport { .. } => Verdict::Fault,
+    }
+}
+
+/// What a log or a report is judged to be by a model in one word. Where a report isn't of its texts, that is
+/// a fault.
+pub fn model_verdict(modelled: Modelled, model: MemoryModel) -> Verdict
+    ensures { result ≡ modelled_verdict modelled model }
+{
+    match modelled {
+        Modelled::OtherShape { .. } => Verdict::Fault,
+        Modelled::OtherOperation { .. } => Verdict::Fault,
+        _ => verdict_of_status(model_status(modelled, model)),
     }
 }
