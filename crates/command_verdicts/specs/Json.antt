@@ -26,9 +26,9 @@ hex_digit n = if nat_lt n 10 then 48 + n else 87 + n
 abbrev pub byte_by_number : ℕ → List ℕ
 byte_by_number b = codes "\\u00" ++ hex_digit (b / 16) ∷ hex_digit (b % 16) ∷ []
 
--- a byte of a string (section 7): a backslash stands before a quote and a backslash, a control character
--- stands by its number, and every other byte as it is. In a line that isn't UTF-8 each byte from 128 on
--- stands by its number
+-- a byte of a string (section 7): a backslash stands before a quote and a backslash, a control
+-- character stands by its number, and every other byte as it is. In a line that isn't UTF-8 each
+-- byte from 128 on stands by its number
 abbrev pub json_byte : Bool → ℕ → List ℕ
 json_byte utf8 b =
     if b == 34 || b == 92 then 92 ∷ b ∷ []
@@ -48,7 +48,8 @@ abbrev pub json_strings : List (List ℕ) → List ℕ
 json_strings [] = []
 json_strings (line ∷ more) = json_string line ++ flat_map further_string more
 
--- the object of an answer (section 4): the word of the command, the verdict, and the lines of a text
+-- the object of an answer (section 4): the word of the command, the verdict, and the lines of a
+-- text
 abbrev pub json_object : List ℕ → Verdict → List ℕ → List ℕ
 json_object command verdict text =
     (codes "{\"command\": " ++ json_string command)

@@ -113,7 +113,8 @@ fn put_behind<A: Allocator>(
     before: &[u8],
     line: &[u8],
 ) -> Result<(), AllocError>
-    ensures { OnOk result (json.new.items ≡ json.old.items ++ (before.now ++ json_string line.now)) }
+    ensures { OnOk result
+        (json.new.items ≡ json.old.items ++ (before.now ++ json_string line.now)) }
 {
     json.extend_from_slice(before)?;
     put_string(json, line)
@@ -145,8 +146,8 @@ fn put_strings<A: Allocator>(json: &mut Vec<u8, A>, text: &[u8]) -> Result<(), A
     }
 }
 
-/// The object of an answer on one line, with the word of the command, the verdict, and the lines of a text.
-/// In a line that isn't UTF-8 each byte from 128 on stands as the character of its number.
+/// The object of an answer on one line, with the word of the command, the verdict, and the lines of
+/// a text. In a line that isn't UTF-8 each byte from 128 on stands as the character of its number.
 ///
 /// Errors: out of memory.
 pub fn json_object<A: Allocator>(

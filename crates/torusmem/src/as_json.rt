@@ -19,8 +19,8 @@ use std::sync::Wait;
 use std::thread::Threads;
 use torus::Fault;
 
-/// Prints the object of an answer with these lines, and answers this status; a fault of that goes to standard
-/// error.
+/// Prints the object of an answer with these lines, and answers this status; a fault of that goes
+/// to standard error.
 pub(crate) fn object_told<R: Print + Eprint + AllocGlobal>(
     rt: &R,
     command: &str,
@@ -38,7 +38,8 @@ pub(crate) fn object_told<R: Print + Eprint + AllocGlobal>(
     }
 }
 
-/// Says a fault, as an object where the answer of this command is to be one, and answers the exit status.
+/// Says a fault, as an object where the answer of this command is to be one, and answers the exit
+/// status.
 pub(crate) fn fault_said<R: Print + Eprint + AllocGlobal>(
     rt: &R,
     json: Option<&str>,
@@ -58,8 +59,8 @@ pub(crate) fn fault_said<R: Print + Eprint + AllocGlobal>(
     )
 }
 
-/// Says that a text can't be read, as an object where the answer of this command is to be one, and answers the
-/// exit status.
+/// Says that a text can't be read, as an object where the answer of this command is to be one, and
+/// answers the exit status.
 pub(crate) fn unread_said<R: Print + Eprint + AllocGlobal>(
     rt: &R,
     json: Option<&str>,
@@ -99,7 +100,8 @@ fn put_line(alloc: Global, text: &mut Vec<u8, Global>, outcome: Outcome) -> Resu
     text.extend_from_slice(line.as_bytes())
 }
 
-/// The answer of a job that judges; what it prints goes to `text`, and the line on the answer behind it.
+/// The answer of a job that judges; what it prints goes to `text`, and the line on the answer
+/// behind it.
 ///
 /// Errors: as `answer`, and out of memory.
 fn gathered<R: Eprint + Clock + AllocGlobal + Threads + Wait + Sync>(
@@ -132,8 +134,8 @@ fn gathered<R: Eprint + Clock + AllocGlobal + Threads + Wait + Sync>(
     }
 }
 
-/// Does a job that judges texts, prints the object of its answer, and answers the exit status. Standard error
-/// says more of it where that is asked for or it `is_seen`.
+/// Does a job that judges texts, prints the object of its answer, and answers the exit status.
+/// Standard error says more of it where that is asked for or it `is_seen`.
 pub(crate) fn judged_as_json<
     R: Files + Input + Print + Eprint + Clock + AllocGlobal + Threads + Wait + Sync,
 >(rt: &R, command: &str, request: &Request, is_seen: bool) -> u8

@@ -15,8 +15,8 @@ use model_replies::{AlikeSentence, UnwrittenSentence};
 use program_fault::{ProgramFault, Texts, explain, status_of};
 use std::fmt;
 
-/// What standard error says of an answer: that a trace has no order or that it isn't decided, that a log has a
-/// wrong reply or that a report isn't of its texts. A line with its end, or nothing.
+/// What standard error says of an answer: that a trace has no order or that it isn't decided, that
+/// a log has a wrong reply or that a report isn't of its texts. A line with its end, or nothing.
 #[derive(Clone, Copy)]
 pub(crate) struct OutcomeLine {
     pub outcome: Outcome,

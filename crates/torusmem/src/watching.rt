@@ -10,9 +10,10 @@ use std::io::{BufReader, Input, Read};
 use std::rt::Files;
 use torus::Fault;
 
-/// Judges the trace of this name while it comes, with at most so many configurations of a word at once,
-/// and answers the exit status. Standard error says why it ended before its end, and more of it where that
-/// `is_explained`. Where `json` has the word of the command, the answer is an object on standard output.
+/// Judges the trace of this name while it comes, with at most so many configurations of a word at
+/// once, and answers the exit status. Standard error says why it ended before its end, and more of
+/// it where that `is_explained`. Where `json` has the word of the command, the answer is an object
+/// on standard output.
 pub(crate) fn watched<R: Files + Input + Print + Eprint + AllocGlobal>(
     rt: &R,
     json: Option<&str>,
