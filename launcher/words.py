@@ -307,5 +307,5 @@ def json_string(line: str) -> str:
 
 def fault_object(command: str, text: str) -> str:
     """The JSON object of a command that answers a fault with these lines."""
-    lines = re.split("\r?\n", text.removesuffix("\n"))
+    lines = re.split("\r?\n", text[:-1] if text.endswith("\n") else text)
     return f'{{"command": {json_string(command)}, "verdict": "fault", "lines": [{", ".join(map(json_string, lines))}]}}\n'
