@@ -12,6 +12,7 @@ import argparse
 import mmap
 import functools
 import os
+import shutil
 import signal
 import subprocess
 import sys
@@ -182,10 +183,14 @@ def mapped(path: str) -> bytes | mmap.mmap:
 
 
 def program_path() -> str:
-    """The program: the one that TORUSMEM names, the kept look where TORUSMEM_UNPROVED is 1, or the one of this folder."""
+    """The program: the one that TORUSMEM names, the kept look where TORUSMEM_UNPROVED is 1, the one of this folder, or, where pip
+    has installed the tools, that of the path."""
     if named := os.environ.get("TORUSMEM"):
         return named
-    return kept_look() if is_unproved() else os.path.join(ROOT, "torusmem")
+    if is_unproved():
+        return kept_look()
+    own = os.path.join(ROOT, "torusmem")
+    return own if os.path.isfile(own) else shutil.which("torusmem") or "torusmem"
 
 
 def is_unproved() -> bool:
