@@ -1,54 +1,18 @@
-"""Networks whose routers choose among several channels, drawn for checks/adaptive_rows."""
+"""Networks whose routers choose among several channels, drawn for checks/adaptive_rows; and what checks/jam_rows draws, too."""
 from __future__ import annotations
 
 import random
 from collections import deque
-from typing import Dict, FrozenSet, List, Optional, Set, Tuple, Union
+from typing import Dict, List, Tuple
 
-Cell = Tuple[int, int]
-Channels = Union[Set[int], FrozenSet[int]]
+from torusmem_tools.model.network import Network
+
+KINDS = {"i": "inject", "e": "eject", "h": "hop"}
 
 
-class Network:
-    """Kinds of channels, pairs, choices, escapes (none where there is no line of them) and answers."""
-
-    def __init__(self, kinds: str) -> None:
-        self.kinds = kinds
-        self.joins: List[Cell] = []
-        self.choices: Dict[Cell, List[int]] = {}
-        self.marks: Optional[Set[int]] = None
-        self.replies: List[Cell] = []
-
-    def choose(self, x: int, j: int, ys: List[int]) -> None:
-        row = self.choices.setdefault((x, j), [])
-        row += [y for y in dict.fromkeys(ys) if y not in row]
-
-    def text(self) -> str:
-        words = {"i": "inject", "e": "eject"}
-        lines = [f"channels {len(self.kinds)}"]
-        lines += [f"{words[kind]} {x}" for x, kind in enumerate(self.kinds) if kind in words]
-        lines += [f"join {i} {j}" for i, j in self.joins]
-        lines += [f"next {x} {j} {y}" for (x, j), ys in self.choices.items() for y in ys]
-        lines += [f"escape {y}" for y in sorted(self.marks or ())]
-        return "\n".join(lines + [f"reply {x} {y}" for x, y in self.replies]) + "\n"
-
-    def escapes(self) -> Set[int]:
-        every = set(range(len(self.kinds)))
-        return self.marks | {x for x in every if self.kinds[x] != "h"} if self.marks else every
-
-    def after(self, x: int, j: int) -> List[int]:
-        return [] if self.kinds[x] == "e" else self.choices.get((x, j), [])
-
-    def spread(self, seeds: Channels, j: int, shut: Channels) -> Set[int]:
-        """The channels that packets to j come to from some, over channels that aren't shut."""
-        found, more = set(seeds), set(seeds)
-        while more:
-            more = {y for x in more for y in self.after(x, j) if y not in shut} - found
-            found |= more
-        return found
-
-    def comes(self, j: int, shut: Channels = frozenset()) -> Set[int]:
-        return self.spread({i for i, to in self.joins if to == j}, j, shut)
+def channels(kinds: str) -> Network:
+    """A network of channels, their kinds by their first letters."""
+    return Network([KINDS[it] for it in kinds])
 
 
 class Routers:
@@ -58,7 +22,7 @@ class Routers:
         self.count, self.links = len(links), links
         ways = [(r, s, v) for r in links for s in links[r] for v in range(layers)]
         self.hops = {way: 2 * self.count + k for k, way in enumerate(ways)}
-        self.net = Network("i" * self.count + "e" * self.count + "h" * len(self.hops))
+        self.net = channels("i" * self.count + "e" * self.count + "h" * len(self.hops))
         self.into = {r: [r] + [x for (_, s, _), x in self.hops.items() if s == r] for r in links}
 
     def join(self, lots: random.Random) -> None:
@@ -68,7 +32,7 @@ class Routers:
     def choose(self, r: int, goal: int, ys: List[int], stays: bool = False) -> None:
         """The same choices behind each channel into a router; but behind escapes only escapes, if packets stay on them."""
         for x in self.into[r]:
-            marks = self.net.marks or set()
+            marks = self.net.escapes
             kept = [y for y in ys if y in marks] if stays and x in marks else ys
             self.net.choose(x, self.count + goal, [self.count + goal] if r == goal else kept)
 
@@ -88,7 +52,7 @@ def ring(lots: random.Random) -> Network:
     """One way or both ways round; the escapes one way, with a dateline or without."""
     count, both, line = lots.randint(3, 5), lots.random() < 0.3, lots.random() < 0.6
     made = Routers({r: [(r + 1) % count] + [(r - 1) % count] * both for r in range(count)}, 3 if line else 2)
-    made.net.marks = {x for (r, s, v), x in made.hops.items() if v and s == (r + 1) % count}
+    made.net.escapes = {x for (r, s, v), x in made.hops.items() if v and s == (r + 1) % count}
     for goal in range(count):
         for r in range(count):
             s = (r + 1) % count
@@ -109,7 +73,7 @@ def mesh(lots: random.Random, orders: str) -> Network:
     width, height = lots.choice([(2, 2), (2, 2), (3, 2), (3, 3)])
     layers = lots.choice([2, 2, 3])
     made = Routers(grid(width, height), layers)
-    made.net.marks = {x for (_, _, v), x in made.hops.items() if v == 0}
+    made.net.escapes = {x for (_, _, v), x in made.hops.items() if v == 0}
     for goal in made.links:
         far, order = far_from(made.links, goal), lots.choice(orders)
         for r in made.links:
@@ -145,7 +109,7 @@ def graph(lots: random.Random) -> Network:
         links[s] += [r] * (r not in links[s])
     trees = {r: [s for s in links[r] if (r, s) in tree or (s, r) in tree] for r in links}
     made, nearer, by_tree, stays = Routers(links, 2), lots.random() < 0.4, lots.random() < 0.7, lots.random() < 0.5
-    made.net.marks = {x for (_, _, v), x in made.hops.items() if v == 1}
+    made.net.escapes = {x for (_, _, v), x in made.hops.items() if v == 1}
     for goal in links:
         far, high = far_from(links, goal), far_from(trees, goal)
         for r in links:
@@ -160,7 +124,7 @@ def graph(lots: random.Random) -> Network:
 def table(lots: random.Random) -> Network:
     """Drawn choices over drawn channels; some can't stand."""
     ends, hops = lots.randint(1, 3), lots.randint(2, 6)
-    net, odd = Network("i" * ends + "e" * ends + "h" * hops), lots.random() < 0.15
+    net, odd = channels("i" * ends + "e" * ends + "h" * hops), lots.random() < 0.15
     net.joins = [(lots.randrange(ends), ends + lots.randrange(ends)) for _ in range(lots.randint(1, 4))]
     if odd and lots.random() < 0.4:
         net.joins.append((lots.randrange(len(net.kinds)), lots.randrange(len(net.kinds))))
@@ -169,7 +133,7 @@ def table(lots: random.Random) -> Network:
             able = [y for y in (j, *range(2 * ends, len(net.kinds))) if y != x]
             able = list(range(len(net.kinds))) if odd and lots.random() < 0.1 else able
             net.choose(x, j, lots.sample(able, min(len(able), lots.choice([1, 2, 2, 3]))))
-    net.marks = set(lots.sample(range(2 * ends, len(net.kinds)), lots.randint(1, hops)))
+    net.escapes = set(lots.sample(range(2 * ends, len(net.kinds)), lots.randint(1, hops)))
     return net
 
 
@@ -179,32 +143,32 @@ def broken(lots: random.Random) -> Network:
     rows = [(x, j, y) for (x, j), ys in net.choices.items() for y in ys if len(ys) > 1]
     for x, j, y in lots.sample(rows, min(len(rows), lots.choice([0, 0, 1, 2]))):
         net.choices[x, j] = [it for it in net.choices[x, j] if it != y] or [y]
-    marks = net.marks or set()
-    hops = [x for x, kind in enumerate(net.kinds) if kind == "h"]
+    marks = net.escapes
+    hops = [x for x, kind in enumerate(net.kinds) if kind == "hop"]
     dropped = lots.sample(sorted(marks), min(max(len(marks) - 1, 0), lots.choice([0, 0, 1, 2])))
-    net.marks = marks - set(dropped) | set(lots.sample(hops, lots.choice([0, 0, 1, 3])))
+    net.escapes = marks - set(dropped) | set(lots.sample(hops, lots.choice([0, 0, 1, 3])))
     return net
 
 
-KINDS = (ring, lambda it: mesh(it, "x"), lambda it: mesh(it, "xy"), graph, broken, turns, table, broken)
+WAYS = (ring, lambda it: mesh(it, "x"), lambda it: mesh(it, "xy"), graph, broken, turns, table, broken)
 
 
 def drawn(seed: int) -> Network:
     """A network whose routers choose: one at least has two choices, or there is a line `escape`."""
     lots = random.Random(seed)
     while True:
-        net = KINDS[seed % len(KINDS)](lots)
+        net = WAYS[seed % len(WAYS)](lots)
         if lots.random() < 0.2:
-            ends = [[x for x, kind in enumerate(net.kinds) if kind == it] for it in "ei"]
+            ends = [[x for x, kind in enumerate(net.kinds) if kind == it] for it in ("eject", "inject")]
             net.replies = list({(lots.choice(ends[0]), lots.choice(ends[1])) for _ in range(lots.randint(1, 2))})
-        if net.marks or any(len(ys) > 1 for ys in net.choices.values()):
+        if net.is_adaptive():
             return net
 
 
 def ring_of_four() -> Network:
     """A ring with a dateline: it rises."""
     made = Routers({r: [(r + 1) % 4] for r in range(4)}, 3)
-    made.net.marks = {x for (_, _, v), x in made.hops.items() if v}
+    made.net.escapes = {x for (_, _, v), x in made.hops.items() if v}
     for goal in range(4):
         for r in range(4):
             made.choose(r, goal, [made.hops[r, (r + 1) % 4, v] for v in (0, 1 if r > goal else 2)])

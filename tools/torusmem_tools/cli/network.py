@@ -94,11 +94,12 @@ from torusmem_tools.draw.router_ends import plan_of
 from torusmem_tools.model import traffic_draw
 from torusmem_tools.model.adaptive_verdict import told
 from torusmem_tools.model.adaptive_walk import judged_choices
-from torusmem_tools.model.deadlock import replayed, run_of
+from torusmem_tools.model.deadlock import run_of
 from torusmem_tools.model.network import Network, judged, parsed
 from torusmem_tools.model.network_verdict import Verdict, explained, verdict_of, verdict_read
 from torusmem_tools.model.network_words import generated, text_of
 from torusmem_tools.model.packet_rounds import simulated
+from torusmem_tools.model.wormhole import replayed
 from torusmem_tools.texts.network_rows import table
 
 TOOL = "network"
@@ -109,7 +110,7 @@ MOST_DRAWN = 4096
 def alone(net: Network) -> None:
     """Refuses a network whose routers choose."""
     if net.is_adaptive():
-        has = "several choices for a channel and a destination" if net.further else "lines `escape`"
+        has = "several choices for a channel and a destination" if net.chooses() else "lines `escape`"
         raise Refusal(f"runs are of networks whose routers don't choose, and this one has {has}")
 
 

@@ -3,7 +3,7 @@ from __future__ import annotations
 
 from torusmem_tools.draw.diagram import Marks
 from torusmem_tools.draw.router_ends import Plan
-from torusmem_tools.model.adaptive_walk import Found, escapes_of
+from torusmem_tools.model.adaptive_walk import Found
 from torusmem_tools.model.network import Network, number_of
 from torusmem_tools.model.network_verdict import Verdict
 
@@ -34,7 +34,7 @@ def marks_of(net: Network, plan: Plan, verdict: Verdict) -> Marks:
 def marks_of_chosen(net: Network, found: Found) -> Marks:
     """The same of a network whose routers choose: the numbers of escapes, or the channels of a cycle and those over
     which they lead on."""
-    marks = escapes_of(net)
+    marks = net.escaping()
     loose = {x for x in range(len(net.kinds)) if x not in marks}
     held = {it for x, edge, _ in found.turns for it in (x, *edge.over)}
     answered = {(x, y) for x, edge, y in found.turns if edge.to is None}

@@ -100,7 +100,7 @@ def number_of(film: Film, flit: Any, courses: List[Course]) -> int:
 def standing(run: Simulation, stage: Stage, film: Film, depth: int) -> List[List[Any]]:
     """The flits in channels and latches, each with its place."""
     found: List[Tuple[int, Optional[Point]]] = []
-    for x, it in enumerate(run.replay.channels):
+    for x, it in enumerate(run.machine.channels):
         found += [(number_of(film, flit, run.courses), stage.in_channel(x, at, depth)) for at, flit in enumerate(it.flits)]
         if it.latch is not None:
             found.append((number_of(film, it.latch, run.courses), stage.in_latch(x)))

@@ -6,7 +6,7 @@ then, behind channels that are no escapes. Nothing here is proved."""
 from __future__ import annotations
 
 from collections import deque
-from typing import Dict, List, NamedTuple, Optional, Set, Tuple
+from typing import Callable, Dict, Iterable, List, NamedTuple, Optional, Set, Tuple
 
 from torusmem_tools.model.network import Network, numbers
 
@@ -42,23 +42,6 @@ def line_of(x: int, edge: Edge, y: int) -> str:
     return f"{x} to {edge.to}" + (f" over {' '.join(map(str, edge.over))}" if edge.over else "")
 
 
-def choices_of(net: Network) -> Dict[Tuple[int, int], List[int]]:
-    """All choices behind each channel for each ejection channel, in the order of the text."""
-    found: Dict[Tuple[int, int], List[int]] = {}
-    for (x, j), y in net.choices.items():
-        found.setdefault((x, j), []).append(y)
-    for x, j, y in net.further:
-        found.setdefault((x, j), []).append(y)
-    return found
-
-
-def escapes_of(net: Network) -> Set[int]:
-    """The escapes: injection and ejection channels, and those that `escape` lines name; all where there is none."""
-    if not net.escapes:
-        return set(range(len(net.kinds)))
-    return net.escapes | {x for x, kind in enumerate(net.kinds) if kind != "hop"}
-
-
 def misfit(net: Network) -> Optional[str]:
     """The verdict on the first pair or choice that can't stand."""
     for i, j in net.joins:
@@ -66,7 +49,7 @@ def misfit(net: Network) -> Optional[str]:
             return f"no route {i} {j}: the first is no injection channel"
         if net.kinds[j] != "eject":
             return f"no route {i} {j}: the second is no ejection channel"
-    for (x, j), ys in sorted(choices_of(net).items(), key=lambda it: (it[0][1], it[0][0])):
+    for (x, j), ys in sorted(net.choices.items(), key=lambda it: (it[0][1], it[0][0])):
         for y in ys:
             if x == y:
                 return f"no choice {x} {j} {y}: the channel itself"
@@ -81,25 +64,14 @@ class Walk:
     """The choices of a network, and where packets come."""
 
     def __init__(self, net: Network) -> None:
-        self.net, self.choices, self.escapes = net, choices_of(net), escapes_of(net)
+        self.net, self.after, self.escapes = net, net.after, net.escaping()
         self.starts: Dict[int, Set[int]] = {}
         for i, j in net.joins:
             self.starts.setdefault(j, set()).add(i)
 
-    def after(self, x: int, j: int) -> List[int]:
-        """The choices behind a channel: none behind an ejection channel."""
-        return [] if self.net.kinds[x] == "eject" else self.choices.get((x, j), [])
-
     def comes(self, j: int) -> List[int]:
         """The channels that packets to an ejection channel come to."""
-        seen = set(self.starts.get(j, ()))
-        queue = deque(seen)
-        while queue:
-            for y in self.after(queue.popleft(), j):
-                if y not in seen:
-                    seen.add(y)
-                    queue.append(y)
-        return sorted(seen)
+        return sorted(self.spread(self.starts.get(j, ()), j))
 
     def roams(self, x: int, j: int) -> Dict[int, Tuple[int, ...]]:
         """Where a packet that holds a channel comes over channels that are no escapes, and over which."""
@@ -149,33 +121,35 @@ class Walk:
             comes = self.comes(j)
             rank = numbers(self.net, {(x, y): "" for x in comes for y in self.after(x, j)})
             if rank is None:
-                return f"round {j} {self.first_round(j, comes)}"
+                return f"round {j} {next(x for x in comes if self.comes_back(x, j))}"
             far: Dict[int, int] = {}
             for x in sorted(comes, key=rank.__getitem__, reverse=True):
                 far[x] = 1 + max((far[y] for y in self.after(x, j)), default=0)
             most = max([most, *(far[i] for i in self.starts[j])])
         return f"bounded {most}"
 
-    def first_round(self, j: int, comes: List[int]) -> int:
-        """The lowest channel that packets can come back to."""
-        for x in comes:
-            seen, queue = set(self.after(x, j)), deque(self.after(x, j))
-            while queue:
-                for y in self.after(queue.popleft(), j):
-                    if y not in seen:
-                        seen.add(y)
-                        queue.append(y)
-            if x in seen:
-                return x
-        raise AssertionError("there is a cycle")
+    def comes_back(self, x: int, j: int) -> bool:
+        """Whether packets to an ejection channel that hold channel x can come back to it."""
+        return x in self.spread(self.after(x, j), j)
+
+    def spread(self, starts: Iterable[int], j: int) -> Set[int]:
+        """The channels that packets to an ejection channel come to from these."""
+        seen = set(starts)
+        queue = deque(seen)
+        while queue:
+            for y in self.after(queue.popleft(), j):
+                if y not in seen:
+                    seen.add(y)
+                    queue.append(y)
+        return seen
 
 
-def judged_choices(net: Network) -> Found:
-    """What is judged of a network with several choices."""
+def judged_choices(net: Network, walks: Callable[[Network], Walk] = Walk) -> Found:
+    """What is judged of a network with several choices, by this walk."""
     wrong = misfit(net)
     if wrong is not None:
         return Found(wrong)
-    walk = Walk(net)
+    walk = walks(net)
     wrong = walk.bare()
     if wrong is not None:
         return Found(wrong)

@@ -1,12 +1,12 @@
 """A jam of a network with a cycle: channels that are filled one after the other, so that each waits for another of
-them; the run of moves that leads to it; and the replay of such a run. Nothing here is proved."""
+them; and the run of moves that leads to it. Nothing here is proved."""
 from __future__ import annotations
 
-from collections import deque
-from typing import Deque, Dict, List, NamedTuple, Optional, Set, Tuple
+from typing import Dict, List, NamedTuple, Set, Tuple
 
 from torusmem_tools.command import Refusal
-from torusmem_tools.model.network import Network, number_of
+from torusmem_tools.model.network import Network
+from torusmem_tools.model.wormhole import Move, line_of
 
 # A packet's injection and ejection channel, and the steps of its route that are filled: from one on to before another.
 Arc = Tuple[int, int, int, int]
@@ -20,22 +20,11 @@ class Fill(NamedTuple):
     step: int
 
 
-class Flit(NamedTuple):
-    """Where a flit goes, whether it is its packet's first and its last one, and the number of its packet where these have
-    one, with its own in the packet."""
-
-    goal: int
-    head: bool
-    tail: bool
-    packet: int = 0
-    number: int = 0
-
-
 def route(net: Network, i: int, j: int) -> List[int]:
     """The route from channel i to channel j; there is one."""
     found = [i]
     while found[-1] != j:
-        found.append(net.choices[found[-1], j])
+        found.append(net.choices[found[-1], j][0])
     return found
 
 
@@ -47,7 +36,7 @@ def ways_of(net: Network, around: List[int]) -> List[Tuple[int, int, int]]:
     for i, j in net.joins:
         x, step = i, 0
         while True:
-            y = None if x == j else net.choices[x, j]
+            y = None if x == j else net.choices[x, j][0]
             if x in answers if y is None else after.get(x) == y:
                 soonest[x] = min(soonest.get(x, (step, i, j)), (step, i, j))
             if y is None:
@@ -109,21 +98,28 @@ def held_by(net: Network, fills: List[Fill]) -> List[Held]:
     return found
 
 
-def run_of(net: Network, fills: List[Fill], depth: int) -> List[str]:
-    """The moves that fill all channels of a jam, each with packets of one flit."""
-    moves: List[str] = []
-    for it in fills:
-        way = route(net, it.start, it.end)
-        *before, last = way[: it.step + 1]
-        latched = [] if net.kinds[last] == "eject" else [f"take {last}", f"credit {last}"]
-        room = depth + bool(latched)
-        moves.append(f"# channel {last}{titled(net, last)} holds {room} packet{'s' * (room > 1)} from {it.start} to {it.end}")
-        for n in range(room):
-            moves.append(f"send {it.start} {it.end} 1")
-            for x in before:
-                moves += [f"take {x}", f"credit {x}", f"put {x}"]
-            moves += latched if n == 0 else []
+def filling(net: Network, fill: Fill, depth: int) -> List[Move]:
+    """The moves that fill a channel of a jam with packets of one flit: what it holds and one more in the latch behind it, but
+    behind an ejection channel there is none."""
+    *before, last = route(net, fill.start, fill.end)[: fill.step + 1]
+    latched: List[Move] = [] if net.kinds[last] == "eject" else [("take", last), ("credit", last)]
+    moves: List[Move] = []
+    for n in range(depth + bool(latched)):
+        moves.append(("send", fill.start, fill.end, 1))
+        moves += [(word, x) for x in before for word in ("take", "credit", "put")]
+        moves += latched if n == 0 else []
     return moves
+
+
+def run_of(net: Network, fills: List[Fill], depth: int) -> List[str]:
+    """The run that fills all channels of a jam."""
+    lines: List[str] = []
+    for it in fills:
+        last, moves = route(net, it.start, it.end)[it.step], filling(net, it, depth)
+        room = sum(move[0] == "send" for move in moves)
+        lines.append(f"# channel {last}{titled(net, last)} holds {room} packet{'s' * (room > 1)} from {it.start} to {it.end}")
+        lines += map(line_of, moves)
+    return lines
 
 
 def titled(net: Network, x: int) -> str:
@@ -135,127 +131,3 @@ def titled(net: Network, x: int) -> str:
         return ""
     start, end = net.routers[link.start].name, net.routers[link.end].name
     return f" ({'into' if net.kinds[x] == 'inject' else 'out of'} {start})" if net.kinds[x] != "hop" else f" ({start} to {end})"
-
-
-class Channel:
-    """A channel, and what stands at its ends: a sender's packet in course, credits, a latch, the input that owns it."""
-
-    def __init__(self, depth: int) -> None:
-        self.flits: Deque[Flit] = deque()
-        self.held, self.returning = depth, 0
-        self.latch: Optional[Flit] = None
-        self.owner: Optional[int] = None
-        self.owned: Optional[int] = None
-        self.rest, self.goal = 0, 0
-
-
-class Replay:
-    """A network with channels of this depth, and moves one after the other (the events of crates/wormhole). A receiver
-    takes a flit only where each channel on which it answers has a credit."""
-
-    def __init__(self, net: Network, depth: int) -> None:
-        self.net, self.joins = net, set(net.joins)
-        self.channels = [Channel(depth) for _ in net.kinds]
-        self.answers: Dict[int, List[int]] = {}
-        for x, y in net.replies:
-            self.answers.setdefault(x, []).append(y)
-
-    def output(self, x: int) -> Optional[int]:
-        """Where the flit in the latch behind channel x goes."""
-        latch = self.channels[x].latch
-        if latch is None:
-            return None
-        return self.net.choices.get((x, latch.goal)) if latch.head else self.channels[x].owned
-
-    def refusal(self, word: str, x: int, j: int = 0, size: int = 1) -> str:
-        """Why a move may not happen, or nothing if it may."""
-        c, kind = self.channels[x], self.net.kinds[x]
-        if word == "send":
-            return (f"channel {x} is no injection channel" if kind != "inject" else
-                    f"no packets go from channel {x} to channel {j}" if (x, j) not in self.joins else
-                    "a packet has a flit at least" if size < 1 else
-                    f"the sender of channel {x} has a packet in course" if c.rest else self.no_credit(x))
-        if word == "more":
-            return self.no_credit(x) if c.rest else f"the sender of channel {x} has no packet in course"
-        if word == "credit":
-            return "" if c.returning else f"no credit of channel {x} is on its way back"
-        if word == "put":
-            return self.no_put(x)
-        if (kind == "eject") != (word == "accept"):
-            return f"channel {x} is {'an' if kind == 'eject' else 'no'} ejection channel"
-        if word == "take" and c.latch is not None:
-            return f"the latch behind channel {x} is full"
-        if not c.flits:
-            return f"channel {x} is empty"
-        without = [y for y in self.answers.get(x, []) if not self.channels[y].held] if word == "accept" else []
-        return f"channel {without[0]}, on which the receiver answers, has no credit" if without else ""
-
-    def no_credit(self, x: int) -> str:
-        return "" if self.channels[x].held else f"channel {x} has no credit"
-
-    def no_put(self, x: int) -> str:
-        """Why the flit in a latch may not go on."""
-        latch, y = self.channels[x].latch, self.output(x)
-        if latch is None:
-            return f"the latch behind channel {x} is empty"
-        if y is None:
-            return f"behind channel {x} there is no choice for packets to channel {latch.goal}"
-        owner = self.channels[y].owner
-        if latch.head and owner is not None:
-            return f"channel {y} belongs to a packet that comes from channel {owner}"
-        return self.no_credit(y)
-
-    def move(self, word: str, x: int, j: int = 0, size: int = 1) -> None:
-        """Makes a move that may happen."""
-        c = self.channels[x]
-        if word == "send":
-            c.flits.append(Flit(j, True, size == 1))
-            c.rest, c.goal, c.held = size - 1, j, c.held - 1
-        elif word == "more":
-            c.rest, c.held = c.rest - 1, c.held - 1
-            c.flits.append(Flit(c.goal, False, c.rest == 0))
-        elif word == "take":
-            c.latch, c.returning = c.flits.popleft(), c.returning + 1
-        elif word == "put":
-            self.put(x)
-        elif word == "accept":
-            c.flits.popleft()
-            c.returning += 1
-        else:
-            c.held, c.returning = c.held + 1, c.returning - 1
-
-    def put(self, x: int) -> None:
-        """Puts the flit behind channel x into its output, which x owns until the packet's last flit."""
-        c, y = self.channels[x], self.output(x)
-        assert y is not None and c.latch is not None
-        out = self.channels[y]
-        out.flits.append(c.latch)
-        out.held -= 1
-        out.owner, c.owned = (None, None) if c.latch.tail else (x, y)
-        c.latch = None
-
-    def verdict(self) -> List[str]:
-        """What may still happen without a new packet; else whether flits stand, or the network is empty."""
-        words = ("more", "take", "put", "accept", "credit")
-        able = [f"{word} {x} may still happen" for x in range(len(self.channels)) for word in words if not self.refusal(word, x)]
-        busy = any(c.flits or c.latch is not None for c in self.channels)
-        return able or ["locked" if busy else "empty"]
-
-
-def replayed(net: Network, depth: int, text: str, path: str) -> List[str]:
-    """What stands after the moves of a text. Refused with the first line that is no move that may happen."""
-    replay = Replay(net, depth)
-    for number, line in enumerate(text.split("\n"), 1):
-        word, *others = line.partition("#")[0].split() or [""]
-        if not word:
-            continue
-        values = [number_of(it) for it in others]
-        if word not in ("send", "more", "take", "put", "accept", "credit") or len(values) != (3 if word == "send" else 1) or min(values) < 0:
-            raise Refusal(f"{path}, line {number}: no move is written so")
-        if max(values[:2]) >= len(net.kinds):
-            raise Refusal(f"{path}, line {number}: the channel is out of range")
-        why = replay.refusal(word, *values)
-        if why:
-            raise Refusal(f"{path}, line {number}: it may not happen: {why}")
-        replay.move(word, *values)
-    return replay.verdict()

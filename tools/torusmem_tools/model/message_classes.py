@@ -27,10 +27,8 @@ def classed(net: Network, count: int, is_shared: bool) -> Network:
                 made.names[way[x]] = f"{net.names[x]} {c}"
         ways.append(way)
         made.joins += [(way[i], way[j]) for i, j in net.joins]
-        for (x, j), y in net.choices.items():
-            made.choose(way[x], way[j], [way[y]])
-        for x, j, y in net.further:
-            made.choose(way[x], way[j], [way[y]])
+        for (x, j), ys in net.choices.items():
+            made.choose(way[x], way[j], [way[y] for y in ys])
         made.escapes |= {way[y] for y in net.escapes}
     ends = [[x for x, kind in enumerate(net.kinds) if kind == it] for it in ("eject", "inject")]
     made.replies = [(ways[c][x], ways[d][y]) for x, y in zip(*ends) for c in range(count) for d in range(c + 1, count)]

@@ -8,6 +8,7 @@ from typing import Callable, Dict, List, NamedTuple, Optional, Set, Tuple
 from torusmem_tools.command import Refusal
 
 Place = Tuple[float, float]
+Pair = Tuple[int, int]
 # What `torusmem network` takes at most.
 MOST_CHANNELS, MOST_CHOICES, MOST_PAIRS = 16384, 1 << 27, 1048576
 # How many bytes a word of a name has at most.
@@ -35,12 +36,11 @@ class Network:
     """Channels with their kinds, pairs, choices and replies; routers, links and names, which change no verdict."""
 
     kinds: List[str] = field(default_factory=list)
-    joins: List[Tuple[int, int]] = field(default_factory=list)
-    choices: Dict[Tuple[int, int], int] = field(default_factory=dict)
-    # Choices behind the first one for a channel and a destination, and the escapes that `escape` lines name.
-    further: List[Tuple[int, int, int]] = field(default_factory=list)
+    joins: List[Pair] = field(default_factory=list)
+    # The choices behind a channel for packets to an ejection channel; and the escapes that `escape` lines name.
+    choices: Dict[Pair, List[int]] = field(default_factory=dict)
     escapes: Set[int] = field(default_factory=set)
-    replies: List[Tuple[int, int]] = field(default_factory=list)
+    replies: List[Pair] = field(default_factory=list)
     routers: Dict[int, Router] = field(default_factory=dict)
     links: Dict[int, Link] = field(default_factory=dict)
     names: Dict[int, str] = field(default_factory=dict)
@@ -60,7 +60,7 @@ class Network:
         """A pair and the choices along its route."""
         self.joins.append((channels[0], channels[-1]))
         for x, y in zip(channels, channels[1:]):
-            if self.choices.setdefault((x, channels[-1]), y) != y:
+            if self.choices.setdefault((x, channels[-1]), [y]) != [y]:
                 raise Refusal(f"two choices behind channel {x} for packets to channel {channels[-1]}")
 
     def follow(self, i: int, j: int, after: Callable[[int], int]) -> None:
@@ -68,8 +68,8 @@ class Network:
         self.joins.append((i, j))
         x = i
         while x != j and (x, j) not in self.choices:
-            y = self.choices[x, j] = after(x)
-            x = y
+            self.choices[x, j] = [after(x)]
+            x = self.choices[x, j][0]
 
     def expect(self, pairs: int) -> None:
         """Refuses a network of more pairs than a text may have."""
@@ -78,17 +78,29 @@ class Network:
 
     def choose(self, x: int, j: int, ys: List[int]) -> None:
         """The choices behind a channel for packets to an ejection channel."""
-        for y in ys:
-            if self.choices.setdefault((x, j), y) != y:
-                self.further.append((x, j, y))
+        row = self.choices.setdefault((x, j), [])
+        row += [y for y in dict.fromkeys(ys) if y not in row]
 
     def steps(self) -> List[Tuple[int, int, int]]:
         """All choices, each with its channel and its destination, in their order."""
-        return sorted([*((x, j, y) for (x, j), y in self.choices.items()), *self.further])
+        return sorted((x, j, y) for (x, j), ys in self.choices.items() for y in ys)
+
+    def after(self, x: int, j: int) -> List[int]:
+        """The choices behind a channel: none behind an ejection channel."""
+        return [] if self.kinds[x] == "eject" else self.choices.get((x, j), [])
+
+    def chooses(self) -> bool:
+        """Whether a router has several choices for a packet."""
+        return any(len(ys) > 1 for ys in self.choices.values())
 
     def is_adaptive(self) -> bool:
         """Whether routers choose among several channels, or escapes are named."""
-        return bool(self.further or self.escapes)
+        return bool(self.escapes) or self.chooses()
+
+    def escaping(self) -> Set[int]:
+        """The escapes: injection and ejection channels, and those that `escape` lines name; all where there is none."""
+        every = range(len(self.kinds))
+        return self.escapes | {x for x in every if self.kinds[x] != "hop"} if self.escapes else set(every)
 
     def text(self, named: bool = False) -> str:
         """The text of the network; with its routers and links where they are asked for."""
@@ -125,7 +137,6 @@ class Reader:
     def __init__(self) -> None:
         self.net = Network()
         self.given: Set[Tuple[str, ...]] = set()
-        self.given_choices: Set[Tuple[int, int, int]] = set()
 
     def take(self, kind: str, words: List[str]) -> None:
         """Takes a line."""
@@ -199,10 +210,10 @@ class Reader:
     def next(self, x: int, j: int, y: int) -> None:
         if self.net.kinds[j] != "eject":
             raise ValueError(f"channel {j} is no ejection channel")
-        if (x, j) in self.net.choices and (self.net.choices[x, j] == y or (x, j, y) in self.given_choices):
+        row = self.net.choices.setdefault((x, j), [])
+        if y in row:
             raise ValueError(f"the choice behind channel {x} for packets to channel {j} is given already")
-        self.given_choices.add((x, j, y))
-        self.net.choose(x, j, [y])
+        row.append(y)
 
     def escape(self, y: int) -> None:
         self.once("the escape", y)
@@ -239,16 +250,16 @@ def judged(net: Network) -> Tuple[str, Dict[Tuple[int, int], str]]:
         if net.kinds[i] != "inject" or net.kinds[j] != "eject":
             return f"no route {i} {j}", edges
         while x != j and (x, j) not in arrives:
-            y = net.choices.get((x, j))
+            y = net.choices.get((x, j), [-1])[0]
             steps += 1
-            if y is None or y >= len(net.kinds) or (y != j and net.kinds[y] != "hop") or steps > len(net.kinds):
+            if y < 0 or (y != j and net.kinds[y] != "hop") or steps > len(net.kinds):
                 return f"no route {i} {j}", edges
             edges.setdefault((x, y), str(j))
             x = y
         x = i
         while x != j and (x, j) not in arrives:
             arrives.add((x, j))
-            x = net.choices[x, j]
+            x = net.choices[x, j][0]
     return ("rising" if numbers(net, edges) is not None else "cycle"), edges
 
 

@@ -5,8 +5,8 @@ from __future__ import annotations
 from typing import Dict, Iterator, List, NamedTuple, Optional, Tuple
 
 from torusmem_tools.command import Refusal
-from torusmem_tools.model.deadlock import Replay
 from torusmem_tools.model.network import Network, number_of
+from torusmem_tools.model.wormhole import Wormhole
 
 # The most rounds of a simulation; the last round that a packet may name, and the most flits that it has.
 MOST_ROUNDS = 1000000
@@ -70,7 +70,7 @@ def routers_of(net: Network) -> List[List[int]]:
     """The channels that lead to a router each, found where channels meet: behind both the same one may be chosen."""
     number = list(range(len(net.kinds)))
     first: Dict[int, int] = {}
-    for (x, _), y in net.choices.items():
+    for (x, _), (y,) in net.choices.items():
         old, new = number[x], number[first.setdefault(y, x)]
         if old != new:
             number = [new if it == old else it for it in number]
@@ -91,7 +91,7 @@ class Simulation:
     """A network with packets on their way, in clocked rounds."""
 
     def __init__(self, net: Network, depth: int, traffic: List[Packet]) -> None:
-        self.net, self.replay = net, Replay(net, depth)
+        self.net, self.machine = net, Wormhole(net, depth)
         self.courses = [Course(it) for it in traffic]
         self.queues: Dict[int, List[int]] = {}
         for number, it in enumerate(traffic):
@@ -115,14 +115,14 @@ class Simulation:
                     yield packet
 
     def can(self, word: str, x: int) -> bool:
-        return not self.replay.refusal(word, x)
+        return not self.machine.refusal(word, x)
 
     def round(self, number: int) -> int:
         """Makes the round of this number, from 1 on, and answers how many moves it makes."""
         starts = [it for it in self.due(number)
-                  if not self.replay.refusal("send", *self.courses[it].packet[1:])]
+                  if not self.machine.refusal("send", *self.courses[it].packet[1:])]
         enabled = [it for group in self.groups for it in turned(group, number - 1) if self.can(*it)]
-        full = [x for x, it in enumerate(self.replay.channels) if it.latch is not None]
+        full = [x for x, it in enumerate(self.machine.channels) if it.latch is not None]
         for packet in starts:
             self.begin(packet, number)
         moved = set()
@@ -137,24 +137,25 @@ class Simulation:
     def begin(self, packet: int, number: int) -> None:
         """The sender of a packet begins it."""
         it = self.courses[packet].packet
-        self.replay.move("send", it.start, it.end, it.size)
+        self.machine.move("send", it.start, it.end, it.size)
         self.begun[it.start] += 1
         self.courses[packet].begun = number
         self.tag(it.start, packet)
 
     def tag(self, x: int, packet: int) -> None:
         """Notes on the last flit of a sender's channel which packet it is of, and which flit there."""
-        at = self.replay.channels[x]
-        at.flits[-1] = at.flits[-1]._replace(packet=packet, number=self.courses[packet].packet.size - at.rest - 1)
+        at = self.machine.channels[x]
+        *others, last = at.flits
+        at.flits = (*others, last._replace(packet=packet, number=self.courses[packet].packet.size - at.rest - 1))
 
     def move(self, word: str, x: int, number: int) -> None:
         """Makes a move in a round."""
         if word == "accept":
-            flit = self.replay.channels[x].flits[0]
+            flit = self.machine.channels[x].flits[0]
             if flit.tail:
                 self.courses[flit.packet].delivered = number
         self.left[x] += word in ("take", "accept")
-        self.replay.move(word, x)
+        self.machine.move(word, x)
         if word == "more":
             self.tag(x, self.queues[x][self.begun[x] - 1])
 
@@ -170,7 +171,7 @@ class Simulation:
             if self.round(number):
                 last = number
             elif self.is_over(number):
-                return f"{self.replay.verdict()[0]} after round {last}"
+                return f"{self.machine.verdict()[0]} after round {last}"
         return f"not over after round {MOST_ROUNDS}"
 
     def report(self) -> List[str]:
