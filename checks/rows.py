@@ -1,10 +1,13 @@
 """What checks of drawn cases share: where the tools' models stand, what a program answers, and which rows passed."""
 from __future__ import annotations
 
+import importlib.machinery
+import importlib.util
 import os
 import subprocess
 import sys
-from typing import NamedTuple
+import tempfile
+from typing import Any, NamedTuple
 
 ROOT = os.path.dirname(os.path.dirname(os.path.realpath(__file__)))
 # The program that is checked; none where the variable isn't set.
@@ -29,9 +32,28 @@ def asked(*words: str, text: str = "", program: str = "") -> Answer:
     return Answer(ran.returncode, ran.stdout.decode("ascii", "replace"), ran.stderr.decode("ascii", "replace"))
 
 
+def beside(name: str) -> Any:
+    """A check of this folder as a module."""
+    loader = importlib.machinery.SourceFileLoader(name, f"{ROOT}/checks/{name}")
+    module = importlib.util.module_from_spec(importlib.machinery.ModuleSpec(name, loader, origin=loader.path))
+    sys.modules[name] = module
+    loader.exec_module(module)
+    return module
+
+
 def write(path: str, text: str) -> None:
     with open(path, "w", encoding="ascii") as file:
         file.write(text)
+
+
+def drawn_report(machine: list[str], script: list[str], seed: int, *more: str) -> str:
+    """The report of the run of two texts by the schedule that `draw` draws from a seed."""
+    with tempfile.TemporaryDirectory() as folder:
+        paths = [f"{folder}/{it}" for it in ("machine", "script", "steps")]
+        for path, lines in zip(paths, (machine, script)):
+            write(path, "".join(f"{it}\n" for it in lines))
+        write(paths[2], asked("draw", *paths[:2], "--seed", str(seed), *more).out)
+        return asked("steps", *paths).out
 
 
 class Rows:

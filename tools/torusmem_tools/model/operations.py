@@ -1,13 +1,16 @@
-"""The word that an operation leaves in a memory, by its kind."""
+"""The ten operations on a word of a memory: what each leaves and replies (docs/FORMATS.md, Good reports, rule 4)."""
 from __future__ import annotations
 
-from typing import Sequence
+from typing import NamedTuple, Sequence, Tuple
+
+from torusmem_tools.texts.report import VALUES
 
 MASK = 2**64 - 1
+KINDS = tuple(VALUES)
 
 
 def written(kind: str, values: Sequence[int], word: int) -> int:
-    """The word that an operation leaves where it finds one (docs/FORMATS.md, Good reports, rule 4)."""
+    """The word that an operation leaves where it finds one."""
     if kind == "load":
         return word
     if kind == "cas":
@@ -23,3 +26,28 @@ def written(kind: str, values: Sequence[int], word: int) -> int:
         "max": max(word, it),
         "min": min(word, it),
     }[kind]
+
+
+class Operation(NamedTuple):
+    """An operation, or a fence: its processor and its number there, its kind, its word and its values."""
+
+    processor: int
+    number: int
+    kind: str
+    word: int
+    values: Tuple[int, ...]
+
+    def is_write(self) -> bool:
+        return self.kind not in ("load", "fence")
+
+    def text(self) -> str:
+        """The operation as traces, logs and scripts have it."""
+        return "fence" if self.kind == "fence" else " ".join([self.kind, *map(str, (self.word, *self.values))])
+
+    def left(self, word: int) -> int:
+        """The word that it leaves where it finds one."""
+        return written(self.kind, self.values, word)
+
+    def reply(self, word: int) -> str:
+        """What it replies where it finds a word."""
+        return "ok" if self.kind == "store" else str(word)

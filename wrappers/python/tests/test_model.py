@@ -94,13 +94,13 @@ class Asked(unittest.TestCase):
 class Beside(unittest.TestCase):
     def look(self, model: Model, machine: Machine) -> None:
         """Both show the same."""
-        self.assertEqual(machine.row(), model.row)
+        self.assertEqual(machine.row(), model.row())
         self.assertEqual(machine.finished, model.is_finished())
         for tile in range(model.shape.tiles):
             answers = [(it.index, it.operation.name.lower(), it.values, it.bank, it.place, it.old) for it in machine.answers(tile)]
-            self.assertEqual(answers, model.agents[3 * tile].answers)
+            self.assertEqual(answers, model.answers(tile))
             entries = [(*it[:3], it[3].name.lower(), *it[4:]) for it in machine.entries(tile)]
-            self.assertEqual(entries, model.agents[3 * tile + 2].entries)
+            self.assertEqual(entries, model.entries(tile))
 
     def beside(self, text: str, seed: int) -> None:
         draw = random.Random(seed)
@@ -109,7 +109,7 @@ class Beside(unittest.TestCase):
         scripts = drawn_script(draw, tiles, int(said["words"]), 4 * tiles)
         model, moves = Model(text, scripts), 0
         with Machine(text, scripts) as machine:
-            every = model.steps()
+            every = model.steps
             agents = draw.sample(range(3 * tiles), 3 * tiles - 1)  # the one that is missing is slow
             some = [it for it in every if it[0] in agents]
             for number in range(2000):
@@ -140,7 +140,7 @@ class Beside(unittest.TestCase):
                 scripts = drawn_script(random.Random(name), Machine(text).tiles, words, 40)
                 model, machine, rounds = Model(text, scripts), Machine(text, scripts), 0
                 while not model.is_finished():
-                    for step in model.steps():
+                    for step in model.steps:
                         model.step(*step)
                     rounds += 1
                 self.assertEqual(machine.finish(), rounds)
