@@ -3,7 +3,7 @@ from __future__ import annotations
 
 import random
 from collections import deque
-from typing import Dict, List, Tuple
+from typing import Dict, List
 
 from torusmem_tools.model.network import Network
 

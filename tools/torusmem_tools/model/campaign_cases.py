@@ -7,7 +7,7 @@ from __future__ import annotations
 from dataclasses import dataclass, field, replace
 from typing import TypeVar
 
-from torusmem_tools.model.operations import MASK
+from torusmem_tools.model.operations import MASK, VALUES
 from torusmem_tools.model.torus import digits
 from torusmem_tools.texts import report
 
@@ -153,7 +153,7 @@ def line(numbers: Numbers, at: int, has_earlier: bool, room: int) -> str:
         return kind
     if kind == "spin":
         return f"spin {at} {numbers.below(3)} {1 + numbers.below(min(room, 20))}"
-    values = [value(numbers, has_earlier) for _ in range(report.VALUES[kind])]
+    values = [value(numbers, has_earlier) for _ in range(VALUES[kind])]
     return " ".join([kind, str(at), *values])
 
 

@@ -4,7 +4,7 @@ from __future__ import annotations
 from collections import deque
 from dataclasses import dataclass, field
 
-from torusmem_tools.texts import report
+from torusmem_tools.model.operations import VALUES
 
 
 @dataclass(eq=False)
@@ -29,7 +29,7 @@ class Operation:
         """How many flits its request has, or its reply."""
         if is_reply:
             return 1 if self.kind == "store" else 3
-        return 1 + 2 * report.VALUES[self.kind]
+        return 1 + 2 * VALUES[self.kind]
 
 
 @dataclass(frozen=True)

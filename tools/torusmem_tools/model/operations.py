@@ -3,9 +3,9 @@ from __future__ import annotations
 
 from typing import NamedTuple, Sequence, Tuple
 
-from torusmem_tools.texts.report import VALUES
-
 MASK = 2**64 - 1
+# How many values each operation brings, beside its address.
+VALUES = {"load": 0, "store": 1, "swap": 1, "cas": 2, "add": 1, "and": 1, "or": 1, "xor": 1, "max": 1, "min": 1}
 KINDS = tuple(VALUES)
 
 

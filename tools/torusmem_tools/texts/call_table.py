@@ -13,9 +13,9 @@ from operator import lt
 from typing import Iterable, Iterator, List, Optional, Tuple
 
 from torusmem_tools import command
-from torusmem_tools.model.operations import MASK
+from torusmem_tools.model.operations import MASK, VALUES
 from torusmem_tools.progress import Progress
-from torusmem_tools.texts import histories, literals, report, table
+from torusmem_tools.texts import histories, literals, table
 from torusmem_tools.texts.call_trace import COUNTING, Calls
 from torusmem_tools.texts.report import BadLine
 from torusmem_tools.texts.table import BILLION
@@ -33,7 +33,7 @@ PLAIN = {
 }
 # Of each operation whether it has values, and how many spaces in them; whether its reply is `ok`, and there at all, where it
 # is answered.
-SHAPES = {(kind, count > 0, max(count - 1, 0), kind == "store", True, True) for kind, count in report.VALUES.items()}
+SHAPES = {(kind, count > 0, max(count - 1, 0), kind == "store", True, True) for kind, count in VALUES.items()}
 SHAPES |= {(*it[:3], *reply, False) for it in SHAPES for reply in ((True, True), (False, True), (False, False))}
 # The time of the answer that there is none of.
 OPEN = 2**200
@@ -102,7 +102,7 @@ class Reader:
     def asked(self, kind: str, address: str, values: str) -> str:
         """What an operation asks."""
         names, words = self.calls.names, [values] if kind in ("store", "swap") and values else values.split()
-        if kind not in report.VALUES or kind in COUNTING or len(words) != report.VALUES[kind]:
+        if kind not in VALUES or kind in COUNTING or len(words) != VALUES[kind]:
             table.values_of(kind, values.split(), names.is_hex)
         return " ".join([kind, names.key(address), *map(names.value, words)])
 

@@ -10,22 +10,10 @@ from dataclasses import dataclass, field
 from typing import Callable, Iterator
 
 from torusmem_tools import command
+from torusmem_tools.model.operations import VALUES
 
 MOST_TILES = 64
 MOST_EVENTS = 196608
-# How many values each operation brings, beside its address.
-VALUES = {
-    "load": 0,
-    "store": 1,
-    "swap": 1,
-    "cas": 2,
-    "add": 1,
-    "and": 1,
-    "or": 1,
-    "xor": 1,
-    "max": 1,
-    "min": 1,
-}
 
 
 @dataclass

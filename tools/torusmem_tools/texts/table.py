@@ -14,8 +14,8 @@ from dataclasses import dataclass, field
 from typing import Callable, Iterator, List, Optional, Sequence, Tuple
 
 from torusmem_tools import command
-from torusmem_tools.model.operations import MASK
-from torusmem_tools.texts import column_names, literals, report
+from torusmem_tools.model.operations import MASK, VALUES
+from torusmem_tools.texts import column_names, literals
 from torusmem_tools.texts.report import BadLine, Entry
 
 COLUMNS = "processor,index,tag,operation,address,values,reply,bank,issued,served,answered".split(",")
@@ -53,7 +53,7 @@ FOUND, FOUND_ANOTHER = ("ok", "true"), ("fail", "false")
 # What stands between the columns of other tables.
 MARKS = ((b";", "semicolons"), (b"\t", "tabs"))
 # Of each kind how many values there are, and whether the reply is `ok`.
-PLAIN_KINDS = {(kind, count, kind == "store") for kind, count in report.VALUES.items()}
+PLAIN_KINDS = {(kind, count, kind == "store") for kind, count in VALUES.items()}
 
 
 @dataclass
@@ -143,10 +143,10 @@ def refuse_count(count: int, wanted: int) -> None:
 
 def values_of(kind: str, words: list[str], is_hex: bool) -> tuple[int, ...]:
     """The values of an operation, as many as it has."""
-    if kind not in report.VALUES:
+    if kind not in VALUES:
         raise BadLine(f"there is no operation `{kind}`" if kind else "there is no operation")
-    if len(words) != report.VALUES[kind]:
-        wanted = ("no value", "one value", "two values")[report.VALUES[kind]]
+    if len(words) != VALUES[kind]:
+        wanted = ("no value", "one value", "two values")[VALUES[kind]]
         raise BadLine(f"{kind} takes {wanted}, and here {'is' if len(words) == 1 else 'are'} {len(words)}")
     return tuple(literals.number(it, 0, MASK, "a value", is_hex) for it in words)
 
