@@ -2,9 +2,9 @@
 from __future__ import annotations
 
 import random
-from collections import deque
 from typing import Dict, List
 
+from torusmem_tools.model.deterministic_networks import distances
 from torusmem_tools.model.network import Network
 
 KINDS = {"i": "inject", "e": "eject", "h": "hop"}
@@ -37,17 +37,6 @@ class Routers:
             self.net.choose(x, self.count + goal, [self.count + goal] if r == goal else kept)
 
 
-def far_from(links: Dict[int, List[int]], goal: int) -> Dict[int, int]:
-    far, queue = {goal: 0}, deque([goal])
-    while queue:
-        s = queue.popleft()
-        for r in links:
-            if s in links[r] and r not in far:
-                far[r] = far[s] + 1
-                queue.append(r)
-    return far
-
-
 def ring(lots: random.Random) -> Network:
     """One way or both ways round; the escapes one way, with a dateline or without."""
     count, both, line = lots.randint(3, 5), lots.random() < 0.3, lots.random() < 0.6
@@ -75,7 +64,7 @@ def mesh(lots: random.Random, orders: str) -> Network:
     made = Routers(grid(width, height), layers)
     made.net.escapes = {x for (_, _, v), x in made.hops.items() if v == 0}
     for goal in made.links:
-        far, order = far_from(made.links, goal), lots.choice(orders)
+        far, order = distances(made.links, goal), lots.choice(orders)
         for r in made.links:
             near = [s for s in made.links[r] if far[s] < far[r]]
             first = [s for s in near if (s // width == r // width) == (order == "x")] + near
@@ -90,7 +79,7 @@ def turns(lots: random.Random) -> Network:
     width, height = lots.choice([(2, 2), (3, 2), (3, 3)])
     made, west = Routers(grid(width, height), lots.choice([1, 1, 2])), lots.random() < 0.6
     for goal in made.links:
-        far = far_from(made.links, goal)
+        far = distances(made.links, goal)
         for r in made.links:
             near = [s for s in made.links[r] if far[s] < far[r]]
             first = [s for s in near if s == r - 1] if west else lots.sample(near, lots.randint(min(1, len(near)), len(near)))
@@ -111,7 +100,7 @@ def graph(lots: random.Random) -> Network:
     made, nearer, by_tree, stays = Routers(links, 2), lots.random() < 0.4, lots.random() < 0.7, lots.random() < 0.5
     made.net.escapes = {x for (_, _, v), x in made.hops.items() if v == 1}
     for goal in links:
-        far, high = far_from(links, goal), far_from(trees, goal)
+        far, high = distances(links, goal), distances(trees, goal)
         for r in links:
             others = [s for s in links[r] if not nearer or far[s] < far[r]]
             ways = [s for s in trees[r] if high[s] < high[r]] if by_tree else others

@@ -108,20 +108,25 @@ def torus(radices: List[int]) -> Network:
     return net
 
 
+def distances(links: Dict[int, List[int]], goal: int) -> Dict[int, int]:
+    """How many links it takes from each router to one, where there is a path."""
+    far, queue = {goal: 0}, deque([goal])
+    while queue:
+        s = queue.popleft()
+        for r in links:
+            if s in links[r] and r not in far:
+                far[r] = far[s] + 1
+                queue.append(r)
+    return far
+
+
 def shortest(links: Dict[int, List[int]], nodes: Dict[int, int], routers: Dict[int, Router]) -> Network:
     """Routers with links and nodes; shortest paths, the router of the lowest number first."""
     net = Network(routers=routers)
     inject, eject = ends(net, nodes)
     hops = {(r, s): net.channel("hop", r, s) for r in sorted(links) for s in sorted(links[r])}
     for goal, last in nodes.items():
-        far = {last: 0}
-        queue = deque([last])
-        while queue:
-            s = queue.popleft()
-            for r in sorted(links):
-                if s in links[r] and r not in far:
-                    far[r] = far[s] + 1
-                    queue.append(r)
+        far = distances(links, last)
         for start, first in nodes.items():
             if first not in far:
                 raise Refusal(f"no path from node {start} to node {goal}")
