@@ -32,7 +32,7 @@ def answers(work: Callable[[Task], Answer], tasks: List[Task], jobs: int) -> Ite
             child = os.fork()
             if child == 0:
                 out.close()
-                told(work, list(range(job, len(tasks), jobs)), tasks, into)
+                work_in_child(work, list(range(job, len(tasks), jobs)), tasks, into)
             into.close()
             children.append(child)
             pipes.append(out)
@@ -54,7 +54,7 @@ def leave_signals() -> None:
     signal.signal(signal.SIGTERM, signal.SIG_DFL)
 
 
-def told(
+def work_in_child(
     work: Callable[[Task], Answer], mine: List[int], tasks: List[Task], pipe: connection.Connection
 ) -> NoReturn:
     """In a process of its own: does the tasks of the numbers, and writes each answer into the pipe."""

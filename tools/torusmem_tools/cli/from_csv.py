@@ -173,14 +173,14 @@ def check(given: Namespace) -> Found:
         judge = Judge(trial.built_torusmem(), folder, memory)
         told = progress.Progress(TOOL)
         try:
-            made = trace_check.Check(found, judge, given.jobs or parallel.cores(), told).made()
+            made = trace_check.Check(found, judge, given.jobs or parallel.cores(), told).verdict()
         finally:
             told.clear()
     say_unserved(made.unserved, made.served)
     fault = made.fault
     if fault:
         raise command.No(f"{given.table}, line {fault.line}: {fault.why}" if fault.line else fault.why)
-    return Found(made.told())
+    return Found(made.good_line())
 
 
 def made(given: Namespace) -> Found:
@@ -222,7 +222,7 @@ def log(given: Namespace) -> Found:
     lines_made = list(found.lines(words_of(given, found, opening), opening))
     if not given.check:
         return Found("".join(f"{text}\n" for _, text in lines_made))
-    said, is_obeyed = operation_log.judged(lines_made, given.table)
+    said, is_obeyed = operation_log.model_verdict(lines_made, given.table)
     return Found(said, status=0 if is_obeyed else 1, cases=operation_log.cases_of(said, given.table))
 
 
@@ -241,7 +241,7 @@ def trace(given: Namespace) -> Found:
         if given.check:
             options = [] if given.configurations is None else ["--configurations", str(given.configurations)]
             judge = trace_verdict.Judge(calls, words, opening, options, told)
-            text = trace_verdict.judged(judge, is_told or given.junit is not None)
+            text = trace_verdict.verdict(judge, is_told or given.junit is not None)
         else:
             text = call_trace.trace_of(calls, words, opening).text()
     except command.Refusal as why:
@@ -269,7 +269,7 @@ def refuse_useless(given: Namespace) -> None:
         raise command.WrongWords(f"--jobs is of no use with {'--log' if given.log else '--trace'} (--help says more)")
 
 
-def judged(given: Namespace) -> Found:
+def result(given: Namespace) -> Found:
     """What is found of the table, or the text that is made of it."""
     if not given.trace:
         call_table.refuse_calls(given.table, given.log)
@@ -278,7 +278,7 @@ def judged(given: Namespace) -> Found:
     return check(given) if given.check else made(given)
 
 
-def judged_for_build(given: Namespace) -> Found:
+def result_for_build(given: Namespace) -> Found:
     """The same, and in a JUnit file."""
     junit.refuse_input(given.junit, [given.table, given.final, *(it for it in given.init if isinstance(it, str))])
     junit.write(given.junit, b"")
@@ -288,7 +288,7 @@ def judged_for_build(given: Namespace) -> Found:
         junit.write(given.junit, junit.text_of(TOOL, given.table, cases, time.monotonic() - began))
 
     try:
-        found = judged(given)
+        found = result(given)
     except command.Refusal as why:
         put([junit.refused(given.table, why, REFUSED)])
         raise
@@ -315,7 +315,7 @@ def work() -> str:
     given = words().parse_args(words_given(sys.argv[1:]))
     refuse_useless(given)
     refuse_missing(given)
-    found = judged(given) if given.junit is None else judged_for_build(given)
+    found = result(given) if given.junit is None else result_for_build(given)
     if found.lines or found.status:
         command.put(TOOL, found.text)
         for it in found.lines:

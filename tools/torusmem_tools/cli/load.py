@@ -49,7 +49,7 @@ def rows_of(machine: replay.Machine) -> list[dict[str, Any]]:
     rows: list[dict[str, Any]] = []
     for wire, it in zip(torus_layout.wires(machine.shape), machine.channels):
         counts = {"flits": it.put_count, "busy": it.busy, "waited": it.waited, "most": it.most}
-        rows.append({**wire.told(), **counts, "name": wire.name()})
+        rows.append({**wire.as_json(), **counts, "name": wire.name()})
     return rows
 
 

@@ -92,10 +92,10 @@ from torusmem_tools.draw import paper
 from torusmem_tools.draw.network_picture import picture
 from torusmem_tools.draw.router_ends import plan_of
 from torusmem_tools.model import traffic_draw
-from torusmem_tools.model.adaptive_verdict import told
-from torusmem_tools.model.adaptive_walk import judged_choices
+from torusmem_tools.model.adaptive_verdict import sentences
+from torusmem_tools.model.adaptive_walk import duato_verdict
 from torusmem_tools.model.deadlock import run_of
-from torusmem_tools.model.network import Network, judged, parsed
+from torusmem_tools.model.network import Network, channel_dependencies, parsed
 from torusmem_tools.model.network_verdict import Verdict, explained, verdict_of, verdict_read
 from torusmem_tools.model.network_words import generated, text_of
 from torusmem_tools.model.packet_rounds import simulated
@@ -119,11 +119,11 @@ def verdict(net: Network, path: str) -> Verdict:
     return verdict_read(net, text_of(path), path) if path else verdict_of(net)
 
 
-def walked(net: Network, path: str, is_explained: bool) -> str:
+def walk(net: Network, path: str, is_explained: bool) -> str:
     """The verdict's kind, or all of it. Where it isn't `rising`, this prints it itself, and ends with status 1."""
     if net.is_adaptive():
-        return chosen(net, path, is_explained)
-    found = verdict(net, path) if path or is_explained else Verdict(judged(net)[0], "")
+        return walk_adaptive(net, path, is_explained)
+    found = verdict(net, path) if path or is_explained else Verdict(channel_dependencies(net)[0], "")
     said = explained(net, found) if is_explained else f"{found.kind}\n"
     if found.kind != "rising":
         command.put(TOOL, said)
@@ -131,11 +131,11 @@ def walked(net: Network, path: str, is_explained: bool) -> str:
     return said
 
 
-def chosen(net: Network, path: str, is_explained: bool) -> str:
+def walk_adaptive(net: Network, path: str, is_explained: bool) -> str:
     """The verdict on a network whose routers choose. Where it isn't `rising`, this prints it, and ends with status 1."""
     found = verdict(net, path).chosen if path else None
-    found = found or judged_choices(net)
-    said = told(net, found) if is_explained else found.text()
+    found = found or duato_verdict(net)
+    said = sentences(net, found) if is_explained else found.text()
     if found.kind == "rising":
         return said
     command.put(TOOL, said)
@@ -228,7 +228,7 @@ def work() -> str:
         return table(text_of(given.which), given.which)
     if given.what in GENERATORS:
         net = generated(given)
-        if given.what == "from-booksim" and judged(net)[0] == "cycle":
+        if given.what == "from-booksim" and channel_dependencies(net)[0] == "cycle":
             command.say(TOOL, "shortest paths have a cycle here")
         return drawn(net, given.verdict, given.width) if given.svg else net.text(given.names)
     net = parsed(text_of(given.which), given.which)
@@ -240,7 +240,7 @@ def work() -> str:
         return "\n".join(shown(net, given.depth or 1, text_of(given.moves), given.moves)) + "\n"
     if given.what == "run":
         return locked(net, given.verdict, given.depth or 1)
-    return drawn(net, given.verdict, given.width) if given.svg else walked(net, given.verdict, given.explain)
+    return drawn(net, given.verdict, given.width) if given.svg else walk(net, given.verdict, given.explain)
 
 
 def main() -> None:

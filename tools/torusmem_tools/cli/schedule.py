@@ -28,7 +28,7 @@ def words() -> command.Parser:
     return parser
 
 
-def told(texts: dict[str, str], rounds: int, is_clocked: bool) -> str:
+def by_program(texts: dict[str, str], rounds: int, is_clocked: bool) -> str:
     """The schedule of the program."""
     how = ["--clocked"] if is_clocked else []
     return command.torusmem_on(texts, "schedule", *texts, "--rounds", str(rounds), *how, fine=(0, 3))
@@ -41,7 +41,7 @@ def work() -> str:
     machine, script = (command.contents(it) for it in (given.machine, given.script))
     with command.kept(machine) as first, command.kept(script) as second:
         texts = {first: given.machine, second: given.script}
-        by_program = told(texts, given.rounds, given.clocked)
+        by_program = by_program(texts, given.rounds, given.clocked)
         made = schedule_runs.in_rounds(replay.case_of(machine, script), given.rounds, given.clocked)
         if made != by_program:
             raise command.Refusal("these are not the moves that `torusmem schedule` prints")

@@ -69,16 +69,16 @@ def say(text: str) -> None:
         rewrite(text)
 
 
-def numbered_told(numbered: tuple[int, Point]) -> tuple[int, offered_load.Found | str]:
+def numbered_result(numbered: tuple[int, Point]) -> tuple[int, offered_load.Found | str]:
     """In a process of its own: what a run came to, with its number, or why it didn't."""
-    return numbered[0], (offered_packets if isinstance(numbered[1], offered_packets.Point) else offered_load).told(numbered[1])
+    return numbered[0], (offered_packets if isinstance(numbered[1], offered_packets.Point) else offered_load).result(numbered[1])
 
 
 def all_measured(points: list[Point], jobs: int) -> list[offered_load.Found]:
     """What all runs came to, so many made at once, in their order."""
     found: list[offered_load.Found | None] = [None] * len(points)
     with multiprocessing.get_context("fork").Pool(min(jobs, len(points)), ignored) as pool:
-        for done, (at, made) in enumerate(pool.imap_unordered(numbered_told, list(enumerate(points)))):
+        for done, (at, made) in enumerate(pool.imap_unordered(numbered_result, list(enumerate(points)))):
             if isinstance(made, str):
                 raise command.Refusal(made)
             found[at] = made

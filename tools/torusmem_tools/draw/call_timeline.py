@@ -161,7 +161,7 @@ def picture(text: bytes, path: str, first: int | None, last: int | None, tool: s
     opening = calls.opening({}, None)
     judge = trace_verdict.Judge(calls, max([calls.greatest_address(), *opening]) + 1, opening, [], told)
     try:
-        trace_verdict.judged(judge, True)
+        trace_verdict.verdict(judge, True)
     except trace_verdict.NoOrder as why:
         if first is None and last is None and not why.is_undecided:
             return on_paper(Told(why), on, tool) if on else drawn(Told(why))

@@ -33,7 +33,7 @@ def step_of(most: int, wanted: int) -> int:
     return step
 
 
-def told(rows: List[Row]) -> str:
+def tooltip(rows: List[Row]) -> str:
     """What a tooltip says of channels."""
     return "\n".join(f"{it['name']}: {it['flits']} flits, busy {it['busy']}, waited {it['waited']}" for it in rows)
 
@@ -99,7 +99,7 @@ class Plan:
 def drawn_hop(plan: Plan, rows: List[Row], most: int) -> str:
     """The hops of a link in one direction: an arrow in the colour of their flits, and how many these are."""
     tile, dim, by = rows[0]["tile"], rows[0]["dimension"], 1 if rows[0]["direction"] == "plus" else -1
-    flits, parts = flits_of(rows), [svg_text.title(told(rows))]
+    flits, parts = flits_of(rows), [svg_text.title(tooltip(rows))]
     part = flits / most if most else 0
     for number, way in enumerate(plan.ways(tile, dim, by)):
         gaps = []
@@ -119,7 +119,7 @@ def drawn_tile(plan: Plan, tile: int, rows: List[Row], most: int) -> str:
     look: Dict[str, Any] = {"fill": colour(part), "stroke": palette.GREY, "stroke_width": 1.5, "rx": 4}
     box = svg_text.element("rect", x=x - wide, y=y - high, width=2 * wide, height=2 * high, **look)
     name = svg_text.text(x, y + 4, str(tile), FONT, text_anchor="middle", font_weight="bold")
-    parts = [svg_text.title(f"tile {tile}\n{told(rows)}"), box, name]
+    parts = [svg_text.title(f"tile {tile}\n{tooltip(rows)}"), box, name]
     # (in three dimensions there is no room for the names)
     for dim in range(len(plan.shape.radices) % 3):
         for by in (1, -1):

@@ -92,7 +92,7 @@ def lanes_of(window: Window, processors: List[int]) -> List[Lane]:
     return lanes
 
 
-def told(entry: report.Entry) -> str:
+def tooltip(entry: report.Entry) -> str:
     """All that the report says of an operation."""
     which = f"processor {entry.source}, tag {entry.tag}"
     if entry.index is not None:
@@ -149,7 +149,7 @@ def drawn_bar(bar: Bar) -> str:
         "rect", x=x, y=bar.top, width=end - x, height=BAR, fill=palette.tint(palette.ink(bar.entry.bank), light)
     )
     after = 0.65 if bar.entry.answered is not None else 0.94
-    parts = [svg_text.title(told(bar.entry)), half(bar.start, bar.service, 0.87), half(bar.service, bar.end, after)]
+    parts = [svg_text.title(tooltip(bar.entry)), half(bar.start, bar.service, 0.87), half(bar.service, bar.end, after)]
     texts = [svg_text.text(x, bar.top + 14, said, FONT, font_family=svg_text.MONO) for x, said in labels(bar)]
     return svg_text.group([*parts, *outline(bar), *texts])
 

@@ -82,7 +82,7 @@ def histograms(made: Row, given: Optional[Paper]) -> str:
     return on.svg("load", on.room(), 36 + 220 * len(ways), parts)
 
 
-def told(net: Network, plan: Plan, made: Row) -> Dict[int, str]:
+def tooltips(net: Network, plan: Plan, made: Row) -> Dict[int, str]:
     """What the tooltips of channels say."""
     return {it["channel"]: f"channel {it['channel']}, {it['name']}: {it['flits']} flits, waited {it['waited']}" for it in made["channels"]}
 
@@ -109,7 +109,7 @@ class Panel:
         inks = {it["channel"]: colour(it[count] / max(self.most, 1)) for it in self.rows}
         numbers = {it["channel"]: str(it[count]) for it in self.rows} if len(self.rows) <= MOST_NUMBERED else {}
         self.diagram: Diagram = diagram(plan, Marks(numbers, replies=net.replies, inks=inks), room)
-        self.titles = told(net, plan, made)
+        self.titles = tooltips(net, plan, made)
         left, top, right, low = self.diagram.extent()
         self.place, self.wide, self.high = (-left, 32 - top), right - left, 32 + low - top
 

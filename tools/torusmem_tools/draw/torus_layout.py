@@ -82,7 +82,7 @@ class Wire:
         class_ = "requests" if self.class_ == "request" else "replies"
         return f"tile {self.tile} to {self.to}, dimension {self.dimension} {self.direction}, {class_}, bit {self.bit}"
 
-    def told(self) -> dict[str, Any]:
+    def as_json(self) -> dict[str, Any]:
         """The channel for JSON."""
         made: dict[str, Any] = {"tile": self.tile, "place": self.place, "kind": self.kind, "class": self.class_}
         if self.kind == "hop":

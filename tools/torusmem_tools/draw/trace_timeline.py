@@ -44,7 +44,7 @@ class Operation:
     # What its lane is called.
     lane: str = ""
 
-    def told(self) -> str:
+    def tooltip(self) -> str:
         """All that is known of it."""
         end = f"answered {self.reply} at event {self.answered}" if self.answered else "never answered"
         place = f"\nnumber {self.place} in the order" if self.place else ""
@@ -187,7 +187,7 @@ def drawn_bar(it: Operation, window: Window, top: float, width: int) -> str:
     start, end = window.at(it.issued), window.at(it.answered or window.last + 1)
     stroke = RED if width > 1 else palette.dark(palette.ink(it.address))
     dashed = None if it.answered else "4 3"
-    parts = [svg_text.title(it.told())]
+    parts = [svg_text.title(it.tooltip())]
     fill = palette.tint(palette.ink(it.address), 0.8)
     parts.append(
         svg_text.element(

@@ -5,7 +5,7 @@ from __future__ import annotations
 from typing import List, Optional, Tuple
 
 from torusmem_tools.command import Refusal
-from torusmem_tools.model.adaptive_walk import Edge, Found, Walk, judged_choices
+from torusmem_tools.model.adaptive_walk import Edge, Found, Walk, duato_verdict
 from torusmem_tools.model.deadlock import titled
 from torusmem_tools.model.network import Network, number_of
 
@@ -29,7 +29,7 @@ def turns_of(lines: List[List[str]], net: Network) -> Optional[List[Tuple[int, E
 def found_in(net: Network, text: str, path: str) -> Found:
     """The verdict that a text of `torusmem network` has. Refused where it is no verdict of this network, as far as the
     plain walk can see."""
-    walked, lines = judged_choices(net), text.splitlines()
+    walked, lines = duato_verdict(net), text.splitlines()
     kind = walked.kind
     said = [it for it in lines if it in ("rising", "cycle") or it.startswith(("no route ", "no choice ", "no escape "))]
     if said != [kind]:
@@ -48,7 +48,7 @@ def found_in(net: Network, text: str, path: str) -> Found:
     return walked._replace(numbers=[found[x] for x in sorted(found)])
 
 
-def told(net: Network, found: Found) -> str:
+def sentences(net: Network, found: Found) -> str:
     """The verdict's line; how far packets go, or a sentence on each dependency of a cycle."""
     lines = [found.kind]
     if found.kind == "rising":

@@ -144,7 +144,7 @@ class Walk:
         return seen
 
 
-def judged_choices(net: Network, walks: Callable[[Network], Walk] = Walk) -> Found:
+def duato_verdict(net: Network, walks: Callable[[Network], Walk] = Walk) -> Found:
     """What is judged of a network with several choices, by this walk."""
     wrong = misfit(net)
     if wrong is not None:

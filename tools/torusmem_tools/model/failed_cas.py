@@ -98,7 +98,7 @@ class Search:
         del self.is_open[at]
         return bool(found)
 
-    def told(self) -> Dict[int, str]:
+    def words_of_failed(self) -> Dict[int, str]:
         """The word that each failed cas found, in one of the orders."""
         node, found = next(iter(self.states.values())), {}
         while node[0] is not None:

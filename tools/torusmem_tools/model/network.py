@@ -241,7 +241,7 @@ def parsed(text: str, path: str) -> Network:
     return reader.net
 
 
-def judged(net: Network) -> Tuple[str, Dict[Tuple[int, int], str]]:
+def channel_dependencies(net: Network) -> Tuple[str, Dict[Tuple[int, int], str]]:
     """The verdict's kind by a plain walk, and the dependencies with how each leads on."""
     edges = {(x, y): "" for x, y in net.replies}
     arrives: Set[Tuple[int, int]] = set()

@@ -6,9 +6,9 @@ from typing import Dict, List, Optional
 
 from torusmem_tools.command import Refusal
 from torusmem_tools.model.adaptive_verdict import found_in
-from torusmem_tools.model.adaptive_walk import Found, judged_choices
+from torusmem_tools.model.adaptive_walk import Found, duato_verdict
 from torusmem_tools.model.deadlock import Fill, Held, held_by, jam_of, titled
-from torusmem_tools.model.network import Network, cycle, judged, number_of, numbers
+from torusmem_tools.model.network import Network, channel_dependencies, cycle, number_of, numbers
 
 WALKED = "by tools/network, a plain walk that is not proved"
 PROGRAM = "by torusmem network"
@@ -29,9 +29,9 @@ class Verdict:
 def verdict_of(net: Network) -> Verdict:
     """The verdict of the plain walk."""
     if net.is_adaptive():
-        found = judged_choices(net)
+        found = duato_verdict(net)
         return Verdict(found.kind, WALKED, chosen=found)
-    kind, edges = judged(net)
+    kind, edges = channel_dependencies(net)
     fills = jam_of(net, cycle(edges)) if kind == "cycle" else []
     return Verdict(kind, WALKED, numbers(net, edges) or [] if kind == "rising" else [], fills, held_by(net, fills))
 
@@ -42,7 +42,7 @@ def verdict_read(net: Network, text: str, path: str) -> Verdict:
     if net.is_adaptive():
         read = found_in(net, text, path)
         return Verdict(read.kind, PROGRAM, chosen=read)
-    kind, edges = judged(net)
+    kind, edges = channel_dependencies(net)
     found: Dict[int, int] = {}
     around: List[int] = []
     fills: List[Fill] = []

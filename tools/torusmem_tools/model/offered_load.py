@@ -158,7 +158,7 @@ def zero_load(point: Point) -> float | None:
     return 4 * hops + (13 if point.depth > 1 else 15)
 
 
-def told(point: Point) -> Any:
+def result(point: Point) -> Any:
     """In a process of its own: what a run came to, or why it didn't."""
     try:
         return measured(point)

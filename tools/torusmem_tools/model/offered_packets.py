@@ -13,7 +13,7 @@ from typing import Any, List, Optional
 from torusmem_tools import command
 from torusmem_tools.model import campaign_cases, traffic_draw, trial
 from torusmem_tools.model.deadlock import route
-from torusmem_tools.model.network import Network, judged, parsed
+from torusmem_tools.model.network import Network, channel_dependencies, parsed
 from torusmem_tools.model.network_words import text_of
 from torusmem_tools.model.offered_load import Found
 from torusmem_tools.model.packet_rounds import Packet, Simulation
@@ -55,7 +55,7 @@ def network_of(path: str) -> Network:
     net = parsed(text_of(path), path)
     if net.is_adaptive():
         raise command.Refusal(f"{path}: packets are sent through networks whose routers don't choose")
-    kind = judged(net)[0]
+    kind = channel_dependencies(net)[0]
     if kind.startswith("no route"):
         raise command.Refusal(f"{path}: {kind}")
     return net
@@ -121,7 +121,7 @@ def zero_load(point: Point) -> Optional[float]:
     return times / sum(share for share, _, _ in pairs)
 
 
-def told(point: Point) -> Any:
+def result(point: Point) -> Any:
     """In a process of its own: what a run came to, or why it didn't."""
     try:
         return measured(point)

@@ -188,7 +188,7 @@ def left_lines(found: Story, teller: Teller, reasons: List[str]) -> List[str]:
     return []
 
 
-def told(calls: Calls, trace: Trace, event: int, reasons: List[str], is_failed_cas: bool) -> List[str]:
+def story_lines(calls: Calls, trace: Trace, event: int, reasons: List[str], is_failed_cas: bool) -> List[str]:
     """The lines of the story."""
     if event >= 0:
         return []

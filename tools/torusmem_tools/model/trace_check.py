@@ -67,7 +67,7 @@ class Verdict:
     words: int
     pieces: int
 
-    def told(self) -> str:
+    def good_line(self) -> str:
         """The line of a good trace."""
         many: Callable[[int, str], str] = lambda count, name: f"{count} {name}{'' if count == 1 else 's'}"
         parts = f"{many(self.served, 'operation')} on {many(self.words, 'word')}, in {many(self.pieces, 'report')}"
@@ -162,7 +162,7 @@ class Check:
                     lines[name] = row[LINE]
         return None
 
-    def judged(self, number: int) -> Tuple[Optional[Fault], int, int, List[int]]:
+    def first_fault(self, number: int) -> Tuple[Optional[Fault], int, int, List[int]]:
         """The first fault of a range of addresses and services, how many pieces and how many addresses it has that no
         range before it has, and those of its addresses whose words are given."""
         rows = row_exchange.gathered([it.rows for it in self.reads], number)
@@ -185,10 +185,10 @@ class Check:
             closing = memory.closing.words.get(address, 0) if memory.closing else opening
             if opening != closing and memory.closing:
                 why = f"the word at address {address} is {closing}, but it opens with {opening}, and no operation is on it"
-                faults.append(Fault((2, address, 0), 0, f"{memory.closing.told(address)}: {why}"))
+                faults.append(Fault((2, address, 0), 0, f"{memory.closing.place_of_word(address)}: {why}"))
         return faults
 
-    def made(self) -> Verdict:
+    def verdict(self) -> Verdict:
         """The whole check."""
         self.part()
         counted = self.progress.counted
@@ -199,7 +199,7 @@ class Check:
         again = self.twice_told(set().union(*parallel.answers(self.twice, names, self.processes)))
         faults = [again] if again else []
         pieces, words, touched = 0, 0, set()
-        for fault, made, found, given in counted(parallel.answers(self.judged, ranges, self.processes), len(ranges), "parts judged"):
+        for fault, made, found, given in counted(parallel.answers(self.first_fault, ranges, self.processes), len(ranges), "parts judged"):
             faults += [fault] if fault else []
             pieces, words = pieces + made, words + found
             touched.update(given)

@@ -36,7 +36,7 @@ class Image:
     words: Dict[int, int] = field(default_factory=dict)
     lines: Dict[int, int] = field(default_factory=dict)
 
-    def told(self, address: int) -> str:
+    def place_of_word(self, address: int) -> str:
         """Where the word stands."""
         return f"{self.path}, line {self.lines[address]}" if address in self.lines else self.path
 
@@ -226,5 +226,5 @@ def last_fault(piece: Piece, memory: Memory) -> Optional[Fault]:
         said = closing.words.get(address, 0) if closing else word
         if said != word and (found is None or row[1:3] < found.place[1:]):
             why = f"the last operation on address {address} leaves {word}, but the word is {said} at the end"
-            found = Fault((1, row[SERVED], row[LINE]), row[LINE], f"{why} ({closing.told(address) if closing else ''})")
+            found = Fault((1, row[SERVED], row[LINE]), row[LINE], f"{why} ({closing.place_of_word(address) if closing else ''})")
     return found

@@ -82,11 +82,11 @@ def refused(calls: Calls, trace: Trace, said: Answer, wants_story: bool) -> NoOr
     """The same, with the story where it is wanted."""
     why = NoOrder(calls, trace, said)
     if wants_story and not said.is_undecided:
-        why.story = why.lines = refusal_story.told(calls, trace, why.event, said.reasons, why.is_failed_cas)
+        why.story = why.lines = refusal_story.story_lines(calls, trace, why.event, said.reasons, why.is_failed_cas)
     return why
 
 
-def judged(judge: Judge, wants_story: bool) -> str:
+def verdict(judge: Judge, wants_story: bool) -> str:
     """The verdict. Refused with the line from which on there is no order."""
     calls = judge.calls
     said, trace = judge.answer({}, wants_story)
@@ -113,7 +113,7 @@ def all_words(judge: Judge, wants_story: bool) -> Dict[int, str]:
     for key in sorted({calls.asked[it].split(" ", 2)[1] for it in calls.failed}, key=int):
         search, event = failed_cas.words_found(trace, key, calls.failed, judge.opening.get(int(key), 0))
         if event is None:
-            found.update(search.told())
+            found.update(search.words_of_failed())
         elif worst is None or place[event] < place[worst[0]]:
             worst = event, search
     if worst is None:

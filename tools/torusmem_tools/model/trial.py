@@ -143,7 +143,7 @@ def is_cut(case: Case) -> bool:
     return bool(is_given) or any(it in case.options for it in ("--turns", "--rounds", "--steps"))
 
 
-def judged(case: Case, programs: Programs, folder: str, status: int, said: str) -> Outcome:
+def outcome_of(case: Case, programs: Programs, folder: str, status: int, said: str) -> Outcome:
     """What is to be said of a run that ended with a status, and whose report is in the folder."""
     where, found = os.path.join(folder, NAMES[4]), Outcome("good")
     if case.way == "library" and status == 0:
@@ -201,7 +201,7 @@ def tried(case: Case, programs: Programs, folder: str, takes_report: bool = Fals
             return Outcome("draw", wrong, None, time.monotonic() - begun, b"", steps)
     status, said = run(started(case, programs, folder), os.path.join(folder, NAMES[4]))
     wall = time.monotonic() - begun
-    found = judged(case, programs, folder, status, said)
+    found = outcome_of(case, programs, folder, status, said)
     if found.is_good() and drawn not in (None, status):
         found = Outcome("draw", f"status {drawn}, and {status} of `steps` with what it drew")
     found.wall, found.steps = wall, steps

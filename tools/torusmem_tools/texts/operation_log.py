@@ -184,7 +184,7 @@ def by_value(it: Row, left: Dict[int, List[Optional[Row]]]) -> Optional[Row]:
     return found[0]
 
 
-def judged(lines: List[Tuple[int, str]], path: str) -> Tuple[str, bool]:
+def model_verdict(lines: List[Tuple[int, str]], path: str) -> Tuple[str, bool]:
     """What `torusmem model` says of the log, its lines as those of the table, and whether it obeys each model."""
     at: Callable[[str], str] = lambda told: re.sub(r"\bline ([0-9]+)", lambda it: f"line {lines[int(it[1]) - 1][0]}", told)
     with command.kept("".join(f"{text}\n" for _, text in lines).encode("ascii")) as name:
