@@ -41,9 +41,9 @@ def work() -> str:
     machine, script = (command.contents(it) for it in (given.machine, given.script))
     with command.kept(machine) as first, command.kept(script) as second:
         texts = {first: given.machine, second: given.script}
-        by_program = by_program(texts, given.rounds, given.clocked)
+        told = by_program(texts, given.rounds, given.clocked)
         made = schedule_runs.in_rounds(replay.case_of(machine, script), given.rounds, given.clocked)
-        if made != by_program:
+        if made != told:
             raise command.Refusal("these are not the moves that `torusmem schedule` prints")
     return made
 
