@@ -1,6 +1,8 @@
 pub mod SevenWords
 pub mod Refused
 pub mod Lists
+pub mod Turns
+pub mod Firsts
 pub mod Groups
 pub mod Queues
 pub mod Noted

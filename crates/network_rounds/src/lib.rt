@@ -3,12 +3,15 @@
 //! round on: what its lines spell, or where and why it is refused.
 #![tactic(auto)]
 
+pub mod arbiter;
 mod attempting;
 pub mod choices;
 pub mod counting;
 pub mod flags;
+mod granting;
 pub mod joined;
 mod picking;
+pub mod laws;
 pub mod reading;
 pub mod reason;
 pub mod round;
@@ -18,6 +21,7 @@ pub mod sentence;
 pub mod simulating;
 mod spelling;
 
+pub use arbiter::{Arbiter, Attempt, Grants};
 pub use choices::{Part, groups_of};
 pub use counting::count_moves;
 pub use flags::Flags;

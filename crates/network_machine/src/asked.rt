@@ -1,0 +1,34 @@
+//! The output that a head asks for.
+
+ghost use Rattle.std.specs.Prelude.{◌≡◌, ◌<◌, length};
+ghost use Rattle.network_machine.specs.Asked.{asked, asked_by_flit};
+
+use crate::flit::{is_head, told};
+use crate::machine::Machine;
+use network_judge::walk::is_receiver;
+use std::alloc::Allocator;
+
+impl<'a, A: Allocator> Machine<'a, A> {
+    /// The output that a flit asks for behind channel x, if it is a head.
+    fn asked_by_flit(&self, x: usize, flit: u64) -> Option<usize>
+        requires { x < length self.now.channels }
+        ensures { result ≡ asked_by_flit self.now x flit }
+    {
+        let to = told(flit);
+        if !is_head(flit) || !is_receiver(self.kind(to)) {
+            return None;
+        }
+        let y = self.choice(x, to)?;
+        if y < self.channels.len() { Some(y) } else { None }
+    }
+
+    /// The output that the head in the latch behind channel x asks for, if one stands there.
+    pub fn asked(&self, x: usize) -> Option<usize>
+        ensures { result ≡ asked self.now x }
+    {
+        if x >= self.channels.len() {
+            return None;
+        }
+        self.asked_by_flit(x, self.channels[x].latch?)
+    }
+}
