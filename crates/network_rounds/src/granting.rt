@@ -1,6 +1,6 @@
 //! The attempts of a round, as an arbiter chooses them among the choices that are enabled.
 
-ghost use Rattle.std.specs.Prelude.{◌≡◌, ◌+◌, ◌<◌, ◌≤◌, ◌++◌, length, take, IfOk, None, replicate};
+ghost use Rattle.std.specs.Prelude.{◌≡◌, ◌+◌, ◌<◌, ◌≤◌, ◌++◌, length, take, IfOk, None};
 ghost use Rattle.std.specs.Prelude.{slice_index_or, option_to_list};
 ghost use Rattle.std.specs.List.{flat_map};
 ghost use Rattle.network_machine.specs.Machine.{NetworkMachineSpec};
@@ -128,8 +128,10 @@ impl<A: Allocator> Grants<A> {
         ensures attempts { take result attempts.new
             ≡ attempts_of by machine.now self.old.lasts.items enabled.now }
     {
-        note_firsts(machine, &self.lasts, &mut self.firsts, enabled);
-        write_attempts(machine, by, &self.firsts, enabled, attempts)
+        let lasts = self.lasts.as_slice();
+        let firsts = self.firsts.as_mut_slice();
+        note_firsts(machine, lasts, firsts, enabled);
+        write_attempts(machine, by, firsts, enabled, attempts)
     }
 
     /// Notes the input that an output is granted to by an attempt that is made, if one is.
