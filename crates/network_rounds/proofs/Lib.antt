@@ -3,6 +3,7 @@ pub mod Refused
 pub mod Lists
 pub mod Turns
 pub mod Firsts
+pub mod Granted
 pub mod Groups
 pub mod Queues
 pub mod Noted

@@ -1,8 +1,14 @@
 -- Grants of an output, one after the other, and that they go round (Dally and Towles, Principles and
 -- Practices of Interconnection Networks, 2004, chapter 18: strong fairness of a round-robin arbiter).
-use Rattle.std.specs.Prelude.{◌≡◌, ℕ, ◌≤◌, ◌==◌, Bool, true, List, [], ◌∷◌, length, Some}
+use Rattle.std.specs.Prelude.{◌≡◌, ◌⊎◌, ℕ, ◌<◌, ◌≤◌, ◌==◌, Bool, true, List, [], ◌∷◌, ◌++◌, length}
+use Rattle.std.specs.Prelude.{slice_index, Some}
 use Rattle.std.specs.List.{list_any}
-use Rattle.network_rounds.specs.Arbiters.{first_behind}
+use Rattle.network_machine.specs.declared.moves.Move.{Move}
+use Rattle.network_machine.specs.Machine.{NetworkMachineSpec}
+use Rattle.network_machine.specs.Moves.{move_channel}
+use Rattle.network_rounds.specs.declared.arbiter.Arbiter.TheVariants.{Rotating}
+use Rattle.network_rounds.specs.Arbiters.{asked_by, first_asking, first_behind}
+use Rattle.network_rounds.specs.Rounds.{IsRound}
 
 -- a grant of an output: the inputs that ask for it, and the one that it is granted to
 pub record Grant : Type 0 where
@@ -35,3 +41,26 @@ abbrev pub GoRound : Type 0
 GoRound = (last x : ℕ) (inputs : List ℕ) (grants : List Grant) → AreInTurn last grants
     → AskAtEach inputs x grants → has_input x inputs ≡ true → length inputs ≤ length grants
     → is_granted x grants ≡ true
+
+-- a move that is made is one by which a head is put that asks for an output, from the input that the
+-- output is granted to
+pub record IsGrantOf (m : NetworkMachineSpec) (y x : ℕ) (made : List Move) : Type 0 where
+  pub of : Move
+  pub before : List Move
+  pub behind : List Move
+  pub is : made ≡ before ++ of ∷ behind
+  pub asks : asked_by m of ≡ Some y
+  pub input : move_channel of ≡ x
+
+-- a round leaves what an output was granted to last, or grants it to the first of the inputs that ask,
+-- by a move that is made
+abbrev pub GrantsInTurn : NetworkMachineSpec → List ℕ → List ℕ → List Move → List Move → ℕ → Type 0
+GrantsInTurn m lasts later enabled made y = (slice_index later y ≡ slice_index lasts y)
+    ⊎ ((first_asking m lasts enabled y ≡ Some (slice_index later y))
+    × IsGrantOf m y (slice_index later y) made)
+
+-- each round by the round robin does so at each output
+abbrev pub RoundsGrantInTurn : Type 0
+RoundsGrantInTurn = (old new : NetworkMachineSpec) (lasts later : List ℕ) (choices made : List Move)
+    (r : IsRound Rotating old new lasts later choices made) (y : ℕ) → y < length lasts
+    → GrantsInTurn old lasts later r.enabled made y
