@@ -79,7 +79,8 @@ def figures(net: Network, found: Delivered, top: int, cycle: int = 1) -> Row:
 
 def shares(rows: List[Row], name: str, count: str) -> List[List[str]]:
     """What becomes of what those ask that come off worst and best, by one of their counts; the first of several."""
-    ends: Callable[[str], List[Row]] = lambda key: [min(rows, key=lambda it: it[key]), max(rows, key=lambda it: it[key])]
+    number: Callable[[Row, str], float] = lambda it, key: float(it[key])
+    ends: Callable[[str], List[Row]] = lambda key: [of(rows, key=lambda it: number(it, key)) for of in (min, max)]
     cells: Callable[[str, str], List[str]] = lambda key, form: [f"{it[key]:{form}} ({it[name]})" for it in ends(key)]
     heads = [f"of one {name} of {len(rows)}", "least", "greatest"]
     return [heads, [count, *cells(count, "d")], ["share of all", *cells("share", ".4f")], ["longest wait", *cells("longest_wait", "d")]]

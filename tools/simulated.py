@@ -132,12 +132,15 @@ class Simulation:
         """What is attempted of the moves that are enabled, by the arbiter."""
         if self.is_turned:
             return enabled
-        asking: Dict[Optional[int], List[int]] = {}
+        asking: Dict[int, List[int]] = {}
         for word, x in enabled:
-            asking.setdefault(self.asked(word, x), []).append(x)
+            output = self.asked(word, x)
+            if output is not None:
+                asking.setdefault(output, []).append(x)
         # behind the last one those with higher numbers come first, and then the others
-        first = {y: min([x for x in inputs if x > self.granted.get(y, x)] or inputs) for y, inputs in asking.items() if y is not None}
-        return [(word, x) for word, x in enabled if first.get(self.asked(word, x), x) == x]
+        first = {y: min([x for x in inputs if x > self.granted.get(y, x)] or inputs) for y, inputs in asking.items()}
+        passed = {x for y, inputs in asking.items() for x in inputs if x != first[y]}
+        return [(word, x) for word, x in enabled if word != "put" or x not in passed]
 
     def round(self, number: int) -> int:
         """Makes the round of this number, from 1 on, and answers how many moves it makes."""

@@ -60,7 +60,7 @@ asking_more m of moves y b is = by (names_channel y (asked_by m of)) ∙ ap (λ 
 -- a choice that doesn't ask for an output changes nothing there
 pub passes : (m : NetworkMachineSpec) (of : Move) (moves : List Move) (y last : ℕ) (first : Option ℕ) → names_channel y (asked_by m of) ≡ false
     → first_from last first (asking m moves y) ≡ first_from last first (asking m (of ∷ moves) y)
-passes m of moves y last first no = ap (first_from last first) (sym (asking_more m of moves y false no))
+passes m of moves y last first other = ap (first_from last first) (sym (asking_more m of moves y false other))
 
 -- nor does one that asks for none
 pub passes_none : (m : NetworkMachineSpec) (of : Move) (moves : List Move) (y last : ℕ) (first : Option ℕ) → asked_by m of ≡ None
@@ -78,7 +78,7 @@ pub notes : (m : NetworkMachineSpec) (lasts : List ℕ) (firsts : List (Option �
     → first_from (slice_index lasts y)
     (slice_index_or (slice_set firsts z (Some (nearer (slice_index lasts z) (slice_index_or firsts z None) (move_channel of)))) y None) (asking m moves y)
     ≡ first_from (slice_index lasts y) (slice_index_or firsts y None) (asking m (of ∷ moves) y)
-notes m lasts firsts of moves y z low asks = elim cases_eq z y [
+notes m lasts firsts of moves y z low asks = elim (cases_eq z y) [
   | inl same ↦ subst at same here
   | inr apart ↦ ap (λ (o : Option ℕ). first_from (slice_index lasts y) o (asking m moves y)) (get_or-set_other firsts z y (new z) None (λ e. apart (sym e)))
       ∙ passes m of moves y (slice_index lasts y) (slice_index_or firsts y None) (ap (names_channel y) asks ∙ ne_eqb z y apart)

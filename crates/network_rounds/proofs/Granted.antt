@@ -38,11 +38,11 @@ fair_choice m f of rest (Some y) is fair = by (f y) refl
     by (Some x) e = at (x == move_channel of) refl
       where
         at : (b : Bool) → (x == move_channel of) ≡ b → AreFair m f (option_to_list (cond b (Some (record { of = of; output = Some y })) None) ++ rest)
-        at false no = fair
-        at true yes = ((λ z same. (let one : y ≡ z = same_Some y z same in
+        at false is_other = fair
+        at true is_same = ((λ z same. (let one : y ≡ z = same_Some y z same in
             record {
               asks = is ∙ ap (λ (w : ℕ). Some w) one;
-              first = ap f (sym one) ∙ (e ∙ ap (λ (w : ℕ). Some w) (eqb-true x (move_channel of) yes));
+              first = ap f (sym one) ∙ (e ∙ ap (λ (w : ℕ). Some w) (eqb-true x (move_channel of) is_same));
             })), fair)
 
 all_fair : (m : NetworkMachineSpec) (f : ℕ → Option ℕ) (moves : List Move) → AreFair m f (flat_map (λ of. option_to_list (attempt_by Rotating m f of)) moves)
@@ -74,7 +74,7 @@ one_made m f y lasts later a made more low fair is stays = by a.output refl stay
   where
     by : (o : Option ℕ) → a.output ≡ o → slice_index later y ≡ slice_index (granted_at lasts (move_channel a.of) o) y → Comes m f y lasts later made
     by None e same = inl same
-    by (Some z) e same = elim cases_eq y z [
+    by (Some z) e same = elim (cases_eq y z) [
       | inl one ↦ (let first = fair y (e ∙ ap (λ (w : ℕ). Some w) (sym one)) in
           let here : slice_index later y ≡ move_channel a.of = same ∙ (ap (λ (w : ℕ). slice_index (slice_set lasts w (move_channel a.of)) y) (sym one)
           ∙ get_or-set_same lasts y (move_channel a.of) 0 low) in
@@ -94,8 +94,8 @@ comes : (m : NetworkMachineSpec) (f : ℕ → Option ℕ) (y : ℕ) (old new : N
     → y < length lasts → AreFair m f attempts → AttemptsMoves old new lasts later attempts made → Comes m f y lasts later made
 comes m f y old new lasts later [] made low fair h = inl (ap (λ (ls : List ℕ). slice_index ls y) h.1)
 comes m f y old new lasts later (a ∷ attempts) made low fair h = elim h [
-  | inl made_it ↦ elim comes m f y made_it.0 new (granted_to lasts a) later attempts made_it.2
-      (let size = kept_length lasts a in omega (arith, low, size)) fair.1 made_it.4 [
+  | inl made_it ↦ elim (comes m f y made_it.0 new (granted_to lasts a) later attempts made_it.2
+      (let size = kept_length lasts a in omega (arith, low, size)) fair.1 made_it.4) [
     | inl stays ↦ one_made m f y lasts later a made made_it.2 low fair.0 made_it.3 stays
     | inr changed ↦ inr (more_made m f y later a made made_it.2 made_it.3 changed)
   ]

@@ -8,12 +8,12 @@ use Rattle.network_rounds.specs.Arbiters.{comes_before, nearer, first_from, firs
 use Rattle.network_rounds.specs.Fairness.{Grant, has_input, AreInTurn, AskAtEach, is_granted, GoRound}
 
 not_false : (b : Bool) → (b ≡ false → ⊥) → b ≡ true
-not_false true no = refl
-not_false false no = absurd (no refl)
+not_false true isn = refl
+not_false false isn = absurd (isn refl)
 
 not_true : (b : Bool) → (b ≡ true → ⊥) → b ≡ false
-not_true true no = absurd (no refl)
-not_true false no = refl
+not_true true isn = absurd (isn refl)
+not_true false isn = refl
 
 -- what the order says in numbers
 abbrev Earlier : ℕ → ℕ → ℕ → Type 0
@@ -100,17 +100,22 @@ first_of last first [] t is =
 first_of last first (i ∷ inputs) t is =
     (let rest = first_of last (Some (nearer last first i)) inputs t is in
     let both = near last first i t (rest.1 (nearer last first i) refl) in
-    (λ z here. elim or_cases (i == z) (has_input z inputs) here [
+    (λ z here. elim (or_cases (i == z) (has_input z inputs) here) [
       | inl same ↦ subst (λ (w : ℕ). comes_before last w t ≡ false) (eqb-true i z same) both.0
       | inr behind ↦ rest.0 z behind
     ], both.1))
 
+-- one, where something holds
+abbrev point : Bool → ℕ
+point true = 1
+point false = 0
+
 -- how many of some inputs come before one
 abbrev count_before : ℕ → ℕ → List ℕ → ℕ
 count_before last x [] = 0
-count_before last x (z ∷ inputs) = cond (comes_before last z x) 1 0 + count_before last x inputs
+count_before last x (z ∷ inputs) = point (comes_before last z x) + count_before last x inputs
 
-one_less : (b c : Bool) → (b ≡ true → c ≡ true) → cond b 1 0 ≤ cond c 1 0
+one_less : (b c : Bool) → (b ≡ true → c ≡ true) → point b ≤ point c
 one_less true true h = omega arith
 one_less true false h = absurd (both_ways false refl (h refl))
 one_less false true h = omega arith
@@ -126,18 +131,18 @@ few_before last t x (z ∷ inputs) h =
 fewer_before : (last t x : ℕ) (inputs : List ℕ) → comes_before last t x ≡ true → has_input t inputs ≡ true
     → count_before t x inputs < count_before last x inputs
 fewer_before last t x [] h here = absurd (both_ways false refl here)
-fewer_before last t x (z ∷ inputs) h here = elim or_cases (z == t) (has_input t inputs) here [
+fewer_before last t x (z ∷ inputs) h here = elim (or_cases (z == t) (has_input t inputs) here) [
   | inl same ↦ (let rest = few_before last t x inputs h in
       let e = eqb-true z t same in
-      let gone : cond (comes_before t z x) 1 0 ≡ 0 = ap (λ (w : ℕ). cond (comes_before t w x) 1 0) e ∙ ap (λ (b : Bool). cond b 1 0) (no_more_before t x) in
-      let was : cond (comes_before last z x) 1 0 ≡ 1 = ap (λ (w : ℕ). cond (comes_before last w x) 1 0) e ∙ ap (λ (b : Bool). cond b 1 0) h in
+      let gone : point (comes_before t z x) ≡ 0 = ap (λ (w : ℕ). point (comes_before t w x)) e ∙ ap point (no_more_before t x) in
+      let was : point (comes_before last z x) ≡ 1 = ap (λ (w : ℕ). point (comes_before last w x)) e ∙ ap point h in
       omega (arith, rest, gone, was))
   | inr behind ↦ (let rest = fewer_before last t x inputs h behind in
       let one = one_less (comes_before t z x) (comes_before last z x) (between_before last t x z h) in
       omega (arith, rest, one))
 ]
 
-one_at_most : (b : Bool) → cond b 1 0 ≤ 1
+one_at_most : (b : Bool) → point b ≤ 1
 one_at_most true = omega arith
 one_at_most false = omega arith
 
@@ -150,10 +155,10 @@ all_before last x (z ∷ inputs) =
 
 not_all_before : (last x : ℕ) (inputs : List ℕ) → has_input x inputs ≡ true → count_before last x inputs < length inputs
 not_all_before last x [] here = absurd (both_ways false refl here)
-not_all_before last x (z ∷ inputs) here = elim or_cases (z == x) (has_input x inputs) here [
+not_all_before last x (z ∷ inputs) here = elim (or_cases (z == x) (has_input x inputs) here) [
   | inl same ↦ (let rest = all_before last x inputs in
       let e = eqb-true z x same in
-      let gone : cond (comes_before last z x) 1 0 ≡ 0 = ap (λ (w : ℕ). cond (comes_before last w x) 1 0) e ∙ ap (λ (b : Bool). cond b 1 0) (irreflexive last x) in
+      let gone : point (comes_before last z x) ≡ 0 = ap (λ (w : ℕ). point (comes_before last w x)) e ∙ ap point (irreflexive last x) in
       omega (arith, rest, gone))
   | inr behind ↦ (let rest = not_all_before last x inputs behind in
       let one = one_at_most (comes_before last z x) in
@@ -164,7 +169,7 @@ not_all_before last x (z ∷ inputs) here = elim or_cases (z == x) (has_input x 
 granted_in_time : (last x : ℕ) (inputs : List ℕ) (grants : List Grant) → AreInTurn last grants → AskAtEach inputs x grants
     → count_before last x inputs < length grants → is_granted x grants ≡ true
 granted_in_time last x inputs [] turn asks few = absurd (omega (arith, few))
-granted_in_time last x inputs (g ∷ grants) turn asks few = elim cases_Bool (g.to == x) [
+granted_in_time last x inputs (g ∷ grants) turn asks few = elim (cases_Bool (g.to == x)) [
   | inl same ↦ ap (λ (b : Bool). b || is_granted x grants) same
   | inr apart ↦ (let behind = (first_of last None g.asking g.to turn.0).0 x asks.1 in
       let before = comes_or_is last g.to x behind (λ e. both_ways (g.to == x) apart (eq-eqb g.to x e)) in

@@ -8,11 +8,11 @@ pub returns-in_default : goal.returns-in_default
 returns-in_default g c = λ moves y low. passes_none c.args.machine.now c.args.of moves y (slice_index c.args.lasts.now y) (slice_index_or c.args.firsts.now y None)
     (sym c.asked_by.ensures ∙ c.in_default.is)
 
-pub returns-then-y-len : goal.returns-then-y-len
-returns-then-y-len g c = λ moves y low.
+pub returns-then-y-firsts : goal.returns-then-y-firsts
+returns-then-y-firsts g c = λ moves y low.
     (let size = c.requires.firsts in
     passes_far c.args.machine.now c.args.of moves y c.in-Some.y (length c.args.firsts.now) (slice_index c.args.lasts.now y) (slice_index_or c.args.firsts.now y None)
-    (sym c.asked_by.ensures ∙ c.in-Some.is) c.if-y-len.true (omega (arith, low, size)))
+    (sym c.asked_by.ensures ∙ c.in-Some.is) c.if-y-firsts.true (omega (arith, low, size)))
 
 pub returns : goal.returns
 returns g c = λ moves y low.
@@ -23,4 +23,4 @@ returns g c = λ moves y low.
     ap (λ (fs : List (Option ℕ)). first_from (slice_index lasts y) (slice_index_or fs y None) (asking m moves y))
     (c.note_input.ensures
     ∙ ap (λ (x : ℕ). slice_set firsts z (Some (nearer (slice_index lasts z) (slice_index_or firsts z None) x))) c.channel.ensures)
-    ∙ notes m lasts firsts c.args.of moves y z c.if-y-len.false (sym c.asked_by.ensures ∙ c.in-Some.is))
+    ∙ notes m lasts firsts c.args.of moves y z c.if-y-firsts.false (sym c.asked_by.ensures ∙ c.in-Some.is))

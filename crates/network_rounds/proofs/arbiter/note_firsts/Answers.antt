@@ -1,5 +1,5 @@
-use Rattle.std.proofs.Common.{◌∙◌, Option, ℕ, refl, ap, arith}
-use Rattle.std.specs.Prelude.{slice_index, slice_index_or, None}
+use Rattle.std.proofs.Common.{◌∙◌, ◌+◌, Option, None, ℕ, drop, refl, ap}
+use Rattle.std.specs.Prelude.{slice_index, slice_index_or}
 use Rattle.network_rounds.specs.Arbiters.{first_from, asking}
 use Rattle.network_rounds.proofs.Firsts.{notes_next, noted_all}
 use Rattle.network_rounds.proofs.arbiter.note_firsts.Goals as goal
@@ -14,7 +14,7 @@ pub loop-k-preserved : goal.loop-k-preserved
 loop-k-preserved g c = record {
   size = c.note_first.auto.firsts ∙ c.loop-k.invariant.size;
   so_far = λ y low. notes_next c.args.machine.now c.args.moves.now c.loop-k.k y (slice_index c.args.lasts.now y) _ (slice_index_or c.loop-k.firsts y None)
-      (slice_index_or c.note_first.new.firsts y None) c.loop-k-test.true (c.loop-k.invariant.so_far y low) (c.note_first.ensures _ y low);
+      (slice_index_or c.note_first.new.firsts y None) c.loop-k-test.true (c.loop-k.invariant.so_far y low) (c.note_first.ensures (drop (c.loop-k.k + 1) c.args.moves.now) y low);
 }
 
 pub returns : goal.returns

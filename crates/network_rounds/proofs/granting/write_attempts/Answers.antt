@@ -2,6 +2,7 @@ use Rattle.std.proofs.Common.{◌≡◌, ◌∙◌, None, ap, arith, take, lengt
 use Rattle.std.specs.Prelude.{slice_index_or, option_to_list}
 use Rattle.std.specs.List.{flat_map}
 use Rattle.std.proofs.Math.Seq.{take-length}
+use Rattle.network_machine.specs.declared.moves.Move.{Move}
 use Rattle.network_rounds.specs.Arbiters.{attempt_by}
 use Rattle.network_rounds.proofs.Firsts.{writes_next}
 use Rattle.network_rounds.proofs.granting.write_attempts.Goals as goal
@@ -17,7 +18,7 @@ loop-k-preserved g c = record {
 
 pub returns-clause-attempts : goal.returns-clause-attempts
 returns-clause-attempts g c =
-    let f = λ of. option_to_list (attempt_by c.args.by c.args.machine.now (λ z. slice_index_or c.args.firsts.now z None) of) in
+    let f = λ (of : Move). option_to_list (attempt_by c.args.by c.args.machine.now (λ z. slice_index_or c.args.firsts.now z None) of) in
     let moves = c.args.moves.now in
     let end : c.loop-k.k ≡ length moves = (let past = c.loop-k-test.false in let e = c.loop-k.auto.k-end in omega (arith, past, e)) in
     c.loop-k.invariant.so_far ∙ ap (flat_map f) (ap (λ n. take n moves) end ∙ take-length moves)

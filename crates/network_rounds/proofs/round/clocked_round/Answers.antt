@@ -18,7 +18,8 @@ returns-clause-round g c =
     subst (λ (ls : List ℕ). AddsMade old new ls later tried [] made) (items_of _ _ c.choose-chosen.ensures.lasts) c.attempt_moves.ensures.adds in
     round_of c.args.by old new lasts later _ _ tried made
     (adds_enabled old _ _ _ _ _ c.pick_moves-sending.ensures.adds
-    (subst (λ (t : ℕ). AddsEnabled old (turned_groups t c.args.groups.now) _ (take c.pick_groups-count.result c.pick_groups-count.new.enabled)) c.turn-turn.ensures
+    (subst (λ (t : ℕ). AddsEnabled old (turned_groups t c.args.groups.now) (take c.pick_moves-sending.result c.pick_moves-sending.new.enabled)
+    (take c.pick_groups-count.result c.pick_groups-count.new.enabled)) c.turn-turn.ensures
     c.pick_groups-count.ensures.adds)) c.choose-chosen.ensures.attempts adds
 
 pub returns-clause-runs : goal.returns-clause-runs
