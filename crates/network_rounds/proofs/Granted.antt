@@ -39,11 +39,14 @@ fair_choice m f of rest (Some y) is fair = by (f y) refl
       where
         at : (b : Bool) → (x == move_channel of) ≡ b → AreFair m f (option_to_list (cond b (Some (record { of = of; output = Some y })) None) ++ rest)
         at false is_other = fair
-        at true is_same = ((λ z same. (let one : y ≡ z = same_Some y z same in
-            record {
-              asks = is ∙ ap (λ (w : ℕ). Some w) one;
-              first = ap f (sym one) ∙ (e ∙ ap (λ (w : ℕ). Some w) (eqb-true x (move_channel of) is_same));
-            })), fair)
+        at true is_same = (
+          (λ z same. (let one : y ≡ z = same_Some y z same in
+              record {
+                asks = is ∙ ap (λ (w : ℕ). Some w) one;
+                first = ap f (sym one) ∙ (e ∙ ap (λ (w : ℕ). Some w) (eqb-true x (move_channel of) is_same));
+              })),
+          fair,
+        )
 
 all_fair : (m : NetworkMachineSpec) (f : ℕ → Option ℕ) (moves : List Move) → AreFair m f (flat_map (λ of. option_to_list (attempt_by Rotating m f of)) moves)
 all_fair m f [] = tt
@@ -58,14 +61,17 @@ Comes m f y lasts later made = (slice_index later y ≡ slice_index lasts y)
 -- one made move more, before the others
 more_made : (m : NetworkMachineSpec) (f : ℕ → Option ℕ) (y : ℕ) (later : List ℕ) (a : Attempt) (made more : List Move) → made ≡ a.of ∷ more
     → ((f y ≡ Some (slice_index later y)) × IsGrantOf m y (slice_index later y) more) → (f y ≡ Some (slice_index later y)) × IsGrantOf m y (slice_index later y) made
-more_made m f y later a made more is h = (h.0, record {
-  of = h.1.of;
-  before = a.of ∷ h.1.before;
-  behind = h.1.behind;
-  is = is ∙ ap (λ (ms : List Move). a.of ∷ ms) h.1.is;
-  asks = h.1.asks;
-  input = h.1.input;
-})
+more_made m f y later a made more is h = (
+  h.0,
+  record {
+    of = h.1.of;
+    before = a.of ∷ h.1.before;
+    behind = h.1.behind;
+    is = is ∙ ap (λ (ms : List Move). a.of ∷ ms) h.1.is;
+    asks = h.1.asks;
+    input = h.1.input;
+  },
+)
 
 -- an attempt that is made, where an output is granted to it or not
 one_made : (m : NetworkMachineSpec) (f : ℕ → Option ℕ) (y : ℕ) (lasts later : List ℕ) (a : Attempt) (made more : List Move) → y < length lasts → IsFair m f a
@@ -78,8 +84,10 @@ one_made m f y lasts later a made more low fair is stays = by a.output refl stay
       | inl one ↦ (let first = fair y (e ∙ ap (λ (w : ℕ). Some w) (sym one)) in
           let here : slice_index later y ≡ move_channel a.of = same ∙ (ap (λ (w : ℕ). slice_index (slice_set lasts w (move_channel a.of)) y) (sym one)
           ∙ get_or-set_same lasts y (move_channel a.of) 0 low) in
-          inr (first.first ∙ ap (λ (w : ℕ). Some w) (sym here),
-          record { of = a.of; before = []; behind = more; is = is; asks = first.asks; input = sym here }))
+          inr (
+            first.first ∙ ap (λ (w : ℕ). Some w) (sym here),
+            record { of = a.of; before = []; behind = more; is = is; asks = first.asks; input = sym here },
+          ))
       | inr apart ↦ inl (same ∙ get_or-set_other lasts z y (move_channel a.of) 0 apart)
     ]
 
@@ -96,9 +104,9 @@ comes m f y old new lasts later [] made low fair h = inl (ap (λ (ls : List ℕ)
 comes m f y old new lasts later (a ∷ attempts) made low fair h = elim h [
   | inl made_it ↦ elim (comes m f y made_it.0 new (granted_to lasts a) later attempts made_it.2
       (let size = kept_length lasts a in omega (arith, low, size)) fair.1 made_it.4) [
-    | inl stays ↦ one_made m f y lasts later a made made_it.2 low fair.0 made_it.3 stays
-    | inr changed ↦ inr (more_made m f y later a made made_it.2 made_it.3 changed)
-  ]
+        | inl stays ↦ one_made m f y lasts later a made made_it.2 low fair.0 made_it.3 stays
+        | inr changed ↦ inr (more_made m f y later a made made_it.2 made_it.3 changed)
+      ]
   | inr missed ↦ comes m f y old new lasts later attempts made low fair.1 missed.1
 ]
 

@@ -31,8 +31,13 @@ attempts_behind a b c l m n [] ys ps qs h k =
     subst (λ (z : NetworkMachineSpec). AttemptsMoves z c l n ys (ps ++ qs)) h.0 (subst (λ (z : List ℕ). AttemptsMoves b c z n ys (ps ++ qs)) h.1
     (subst (AttemptsMoves b c m n ys) (ap (λ (zs : List Move). zs ++ qs) (sym h.2)) k))
 attempts_behind a b c l m n (x ∷ xs) ys ps qs h k = elim h [
-  | inl made_it ↦ inl (made_it.0, made_it.1, made_it.2 ++ qs, ap (λ (zs : List Move). zs ++ qs) made_it.3,
-      attempts_behind made_it.0 b c (granted_to l x) m n xs ys made_it.2 qs made_it.4 k)
+  | inl made_it ↦ inl (
+    made_it.0,
+    made_it.1,
+    made_it.2 ++ qs,
+    ap (λ (zs : List Move). zs ++ qs) made_it.3,
+    attempts_behind made_it.0 b c (granted_to l x) m n xs ys made_it.2 qs made_it.4 k,
+  )
   | inr missed ↦ inr (missed.0, attempts_behind a b c l m n xs ys ps qs missed.1 k)
 ]
 

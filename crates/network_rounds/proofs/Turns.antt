@@ -94,16 +94,19 @@ near last (Some f) i t h = by (comes_before last i f) refl h
 
 first_of : (last : ℕ) (first : Option ℕ) (inputs : List ℕ) (t : ℕ) → first_from last first inputs ≡ Some t
     → ((z : ℕ) → has_input z inputs ≡ true → comes_before last z t ≡ false) × ((z : ℕ) → first ≡ Some z → comes_before last z t ≡ false)
-first_of last first [] t is =
-    (λ z here. absurd (both_ways false refl here),
-    λ z same. subst (λ (w : ℕ). comes_before last w t ≡ false) (same_Some t z (sym is ∙ same)) (irreflexive last t))
+first_of last first [] t is = (
+  λ z here. absurd (both_ways false refl here),
+  λ z same. subst (λ (w : ℕ). comes_before last w t ≡ false) (same_Some t z (sym is ∙ same)) (irreflexive last t),
+)
 first_of last first (i ∷ inputs) t is =
     (let rest = first_of last (Some (nearer last first i)) inputs t is in
-    let both = near last first i t (rest.1 (nearer last first i) refl) in
-    (λ z here. elim (or_cases (i == z) (has_input z inputs) here) [
-      | inl same ↦ subst (λ (w : ℕ). comes_before last w t ≡ false) (eqb-true i z same) both.0
-      | inr behind ↦ rest.0 z behind
-    ], both.1))
+    let both = near last first i t (rest.1 (nearer last first i) refl) in (
+      λ z here. elim (or_cases (i == z) (has_input z inputs) here) [
+        | inl same ↦ subst (λ (w : ℕ). comes_before last w t ≡ false) (eqb-true i z same) both.0
+        | inr behind ↦ rest.0 z behind
+      ],
+      both.1,
+    ))
 
 -- one, where something holds
 abbrev point : Bool → ℕ

@@ -77,13 +77,7 @@ fn nearer(last: usize, first: Option<usize>, x: usize) -> usize
 {
     match first {
         None => x,
-        Some(z) => {
-            if comes_before(last, x, z) {
-                x
-            } else {
-                z
-            }
-        }
+        Some(z) => { if comes_before(last, x, z) { x } else { z } }
     }
 }
 

@@ -110,8 +110,8 @@ pub(crate) fn watch_rounds<A: Allocator, B: Allocator>(
     let mut last = 0;
     while rounds < most {
         let count = simulate_round(
-            machine, by, queues, senders, groups, choices, grants, rounds, begun, flits, sends, enabled,
-            attempts, made,
+            machine, by, queues, senders, groups, choices, grants, rounds, begun, flits, sends,
+            enabled, attempts, made,
         );
         rounds += 1;
         watch.note(plan, rounds, &made[..count]);
