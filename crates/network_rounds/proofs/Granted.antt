@@ -11,13 +11,13 @@ use Rattle.network_machine.specs.Machine.{NetworkMachineSpec}
 use Rattle.network_machine.specs.Moves.{move_channel}
 use Rattle.network_rounds.specs.declared.arbiter.Arbiter.TheVariants.{Rotating}
 use Rattle.network_rounds.specs.declared.arbiter.Attempt.{Attempt}
-use Rattle.network_rounds.specs.Arbiters.{asked_by, first_asking, granted, attempt_by, attempts_of, granted_at, granted_to, names_channel}
+use Rattle.network_rounds.specs.Arbiters.{output_asked, first_asking, head_attempt, attempt_by, attempts_by, granted_at, granted_to, names_channel}
 use Rattle.network_rounds.specs.Attempts.{AttemptsMoves}
 use Rattle.network_rounds.specs.Fairness.{IsGrantOf, GrantsInTurn, RoundsGrantInTurn}
 
 -- an attempt to which an output is granted is the first one that asks for it
 pub record IsFirst (m : NetworkMachineSpec) (f : ℕ → Option ℕ) (a : Attempt) (y : ℕ) : Type 0 where
-  pub asks : asked_by m a.of ≡ Some y
+  pub asks : output_asked m a.of ≡ Some y
   pub first : f y ≡ Some (move_channel a.of)
 
 abbrev IsFair : NetworkMachineSpec → (ℕ → Option ℕ) → Attempt → Type 0
@@ -27,8 +27,8 @@ abbrev AreFair : NetworkMachineSpec → (ℕ → Option ℕ) → List Attempt �
 AreFair m f [] = Unit {0}
 AreFair m f (a ∷ attempts) = IsFair m f a × AreFair m f attempts
 
-fair_choice : (m : NetworkMachineSpec) (f : ℕ → Option ℕ) (of : Move) (rest : List Attempt) (o : Option ℕ) → asked_by m of ≡ o → AreFair m f rest
-    → AreFair m f (option_to_list (granted f of o) ++ rest)
+fair_choice : (m : NetworkMachineSpec) (f : ℕ → Option ℕ) (of : Move) (rest : List Attempt) (o : Option ℕ) → output_asked m of ≡ o → AreFair m f rest
+    → AreFair m f (option_to_list (head_attempt f of o) ++ rest)
 fair_choice m f of rest None is fair = ((λ y e. absurd (none-some y e)), fair)
 fair_choice m f of rest (Some y) is fair = by (f y) refl
   where
@@ -51,7 +51,7 @@ fair_choice m f of rest (Some y) is fair = by (f y) refl
 all_fair : (m : NetworkMachineSpec) (f : ℕ → Option ℕ) (moves : List Move) → AreFair m f (flat_map (λ of. option_to_list (attempt_by Rotating m f of)) moves)
 all_fair m f [] = tt
 all_fair m f (of ∷ moves) =
-    fair_choice m f of (flat_map (λ z. option_to_list (attempt_by Rotating m f z)) moves) (asked_by m of) refl (all_fair m f moves)
+    fair_choice m f of (flat_map (λ z. option_to_list (attempt_by Rotating m f z)) moves) (output_asked m of) refl (all_fair m f moves)
 
 -- what comes of an output by some attempts
 abbrev Comes : NetworkMachineSpec → (ℕ → Option ℕ) → ℕ → List ℕ → List ℕ → List Move → Type 0
@@ -112,5 +112,5 @@ comes m f y old new lasts later (a ∷ attempts) made low fair h = elim h [
 
 pub grants_in_turn : RoundsGrantInTurn
 grants_in_turn old new lasts later choices made r y low =
-    comes old (first_asking old lasts r.enabled) y old new lasts later (attempts_of Rotating old lasts r.enabled) made low
+    comes old (first_asking old lasts r.enabled) y old new lasts later (attempts_by Rotating old lasts r.enabled) made low
     (all_fair old (first_asking old lasts r.enabled) r.enabled) r.attempts

@@ -14,7 +14,7 @@ use Rattle.network_machine.specs.Runs.{Runs, RunsTo}
 use Rattle.network_machine.proofs.Running.{no_move}
 use Rattle.network_rounds.specs.declared.arbiter.Arbiter.{Arbiter}
 use Rattle.network_rounds.specs.declared.arbiter.Attempt.{Attempt}
-use Rattle.network_rounds.specs.Arbiters.{granted_to, attempts_of}
+use Rattle.network_rounds.specs.Arbiters.{granted_to, attempts_by}
 use Rattle.network_rounds.specs.Attempts.{AreEnabledMoves, IsMoveMade, AttemptsMoves, AddsEnabled, AddsMade}
 use Rattle.network_rounds.specs.Rounds.{turned, turned_groups, IsRound}
 
@@ -137,11 +137,11 @@ group_adds {A} m turn groups k d shown before between later low is h one =
 
 -- a round of what is enabled, what is attempted of it, and what is made
 pub round_of : (by : Arbiter) (a b : NetworkMachineSpec) (l m : List ℕ) (choices enabled : List Move) (tried : List Attempt) (made : List Move)
-    → AddsEnabled a choices [] enabled → tried ≡ attempts_of by a l enabled → AddsMade a b l m tried [] made → IsRound by a b l m choices made
+    → AddsEnabled a choices [] enabled → tried ≡ attempts_by by a l enabled → AddsMade a b l m tried [] made → IsRound by a b l m choices made
 round_of by a b l m choices enabled tried made h is k = record {
   enabled = h.added;
   begins = h.enabled;
-  attempts = subst (λ (es : List Move). AttemptsMoves a b l m (attempts_of by a l es) made) h.is
+  attempts = subst (λ (es : List Move). AttemptsMoves a b l m (attempts_by by a l es) made) h.is
       (subst (λ (xs : List Attempt). AttemptsMoves a b l m xs made) is (subst (AttemptsMoves a b l m tried) (sym k.is) k.attempts));
 }
 

@@ -4,8 +4,8 @@ use Rattle.std.specs.Prelude.{◌==◌, ◌&&◌, ◌||◌, nat_lt, nat_le}
 use Rattle.std.specs.List.{list_any}
 use Rattle.std.proofs.lemmas.Bool.{cases_eq, cases_Bool, or_cases, both_ways, eq-eqb, eqb-true, ltb-true, ltb-false, leb-true, leb-false}
 use Rattle.std.proofs.lemmas.Option.{same_Some, none-some}
-use Rattle.network_rounds.specs.Arbiters.{comes_before, nearer, first_from, first_behind}
-use Rattle.network_rounds.specs.Fairness.{Grant, has_input, AreInTurn, AskAtEach, is_granted, GoRound}
+use Rattle.network_rounds.specs.Arbiters.{comes_before, nearer, first_among, first_behind}
+use Rattle.network_rounds.specs.Fairness.{Grant, has_input, AreGrantsInTurn, AskAtEach, is_granted, GoRound}
 
 not_false : (b : Bool) → (b ≡ false → ⊥) → b ≡ true
 not_false true isn = refl
@@ -92,7 +92,7 @@ near last (Some f) i t h = by (comes_before last i f) refl h
     by true is e = (e, λ z same. subst (λ (w : ℕ). comes_before last w t ≡ false) (same_Some f z same) (before_not last i f t is e))
     by false is e = (not_before_over last i f t is e, λ z same. subst (λ (w : ℕ). comes_before last w t ≡ false) (same_Some f z same) e)
 
-first_of : (last : ℕ) (first : Option ℕ) (inputs : List ℕ) (t : ℕ) → first_from last first inputs ≡ Some t
+first_of : (last : ℕ) (first : Option ℕ) (inputs : List ℕ) (t : ℕ) → first_among last first inputs ≡ Some t
     → ((z : ℕ) → has_input z inputs ≡ true → comes_before last z t ≡ false) × ((z : ℕ) → first ≡ Some z → comes_before last z t ≡ false)
 first_of last first [] t is = (
   λ z here. absurd (both_ways false refl here),
@@ -169,7 +169,7 @@ not_all_before last x (z ∷ inputs) here = elim (or_cases (z == x) (has_input x
 ]
 
 -- an input before which fewer stand than there are grants has one of them
-granted_in_time : (last x : ℕ) (inputs : List ℕ) (grants : List Grant) → AreInTurn last grants → AskAtEach inputs x grants
+granted_in_time : (last x : ℕ) (inputs : List ℕ) (grants : List Grant) → AreGrantsInTurn last grants → AskAtEach inputs x grants
     → count_before last x inputs < length grants → is_granted x grants ≡ true
 granted_in_time last x inputs [] turn asks few = absurd (omega (arith, few))
 granted_in_time last x inputs (g ∷ grants) turn asks few = elim (cases_Bool (g.to == x)) [

@@ -37,22 +37,22 @@ nearer last None x = x
 nearer last (Some z) x = if comes_before last x z then x else z
 
 -- the first of some inputs, and of one besides, if any
-abbrev pub first_from : ℕ → Option ℕ → List ℕ → Option ℕ
-first_from last first [] = first
-first_from last first (x ∷ inputs) = first_from last (Some (nearer last first x)) inputs
+abbrev pub first_among : ℕ → Option ℕ → List ℕ → Option ℕ
+first_among last first [] = first
+first_among last first (x ∷ inputs) = first_among last (Some (nearer last first x)) inputs
 
 -- the first of some inputs behind the one that was granted last, if there is any
 abbrev pub first_behind : ℕ → List ℕ → Option ℕ
-first_behind last inputs = first_from last None inputs
+first_behind last inputs = first_among last None inputs
 
 -- the output that a choice asks for: that of a head, which is put
-abbrev pub asked_by : NetworkMachineSpec → Move → Option ℕ
-asked_by m (Send p) = None
-asked_by m (More x) = None
-asked_by m (Take x) = None
-asked_by m (Put x) = asked m x
-asked_by m (Accept x) = None
-asked_by m (Credit x) = None
+abbrev pub output_asked : NetworkMachineSpec → Move → Option ℕ
+output_asked m (Send p) = None
+output_asked m (More x) = None
+output_asked m (Take x) = None
+output_asked m (Put x) = asked m x
+output_asked m (Accept x) = None
+output_asked m (Credit x) = None
 
 -- whether it is this channel
 abbrev pub names_channel : ℕ → Option ℕ → Bool
@@ -61,7 +61,7 @@ names_channel y (Some z) = z == y
 
 -- the inputs of those choices that ask for an output
 abbrev pub asking : NetworkMachineSpec → List Move → ℕ → List ℕ
-asking m moves y = map move_channel (filter (λ of. names_channel y (asked_by m of)) moves)
+asking m moves y = map move_channel (filter (λ of. names_channel y (output_asked m of)) moves)
 
 -- the first of them, by the input that each channel was granted to last
 abbrev pub first_asking : NetworkMachineSpec → List ℕ → List Move → ℕ → Option ℕ
@@ -72,19 +72,19 @@ abbrev pub plain : Move → Attempt
 plain of = record { of = of; output = None }
 
 -- a choice that asks for an output, or for none, as it is attempted: a head only if it comes first
-abbrev pub granted : (ℕ → Option ℕ) → Move → Option ℕ → Option Attempt
-granted firsts of None = Some (plain of)
-granted firsts of (Some y) = if names_channel (move_channel of) (firsts y)
+abbrev pub head_attempt : (ℕ → Option ℕ) → Move → Option ℕ → Option Attempt
+head_attempt firsts of None = Some (plain of)
+head_attempt firsts of (Some y) = if names_channel (move_channel of) (firsts y)
     then Some (record { of = of; output = Some y }) else None
 
 -- a choice as an arbiter has it attempted, if it does
 abbrev pub attempt_by : Arbiter → NetworkMachineSpec → (ℕ → Option ℕ) → Move → Option Attempt
-attempt_by Rotating m firsts of = granted firsts of (asked_by m of)
+attempt_by Rotating m firsts of = head_attempt firsts of (output_asked m of)
 attempt_by Turn m firsts of = Some (plain of)
 
 -- those of some choices that an arbiter has attempted, by the input that each channel was granted to last
-abbrev pub attempts_of : Arbiter → NetworkMachineSpec → List ℕ → List Move → List Attempt
-attempts_of by m lasts moves =
+abbrev pub attempts_by : Arbiter → NetworkMachineSpec → List ℕ → List Move → List Attempt
+attempts_by by m lasts moves =
     flat_map (λ of. option_to_list (attempt_by by m (first_asking m lasts moves) of)) moves
 
 -- how far the order of a group is turned in the round behind so many

@@ -7,7 +7,7 @@ use Rattle.network_machine.specs.declared.moves.Move.{Move}
 use Rattle.network_machine.specs.Machine.{NetworkMachineSpec}
 use Rattle.network_machine.specs.Moves.{move_channel}
 use Rattle.network_rounds.specs.declared.arbiter.Arbiter.TheVariants.{Rotating}
-use Rattle.network_rounds.specs.Arbiters.{asked_by, first_asking, first_behind}
+use Rattle.network_rounds.specs.Arbiters.{output_asked, first_asking, first_behind}
 use Rattle.network_rounds.specs.Rounds.{IsRound}
 
 -- a grant of an output: the inputs that ask for it, and the one that it is granted to
@@ -21,10 +21,10 @@ has_input x inputs = list_any (λ z. z == x) inputs
 
 -- grants of an output, the first one first: each is that of the first input that asks behind the one
 -- that it was granted to before
-abbrev pub AreInTurn : ℕ → List Grant → Type 0
-AreInTurn last [] = Unit {0}
-AreInTurn last (g ∷ grants) =
-    (first_behind last g.asking ≡ Some g.to) × AreInTurn g.to grants
+abbrev pub AreGrantsInTurn : ℕ → List Grant → Type 0
+AreGrantsInTurn last [] = Unit {0}
+AreGrantsInTurn last (g ∷ grants) =
+    (first_behind last g.asking ≡ Some g.to) × AreGrantsInTurn g.to grants
 
 -- each is one of these inputs, and this input asks at each
 abbrev pub AskAtEach : List ℕ → ℕ → List Grant → Type 0
@@ -38,7 +38,7 @@ is_granted x grants = list_any (λ g. g.to == x) grants
 
 -- among as many grants of an output as it has inputs, one is of each input that asks at all of them
 abbrev pub GoRound : Type 0
-GoRound = (last x : ℕ) (inputs : List ℕ) (grants : List Grant) → AreInTurn last grants
+GoRound = (last x : ℕ) (inputs : List ℕ) (grants : List Grant) → AreGrantsInTurn last grants
     → AskAtEach inputs x grants → has_input x inputs ≡ true → length inputs ≤ length grants
     → is_granted x grants ≡ true
 
@@ -49,7 +49,7 @@ pub record IsGrantOf (m : NetworkMachineSpec) (y x : ℕ) (made : List Move) : T
   pub before : List Move
   pub behind : List Move
   pub is : made ≡ before ++ of ∷ behind
-  pub asks : asked_by m of ≡ Some y
+  pub asks : output_asked m of ≡ Some y
   pub input : move_channel of ≡ x
 
 -- a round leaves what an output was granted to last, or grants it to the first of the inputs that ask,

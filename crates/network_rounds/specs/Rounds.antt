@@ -5,7 +5,7 @@ use Rattle.std.specs.List.{flat_map}
 use Rattle.network_machine.specs.declared.moves.Move.{Move}
 use Rattle.network_machine.specs.Machine.{NetworkMachineSpec}
 use Rattle.network_rounds.specs.declared.arbiter.Arbiter.{Arbiter}
-use Rattle.network_rounds.specs.Arbiters.{attempts_of}
+use Rattle.network_rounds.specs.Arbiters.{attempts_by}
 use Rattle.network_rounds.specs.Attempts.{AreEnabledMoves, AttemptsMoves}
 
 -- some moves, from the one whose turn it is (a rotating arbiter: Dally and Towles, Principles and
@@ -23,4 +23,4 @@ pub record IsRound (by : Arbiter) (old new : NetworkMachineSpec) (lasts later : 
     (choices made : List Move) : Type 0 where
   pub enabled : List Move
   pub begins : AreEnabledMoves old choices enabled
-  pub attempts : AttemptsMoves old new lasts later (attempts_of by old lasts enabled) made
+  pub attempts : AttemptsMoves old new lasts later (attempts_by by old lasts enabled) made

@@ -3,7 +3,7 @@
 ghost use Rattle.std.specs.Prelude.{◌≡◌, ◌<◌, ◌∷◌, ℕ, List, length, Some, None};
 ghost use Rattle.std.specs.Prelude.{slice_index, slice_index_or, slice_set};
 ghost use Rattle.network_machine.specs.declared.moves.Move.{Move};
-ghost use Rattle.network_rounds.specs.Arbiters.{comes_before, nearer, asked_by, asking, first_from};
+ghost use Rattle.network_rounds.specs.Arbiters.{comes_before, nearer, output_asked, asking, first_among};
 ghost use Rattle.network_rounds.specs.Arbiters.{arbiter_named, turn_by, HasFirsts};
 
 use network_machine::{Machine, Move};
@@ -82,8 +82,8 @@ fn nearer(last: usize, first: Option<usize>, x: usize) -> usize
 }
 
 /// The output that a choice asks for: that of a head, which is put.
-pub(crate) fn asked_by<A: Allocator>(machine: &Machine<A>, of: Move) -> Option<usize>
-    ensures { result ≡ asked_by machine.now of }
+pub(crate) fn output_asked<A: Allocator>(machine: &Machine<A>, of: Move) -> Option<usize>
+    ensures { result ≡ output_asked machine.now of }
 {
     match of {
         Move::Send(_) => None,
@@ -115,12 +115,12 @@ fn note_first<A: Allocator>(
     requires lasts { length lasts.now ≡ length machine.now.channels }
     requires firsts { length firsts.old ≡ length machine.now.channels }
     ensures { (moves : List Move) (y : ℕ) → y < length machine.now.channels
-        → first_from (slice_index lasts.now y) (slice_index_or firsts.new y None)
+        → first_among (slice_index lasts.now y) (slice_index_or firsts.new y None)
         (asking machine.now moves y)
-        ≡ first_from (slice_index lasts.now y) (slice_index_or firsts.old y None)
+        ≡ first_among (slice_index lasts.now y) (slice_index_or firsts.old y None)
         (asking machine.now (of ∷ moves) y) }
 {
-    let Some(y) = asked_by(machine, of) else {
+    let Some(y) = output_asked(machine, of) else {
         return;
     };
     if y >= firsts.len() {

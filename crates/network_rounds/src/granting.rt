@@ -4,10 +4,10 @@ ghost use Rattle.std.specs.Prelude.{◌≡◌, ◌+◌, ◌<◌, ◌≤◌, ◌+
 ghost use Rattle.std.specs.Prelude.{slice_index_or, option_to_list};
 ghost use Rattle.std.specs.List.{flat_map};
 ghost use Rattle.network_machine.specs.Machine.{NetworkMachineSpec};
-ghost use Rattle.network_rounds.specs.Arbiters.{plain, granted, attempt_by, attempts_of, no_grants};
+ghost use Rattle.network_rounds.specs.Arbiters.{plain, head_attempt, attempt_by, attempts_by, no_grants};
 ghost use Rattle.network_rounds.specs.Arbiters.{AreGrants, granted_to};
 
-use crate::arbiter::{Arbiter, Attempt, Grants, asked_by, note_firsts};
+use crate::arbiter::{Arbiter, Attempt, Grants, note_firsts, output_asked};
 use network_machine::{Machine, Move};
 use std::alloc::{AllocError, Allocator};
 
@@ -19,8 +19,8 @@ fn plain(of: Move) -> Attempt
 }
 
 /// A choice that asks for a channel, if it comes first.
-fn granted(firsts: &[Option<usize>], of: Move, y: usize) -> Option<Attempt>
-    ensures { result ≡ granted (λ z. slice_index_or firsts.now z None) of (Some y) }
+fn head_attempt(firsts: &[Option<usize>], of: Move, y: usize) -> Option<Attempt>
+    ensures { result ≡ head_attempt (λ z. slice_index_or firsts.now z None) of (Some y) }
 {
     if y >= firsts.len() {
         return None;
@@ -51,9 +51,9 @@ fn attempt_by<A: Allocator>(
 {
     match by {
         Arbiter::Turn => Some(plain(of)),
-        Arbiter::Rotating => match asked_by(machine, of) {
+        Arbiter::Rotating => match output_asked(machine, of) {
             None => Some(plain(of)),
-            Some(y) => granted(firsts, of, y),
+            Some(y) => head_attempt(firsts, of, y),
         },
     }
 }
@@ -126,7 +126,7 @@ impl<A: Allocator> Grants<A> {
         ensures lasts { self.new.lasts ≡ self.old.lasts }
         ensures grants { AreGrants machine.now self.new }
         ensures attempts { take result attempts.new
-            ≡ attempts_of by machine.now self.old.lasts.items enabled.now }
+            ≡ attempts_by by machine.now self.old.lasts.items enabled.now }
     {
         let lasts = self.lasts.as_slice();
         let firsts = self.firsts.as_mut_slice();

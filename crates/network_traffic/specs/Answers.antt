@@ -53,9 +53,10 @@ is_sound e ending.Empty = e.is_over
 is_sound e (ending.Goes of) = false
 
 -- a text is the report on packets that are sent through a network: from the empty network on, in
--- clocked rounds by an arbiter over its choices, grouped by routers; and it is over and ends empty, or not
-pub record IsSimulationText (A : Type 0) (by : Arbiter) (n : NetworkSpec) (depth : ℕ) (packets : List Timed)
-    (text : List ℕ) (sound : Bool) : Type 0 where
+-- clocked rounds by an arbiter over its choices, grouped by routers; and it is over and ends empty, or
+-- not
+pub record IsSimulationText (A : Type 0) (by : Arbiter) (n : NetworkSpec) (depth : ℕ)
+    (packets : List Timed) (text : List ℕ) (sound : Bool) : Type 0 where
   pub routers : List ℕ
   pub are : AreRouters n.table routers
   pub queues : List (Vec Timed A)

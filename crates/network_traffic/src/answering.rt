@@ -79,7 +79,8 @@ fn simulated<A: Allocator + Copy>(
     requires arrive { AllArrive network.now.table }
     requires joined { AreJoined network.now.table.joins packets.now (length packets.now) }
     requires depth { depth ≤ 8 }
-    ensures { IfOk result (λ a. IsSimulationText A by network.now depth packets.now a.text.items a.sound) }
+    ensures { IfOk result (λ a. IsSimulationText A by network.now depth packets.now a.text.items
+        a.sound) }
 {
     let kinds = network.kinds();
     let joins = network.joins();

@@ -1,13 +1,13 @@
 use Rattle.std.proofs.Common.{◌∙◌, ◌+◌, Option, None, ℕ, drop, refl, ap}
 use Rattle.std.specs.Prelude.{slice_index, slice_index_or}
-use Rattle.network_rounds.specs.Arbiters.{first_from, asking}
+use Rattle.network_rounds.specs.Arbiters.{first_among, asking}
 use Rattle.network_rounds.proofs.Firsts.{notes_next, noted_all}
 use Rattle.network_rounds.proofs.arbiter.note_firsts.Goals as goal
 
 pub loop-k-init : goal.loop-k-init
 loop-k-init g c = record {
   size = refl;
-  so_far = λ y low. ap (λ (o : Option ℕ). first_from (slice_index c.args.lasts.now y) o (asking c.args.machine.now c.args.moves.now y)) (c.clear_firsts.ensures y);
+  so_far = λ y low. ap (λ (o : Option ℕ). first_among (slice_index c.args.lasts.now y) o (asking c.args.machine.now c.args.moves.now y)) (c.clear_firsts.ensures y);
 }
 
 pub loop-k-preserved : goal.loop-k-preserved

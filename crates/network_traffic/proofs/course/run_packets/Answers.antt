@@ -16,4 +16,4 @@ returns-clause-run g c =
     (sym (written_back c.in_ok-flits.flits.len r.new.flits c.in_ok-flits.flits.items size c.in_ok-flits.flits.ok.0)) r.ensures
 
 pub watch_rounds-extent-requires-clause-grants : goal.watch_rounds-extent-requires-clause-grants
-watch_rounds-extent-requires-clause-grants g c = c.in_ok-grants.ensures.are c.args.machine.now (sym c.channels.ensures.value)
+watch_rounds-extent-requires-clause-grants g c = c.in_ok-grants.ensures.are c.args.machine.now (sym c.channels-2.ensures.value)
