@@ -27,7 +27,7 @@ COMMANDS: dict[str, tuple[list[str], dict[str, tuple[int, int] | None]]] = {
     "channels": (["MACHINE"], {"explain": None}),
     "check": (["REPORT"], {"explain": None}),
     "network": (["NETWORK"], {"run": None, "replay": WORD, "depth": (1, 8), "json": None, "explain": None}),
-    "simulate": (["NETWORK", "TRAFFIC"], {"depth": (1, 8), "explain": None}),
+    "simulate": (["NETWORK", "TRAFFIC"], {"depth": (1, 8), "arbiter": WORD, "explain": None}),
     "linearize": (["TRACE"], {"configurations": (1, 4294967295), "report": None, "json": None, "explain": None}),
     "watch": (["TRACE"], {"configurations": (1, 4294967295), "json": None, "explain": None}),
     "model": (["LOG"], {"model": WORD, "order": None, "texts": WORDS, "values": None, "nodes": (1, 4294967295), "json": None, "explain": None}),

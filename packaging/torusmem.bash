@@ -16,10 +16,10 @@ _torusmem() {
     watch) words="--configurations --json --explain --help" ;;
     model) words="--model --order --texts --values --nodes --json --explain --help" ;;
     network) words="--run --replay --depth --json --explain --help" ;;
-    simulate) words="--depth --explain --help" ;;
+    simulate) words="--depth --arbiter --explain --help" ;;
     live | channels | check) words="--explain --help" ;;
     esac
-    case "${COMP_WORDS[1]} $before" in "model --model") COMPREPLY=($(compgen -W "coherent fenced pso tso sc" -- "$word")) && return ;; esac
+    case "${COMP_WORDS[1]} $before" in "model --model") COMPREPLY=($(compgen -W "coherent fenced pso tso sc" -- "$word")) && return ;; "simulate --arbiter") COMPREPLY=($(compgen -W "rotating turn" -- "$word")) && return ;; esac
     case $before in --rounds | --workers | --turns | --configurations | --seed | --steps | --depth | --nodes) words="" ;; esac
     case "${COMP_WORDS[1]} $word" in
     "help "*) ;;

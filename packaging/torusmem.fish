@@ -18,6 +18,7 @@ complete -c torusmem -n "__fish_seen_subcommand_from route" -l reply -d "the rou
 complete -c torusmem -n "__fish_seen_subcommand_from network" -l run -d "the run by which it deadlocks"
 complete -c torusmem -n "__fish_seen_subcommand_from network" -r -l replay -d "replay a run"
 complete -c torusmem -n "__fish_seen_subcommand_from network simulate" -x -l depth -d "how many flits a channel holds"
+complete -c torusmem -n "__fish_seen_subcommand_from simulate" -x -l arbiter -a "rotating turn" -d "which head an output takes"
 complete -c torusmem -n "__fish_seen_subcommand_from linearize watch" -x -l configurations -d "the most configurations of a word"
 complete -c torusmem -n "__fish_seen_subcommand_from network linearize watch model" -l json -d "print a JSON object"
 complete -c torusmem -n "__fish_seen_subcommand_from linearize" -l report -d "print a report"

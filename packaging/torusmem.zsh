@@ -36,11 +36,12 @@ _torusmem() {
   linearize) options=(--configurations --report --json) ;;
   watch) options=(--configurations --json) ;;
   network) options=(--run --replay --depth --json) ;;
-  simulate) options=(--depth) ;;
+  simulate) options=(--depth --arbiter) ;;
   model) options=(--model --order --texts --values --nodes --json) ;;
   esac
   case $words[CURRENT-1] in
   --model) compadd -- coherent fenced pso tso sc; return ;;
+  --arbiter) compadd -- rotating turn; return ;;
   --rounds | --workers | --turns | --configurations | --seed | --steps | --depth | --nodes) return ;;
   esac
   if [[ $words[CURRENT] == -* ]]; then

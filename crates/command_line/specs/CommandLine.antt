@@ -156,10 +156,11 @@ network_app = with_rule (with_rule (with_rule (with_rule (with_rule (with_rule
     (new_app (codes "network")) (needed (codes "NETWORK"))) (flag_option (codes "run")))
     (word_without_usual (codes "replay"))) depth_of_run) json) explain
 
--- `simulate NETWORK TRAFFIC [--depth D] [--explain]`
+-- `simulate NETWORK TRAFFIC [--depth D] [--arbiter NAME] [--explain]`
 abbrev pub simulate_app : App
-simulate_app = with_rule (with_rule (with_rule (with_rule (new_app (codes "simulate"))
-    (needed (codes "NETWORK"))) (needed (codes "TRAFFIC"))) depth_option) explain
+simulate_app = with_rule (with_rule (with_rule (with_rule (with_rule
+    (new_app (codes "simulate")) (needed (codes "NETWORK"))) (needed (codes "TRAFFIC")))
+    depth_option) (word_option (codes "arbiter") (codes "rotating"))) explain
 
 -- `linearize TRACE [--configurations N] [--report] [--json] [--explain]`
 abbrev pub linearize_app : App

@@ -46,7 +46,7 @@ name_of (Check report) = codes "check"
 name_of (Network network) = codes "network"
 name_of (LockUp network depth) = codes "network"
 name_of (Replay network run depth) = codes "network"
-name_of (Simulate network traffic depth) = codes "simulate"
+name_of (Simulate network traffic depth arbiter) = codes "simulate"
 name_of (Linearize trace configurations) = codes "linearize"
 name_of (Report trace configurations) = codes "linearize"
 name_of (Watch trace configurations) = codes "watch"
@@ -104,10 +104,11 @@ AreOfJob (LockUp network depth) rows = (first_of (codes "NETWORK") rows ≡ Some
 AreOfJob (Replay network run depth) rows = (first_of (codes "NETWORK") rows ≡ Some network.now)
     × IsFlag (codes "run") false rows × (first_of (codes "replay") rows ≡ Some run.now)
     × (depth_in rows ≡ depth)
-AreOfJob (Simulate network traffic depth) rows =
+AreOfJob (Simulate network traffic depth arbiter) rows =
     (first_of (codes "NETWORK") rows ≡ Some network.now)
     × (first_of (codes "TRAFFIC") rows ≡ Some traffic.now)
     × (number_in (codes "depth") rows ≡ Some depth)
+    × (first_of (codes "arbiter") rows ≡ Some arbiter.now)
 AreOfJob (Linearize trace configurations) rows =
     (first_of (codes "TRACE") rows ≡ Some trace.now)
     × (number_in (codes "configurations") rows ≡ Some configurations)
@@ -153,7 +154,7 @@ AreJobLimits (Run machine script workers turns) =
     ((1 ≤ workers) × (workers ≤ 16)) × ((1 ≤ turns) × (turns ≤ 1000000000))
 AreJobLimits (LockUp network depth) = (1 ≤ depth) × (depth ≤ 8)
 AreJobLimits (Replay network run depth) = (1 ≤ depth) × (depth ≤ 8)
-AreJobLimits (Simulate network traffic depth) = (1 ≤ depth) × (depth ≤ 8)
+AreJobLimits (Simulate network traffic depth arbiter) = (1 ≤ depth) × (depth ≤ 8)
 AreJobLimits (Linearize trace configurations) = 1 ≤ configurations
 AreJobLimits (Report trace configurations) = 1 ≤ configurations
 AreJobLimits (Watch trace configurations) = 1 ≤ configurations

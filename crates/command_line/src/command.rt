@@ -76,11 +76,13 @@ pub enum Job<'a> {
         run: &'a str,
         depth: u32,
     },
-    /// Send the packets of a traffic text through a network whose channels hold so many flits.
+    /// Send the packets of a traffic text through a network whose channels hold so many flits, and
+    /// whose outputs are granted by the arbiter of this name.
     Simulate {
         network: &'a str,
         traffic: &'a str,
         depth: u32,
+        arbiter: &'a str,
     },
     /// Find the one order of a trace, with so many configurations of a word at once at most, and
     /// print it.

@@ -141,6 +141,7 @@ pub(crate) fn simulate_job<'a>(given: &ArgMatches<'a>) -> Option<Job<'a>>
         network: word(given, "NETWORK")?,
         traffic: word(given, "TRAFFIC")?,
         depth: number_within(given, "depth", 8)?,
+        arbiter: word(given, "arbiter")?,
     })
 }
 

@@ -120,6 +120,8 @@ pub(crate) fn simulate<'a>(alloc: Global) -> Making<'a>
     let help = "How many flits a channel holds, 1 to 8";
     let numbers = ValueParser::Signed(1, 8);
     let command = with_argument(command, count(alloc, "depth", numbers, "1", help));
+    let help = "Which head an output takes: rotating (round robin) or turn";
+    let command = with_argument(command, word_option(alloc, "arbiter", "rotating", help));
     with_explain(alloc, command)
 }
 

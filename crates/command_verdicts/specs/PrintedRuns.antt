@@ -9,6 +9,7 @@ use Rattle.network_run.specs.Answers.{IsRunFault, is_sound}
 use Rattle.network_run.specs.Printed.{IsOfVerdict}
 use Rattle.network_run.specs.Replays.{AnswersReplay}
 use Rattle.network_run.specs.Written.{replay_line}
+use Rattle.network_rounds.specs.declared.arbiter.Arbiter.{Arbiter}
 use Rattle.network_traffic.specs.declared.answering.SimulationAnswer.{SimulationAnswer}
 use Rattle.network_traffic.specs.Answers.{AnswersSimulationText}
 use Rattle.program_fault.specs.declared.fault.ProgramFault.{ProgramFault}
@@ -57,22 +58,22 @@ abbrev pub PrintsReplay : List (List ℕ) → List (List ℕ) → ℕ → Output
 PrintsReplay lines run depth = Does (IsReplayText lines run depth) (IsReplayFault lines run depth)
 
 -- a text is what is answered to these packets over this network; and whether nothing is wrong
-pub record IsPrintedSimulation (A : Type 0) (network traffic : List (List ℕ)) (depth : ℕ)
-    (sound : Bool) (text : List ℕ) : Type 0 where
+pub record IsPrintedSimulation (A : Type 0) (by : Arbiter) (network traffic : List (List ℕ))
+    (depth : ℕ) (sound : Bool) (text : List ℕ) : Type 0 where
   pub answer : SimulationAnswer A
-  pub answers : AnswersSimulationText network traffic depth (Ok answer)
+  pub answers : AnswersSimulationText by network traffic depth (Ok answer)
   pub is : text ≡ answer.text.items
   pub sounds : sound ≡ answer.sound
 
 -- the first fault of the network text, or else of the traffic text
-abbrev pub IsSimulationFault : (A : Type 0) → List (List ℕ) → List (List ℕ) → ℕ → ProgramFault
-    → Type 0
-IsSimulationFault A network traffic depth (program.Line found) =
-    AnswersSimulationText {A = A} network traffic depth (Err found)
-IsSimulationFault A network traffic depth _ = ⊥
+abbrev pub IsSimulationFault : (A : Type 0) → Arbiter → List (List ℕ) → List (List ℕ) → ℕ
+    → ProgramFault → Type 0
+IsSimulationFault A by network traffic depth (program.Line found) =
+    AnswersSimulationText {A = A} by network traffic depth (Err found)
+IsSimulationFault A by network traffic depth _ = ⊥
 
 -- what becomes of the packets was printed
-abbrev pub PrintsSimulation : (A : Type 0) → List (List ℕ) → List (List ℕ) → ℕ → Output → Output
-    → Result Bool ProgramFault → Type 0
-PrintsSimulation A network traffic depth =
-    Does (IsPrintedSimulation A network traffic depth) (IsSimulationFault A network traffic depth)
+abbrev pub PrintsSimulation : (A : Type 0) → Arbiter → List (List ℕ) → List (List ℕ) → ℕ → Output
+    → Output → Result Bool ProgramFault → Type 0
+PrintsSimulation A by network traffic depth = Does
+    (IsPrintedSimulation A by network traffic depth) (IsSimulationFault A by network traffic depth)

@@ -5,6 +5,7 @@ ghost use Rattle.std.specs.Str.Lines.{lines};
 ghost use Rattle.program_fault.specs.Done.{output};
 ghost use Rattle.command_verdicts.specs.PrintedRuns.{PrintsLockUp, PrintsReplay, PrintsSimulation};
 
+use network_rounds::Arbiter;
 use network_run::{replay_answer, run_answer};
 use network_traffic::simulation_answer;
 use program_fault::ProgramFault;
@@ -57,7 +58,7 @@ pub fn replay_network_text<A: Allocator + Copy, W: Out>(
 }
 
 /// Sends the packets of a traffic text through the network of a text whose channels hold so many flits, in
-/// clocked rounds, and prints what becomes of them, or the first pair of the network without a route.
+/// clocked rounds by an arbiter, and prints what becomes of them, or the first pair of the network without a route.
 /// Answers whether all pairs have routes, and the simulation is over and ends empty.
 ///
 /// Errors: the first fault of the network's text, or else of that of the traffic; or out of memory; and
@@ -67,14 +68,15 @@ pub fn simulate_text<A: Allocator + Copy, W: Out>(
     network: &[u8],
     traffic: &[u8],
     depth: u64,
+    by: Arbiter,
     out: &mut W,
 ) -> Result<bool, ProgramFault>
     requires { depth ≤ 8 }
-    ensures { PrintsSimulation A (lines network.now) (lines traffic.now) depth
+    ensures { PrintsSimulation A by (lines network.now) (lines traffic.now) depth
         (output (W.taken out.old) (W.failures out.old))
         (output (W.taken out.new) (W.failures out.new)) result }
 {
-    let simulation = simulation_answer(alloc, network, traffic, depth)?;
+    let simulation = simulation_answer(alloc, network, traffic, depth, by)?;
     put_all(out, &simulation.text)?;
     Ok(simulation.sound)
 }

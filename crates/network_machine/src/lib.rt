@@ -2,6 +2,7 @@
 //! takes memory; and whether it is deadlocked, empty, or may still go on.
 #![tactic(auto)]
 
+mod asked;
 mod attempt;
 pub mod channel;
 mod ending;

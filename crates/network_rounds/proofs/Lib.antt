@@ -1,6 +1,9 @@
 pub mod SevenWords
 pub mod Refused
 pub mod Lists
+pub mod Turns
+pub mod Firsts
+pub mod Granted
 pub mod Groups
 pub mod Queues
 pub mod Noted

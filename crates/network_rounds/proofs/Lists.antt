@@ -12,6 +12,9 @@ use Rattle.network_machine.specs.declared.moves.Move.{Move}
 use Rattle.network_machine.specs.Machine.{NetworkMachineSpec, ShowsNetwork, plain_network, SameTables, Permits, Prevents}
 use Rattle.network_machine.specs.Runs.{Runs, RunsTo}
 use Rattle.network_machine.proofs.Running.{no_move}
+use Rattle.network_rounds.specs.declared.arbiter.Arbiter.{Arbiter}
+use Rattle.network_rounds.specs.declared.arbiter.Attempt.{Attempt}
+use Rattle.network_rounds.specs.Arbiters.{granted_to, attempts_by}
 use Rattle.network_rounds.specs.Attempts.{AreEnabledMoves, IsMoveMade, AttemptsMoves, AddsEnabled, AddsMade}
 use Rattle.network_rounds.specs.Rounds.{turned, turned_groups, IsRound}
 
@@ -22,12 +25,20 @@ enabled_behind m (x ∷ xs) ys ps qs h k = elim h [
   | inr missed ↦ inr (missed.0, enabled_behind m xs ys ps qs missed.1 k)
 ]
 
-attempts_behind : (a b c : NetworkMachineSpec) (xs ys ps qs : List Move) → AttemptsMoves a b xs ps → AttemptsMoves b c ys qs → AttemptsMoves a c (xs ++ ys) (ps ++ qs)
-attempts_behind a b c [] ys ps qs h k =
-    subst (λ (m : NetworkMachineSpec). AttemptsMoves m c ys (ps ++ qs)) h.0 (subst (AttemptsMoves b c ys) (ap (λ (zs : List Move). zs ++ qs) (sym h.1)) k)
-attempts_behind a b c (x ∷ xs) ys ps qs h k = elim h [
-  | inl made_it ↦ inl (made_it.0, made_it.1, made_it.2 ++ qs, ap (λ (zs : List Move). zs ++ qs) made_it.3, attempts_behind made_it.0 b c xs ys made_it.2 qs made_it.4 k)
-  | inr missed ↦ inr (missed.0, attempts_behind a b c xs ys ps qs missed.1 k)
+attempts_behind : (a b c : NetworkMachineSpec) (l m n : List ℕ) (xs ys : List Attempt) (ps qs : List Move) → AttemptsMoves a b l m xs ps → AttemptsMoves b c m n ys qs
+    → AttemptsMoves a c l n (xs ++ ys) (ps ++ qs)
+attempts_behind a b c l m n [] ys ps qs h k =
+    subst (λ (z : NetworkMachineSpec). AttemptsMoves z c l n ys (ps ++ qs)) h.0 (subst (λ (z : List ℕ). AttemptsMoves b c z n ys (ps ++ qs)) h.1
+    (subst (AttemptsMoves b c m n ys) (ap (λ (zs : List Move). zs ++ qs) (sym h.2)) k))
+attempts_behind a b c l m n (x ∷ xs) ys ps qs h k = elim h [
+  | inl made_it ↦ inl (
+    made_it.0,
+    made_it.1,
+    made_it.2 ++ qs,
+    ap (λ (zs : List Move). zs ++ qs) made_it.3,
+    attempts_behind made_it.0 b c (granted_to l x) m n xs ys made_it.2 qs made_it.4 k,
+  )
+  | inr missed ↦ inr (missed.0, attempts_behind a b c l m n xs ys ps qs missed.1 k)
 ]
 
 -- lists that go on, one behind the other
@@ -39,11 +50,11 @@ adds_enabled m xs ys before between later h k = record {
   is = k.is ∙ (ap (λ (zs : List Move). zs ++ k.added) h.is ∙ append_assoc before h.added k.added);
 }
 
-pub adds_made : (a b c : NetworkMachineSpec) (xs ys before between later : List Move) → AddsMade a b xs before between → AddsMade b c ys between later
-    → AddsMade a c (xs ++ ys) before later
-adds_made a b c xs ys before between later h k = record {
+pub adds_made : (a b c : NetworkMachineSpec) (l m n : List ℕ) (xs ys : List Attempt) (before between later : List Move) → AddsMade a b l m xs before between
+    → AddsMade b c m n ys between later → AddsMade a c l n (xs ++ ys) before later
+adds_made a b c l m n xs ys before between later h k = record {
   added = h.added ++ k.added;
-  attempts = attempts_behind a b c xs ys h.added k.added h.attempts k.attempts;
+  attempts = attempts_behind a b c l m n xs ys h.added k.added h.attempts k.attempts;
   is = k.is ∙ (ap (λ (zs : List Move). zs ++ k.added) h.is ∙ append_assoc before h.added k.added);
 }
 
@@ -51,8 +62,8 @@ adds_made a b c xs ys before between later h k = record {
 pub adds_none : (m : NetworkMachineSpec) (before later : List Move) → later ≡ before → AddsEnabled m [] before later
 adds_none m before later is = record { added = []; enabled = refl; is = is ∙ sym (append-nil before) }
 
-pub makes_none : (a b : NetworkMachineSpec) (before later : List Move) → b ≡ a → later ≡ before → AddsMade a b [] before later
-makes_none a b before later same is = record { added = []; attempts = (same, refl); is = is ∙ sym (append-nil before) }
+pub makes_none : (a b : NetworkMachineSpec) (l m : List ℕ) (before later : List Move) → b ≡ a → m ≡ l → later ≡ before → AddsMade a b l m [] before later
+makes_none a b l m before later same kept is = record { added = []; attempts = (same, kept, refl); is = is ∙ sym (append-nil before) }
 
 -- one move
 pub adds_one : (m : NetworkMachineSpec) (x : Move) (before later : List Move) → Permits m x → later ≡ before ++ x ∷ [] → AddsEnabled m (x ∷ []) before later
@@ -61,11 +72,13 @@ adds_one m x before later allows is = record { added = x ∷ []; enabled = inl (
 pub passes_one : (m : NetworkMachineSpec) (x : Move) (before later : List Move) → Prevents m x → later ≡ before → AddsEnabled m (x ∷ []) before later
 passes_one m x before later hinders is = record { added = []; enabled = inr (hinders, refl); is = is ∙ sym (append-nil before) }
 
-pub makes_one : (a b : NetworkMachineSpec) (x : Move) (before later : List Move) → IsMoveMade a b x → later ≡ before ++ x ∷ [] → AddsMade a b (x ∷ []) before later
-makes_one a b x before later made is = record { added = x ∷ []; attempts = inl (b, made, [], refl, (refl, refl)); is = is }
+pub makes_one : (a b : NetworkMachineSpec) (l m : List ℕ) (x : Attempt) (before later : List Move) → IsMoveMade a b x.of → m ≡ granted_to l x
+    → later ≡ before ++ x.of ∷ [] → AddsMade a b l m (x ∷ []) before later
+makes_one a b l m x before later made grants is = record { added = x.of ∷ []; attempts = inl (b, made, [], refl, (refl, grants, refl)); is = is }
 
-pub misses_one : (a b : NetworkMachineSpec) (x : Move) (before later : List Move) → Prevents a x → b ≡ a → later ≡ before → AddsMade a b (x ∷ []) before later
-misses_one a b x before later hinders same is = record { added = []; attempts = inr (hinders, (same, refl)); is = is ∙ sym (append-nil before) }
+pub misses_one : (a b : NetworkMachineSpec) (l m : List ℕ) (x : Attempt) (before later : List Move) → Prevents a x.of → b ≡ a → m ≡ l → later ≡ before
+    → AddsMade a b l m (x ∷ []) before later
+misses_one a b l m x before later hinders same kept is = record { added = []; attempts = inr (hinders, (same, kept, refl)); is = is ∙ sym (append-nil before) }
 
 -- tables that stay from one machine to another, and from that to a third, stay from the first to the third
 pub same_over : (a b c : NetworkMachineSpec) → SameTables a b → SameTables b c → SameTables a c
@@ -85,11 +98,12 @@ run_front a b c x ms made runs number top depth s shows =
     (q.0, (h.event, h.can, q.1), q.2))
 
 -- attempts that are made are a run
-pub attempts_run : (a b : NetworkMachineSpec) (xs ps : List Move) → AttemptsMoves a b xs ps → RunsTo a b ps
-attempts_run a b [] ps h = subst (λ (m : NetworkMachineSpec). RunsTo a m ps) (sym h.0) (subst (RunsTo a a) (sym h.1) (no_move a))
-attempts_run a b (x ∷ xs) ps h = elim h [
-  | inl made_it ↦ subst (RunsTo a b) (sym made_it.3) (run_front a made_it.0 b x made_it.2 made_it.1 (attempts_run made_it.0 b xs made_it.2 made_it.4))
-  | inr missed ↦ attempts_run a b xs ps missed.1
+pub attempts_run : (a b : NetworkMachineSpec) (l m : List ℕ) (xs : List Attempt) (ps : List Move) → AttemptsMoves a b l m xs ps → RunsTo a b ps
+attempts_run a b l m [] ps h = subst (λ (z : NetworkMachineSpec). RunsTo a z ps) (sym h.0) (subst (RunsTo a a) (sym h.2) (no_move a))
+attempts_run a b l m (x ∷ xs) ps h = elim h [
+  | inl made_it ↦ subst (RunsTo a b) (sym made_it.3)
+      (run_front a made_it.0 b x.of made_it.2 made_it.1 (attempts_run made_it.0 b (granted_to l x) m xs made_it.2 made_it.4))
+  | inr missed ↦ attempts_run a b l m xs ps missed.1
 ]
 
 -- one move further
@@ -99,11 +113,11 @@ adds_next m moves k d before between later low h one =
     subst (λ (xs : List Move). AddsEnabled m xs before later) (sym (take_more moves k d low))
     (adds_enabled m (take k moves) (get_or moves k d ∷ []) before between later h one)
 
-pub makes_next : (a b c : NetworkMachineSpec) (moves : List Move) (k : ℕ) (d : Move) (before between later : List Move) → k < length moves
-    → AddsMade a b (take k moves) before between → AddsMade b c (get_or moves k d ∷ []) between later → AddsMade a c (take (k + 1) moves) before later
-makes_next a b c moves k d before between later low h one =
-    subst (λ (xs : List Move). AddsMade a c xs before later) (sym (take_more moves k d low))
-    (adds_made a b c (take k moves) (get_or moves k d ∷ []) before between later h one)
+pub makes_next : (a b c : NetworkMachineSpec) (l m n : List ℕ) (tried : List Attempt) (k : ℕ) (d : Attempt) (before between later : List Move) → k < length tried
+    → AddsMade a b l m (take k tried) before between → AddsMade b c m n (get_or tried k d ∷ []) between later → AddsMade a c l n (take (k + 1) tried) before later
+makes_next a b c l m n tried k d before between later low h one =
+    subst (λ (xs : List Attempt). AddsMade a c l n xs before later) (sym (take_more tried k d low))
+    (adds_made a b c l m n (take k tried) (get_or tried k d ∷ []) before between later h one)
 
 -- one group further
 pub group_adds : {A : Type 0} (m : NetworkMachineSpec) (turn : ℕ) (groups : List (Vec Move A)) (k : ℕ) (d : Vec Move A) (shown before between later : List Move)
@@ -121,17 +135,18 @@ group_adds {A} m turn groups k d shown before between later low is h one =
         ap (flat_map f) (take_more groups k d low)
         ∙ (flat_map-append f (take k groups) (get_or groups k d ∷ []) ∙ ap (λ (xs : List Move). flat_map f (take k groups) ++ xs) (append-nil (f (get_or groups k d))))
 
--- a round of what is enabled, and what is made
-pub round_of : (a b : NetworkMachineSpec) (choices enabled made : List Move) → AddsEnabled a choices [] enabled → AddsMade a b enabled [] made
-    → IsRound a b choices made
-round_of a b choices enabled made h k = record {
+-- a round of what is enabled, what is attempted of it, and what is made
+pub round_of : (by : Arbiter) (a b : NetworkMachineSpec) (l m : List ℕ) (choices enabled : List Move) (tried : List Attempt) (made : List Move)
+    → AddsEnabled a choices [] enabled → tried ≡ attempts_by by a l enabled → AddsMade a b l m tried [] made → IsRound by a b l m choices made
+round_of by a b l m choices enabled tried made h is k = record {
   enabled = h.added;
   begins = h.enabled;
-  attempts = subst (λ (xs : List Move). AttemptsMoves a b xs made) h.is (subst (AttemptsMoves a b enabled) (sym k.is) k.attempts);
+  attempts = subst (λ (es : List Move). AttemptsMoves a b l m (attempts_by by a l es) made) h.is
+      (subst (λ (xs : List Attempt). AttemptsMoves a b l m xs made) is (subst (AttemptsMoves a b l m tried) (sym k.is) k.attempts));
 }
 
-pub run_of : (a b : NetworkMachineSpec) (enabled made : List Move) → AddsMade a b enabled [] made → RunsTo a b made
-run_of a b enabled made k = attempts_run a b enabled made (subst (AttemptsMoves a b enabled) (sym k.is) k.attempts)
+pub run_of : (a b : NetworkMachineSpec) (l m : List ℕ) (tried : List Attempt) (made : List Move) → AddsMade a b l m tried [] made → RunsTo a b made
+run_of a b l m tried made k = attempts_run a b l m tried made (subst (AttemptsMoves a b l m tried) (sym k.is) k.attempts)
 
 -- the list of a vector
 pub items_of : {X A : Type 0} (v w : Vec X A) → v ≡ w → v.items ≡ w.items

@@ -14,6 +14,8 @@ use Rattle.network_machine.specs.declared.moves.Move.{Move}
 use Rattle.network_machine.specs.Machine.{NetworkMachineSpec, plain_network, SameTables}
 use Rattle.network_machine.specs.Runs.{Runs, RunsTo}
 use Rattle.network_rounds.specs.declared.senders.Timed.{Timed}
+use Rattle.network_rounds.specs.declared.arbiter.Arbiter.{Arbiter}
+use Rattle.network_rounds.specs.Arbiters.{turn_by}
 use Rattle.network_rounds.specs.Counts.{one_at, channel_left, begun_by, flits_gone, packets_begun}
 use Rattle.network_rounds.specs.Rounds.{turned_groups, IsRound}
 use Rattle.network_rounds.specs.Senders.{queue_at, due_of, dues_of}
@@ -63,9 +65,9 @@ same_dues queues f g round count is =
     (λ x low. ap (λ (k : ℕ). option_to_list (due_of (queues x) k round)) (is x (omega (arith, low))))
 
 -- a simulation, with bounds on its counts where a round makes at most so many moves
-pub record Simulates {A B : Type 0} (queues : List (Vec Timed A)) (groups : List (Vec Move B)) (old new : NetworkMachineSpec) (begun flits : List ℕ)
-    (count room : ℕ) : Type 0 where
-  pub simulation : IsSimulation queues groups old new begun flits count
+pub record Simulates {A B : Type 0} (by : Arbiter) (queues : List (Vec Timed A)) (groups : List (Vec Move B)) (old new : NetworkMachineSpec)
+    (lasts begun flits : List ℕ) (count room : ℕ) : Type 0 where
+  pub simulation : IsSimulation by queues groups old new lasts begun flits count
   pub begun_few : (x : ℕ) → begun_in x simulation.rounds ≤ room * count
   pub flits_few : (x : ℕ) → flits_in_channels x simulation.rounds ≤ room * count
 
@@ -76,19 +78,20 @@ fits room count old more low small few short =
     let bound : room * count ≤ room * 4294967296 = mul-le-mul_left room high in
     omega (arith, small, few, short, bound))
 
-pub simulates_next : {A B : Type 0} (queues : List (Vec Timed A)) (groups : List (Vec Move B)) (old between new : NetworkMachineSpec)
-    (begun flits begun_later flits_later : List ℕ) (count room : ℕ) (made : List Move) (h : Simulates queues groups old between begun flits count room)
+pub simulates_next : {A B : Type 0} (by : Arbiter) (queues : List (Vec Timed A)) (groups : List (Vec Move B)) (old between new : NetworkMachineSpec)
+    (lasts later begun flits begun_later flits_later : List ℕ) (count room : ℕ) (made : List Move)
+    (h : Simulates by queues groups old between lasts begun flits count room)
     → count < 2 ^ 32 → room < 2 ^ 31 → length made ≤ room → length begun ≡ length queues → length flits_later ≡ length flits
-    → IsRound between new (choices_in queues groups (slice_index begun) count) made → RunsTo between new made → SameTables between new
+    → IsRound by between new lasts later (choices_in by queues groups (slice_index begun) count) made → RunsTo between new made → SameTables between new
     → ((x : ℕ) → x < length begun → slice_index begun x + packets_begun x made < 2 ^ 64 → slice_index begun_later x ≡ slice_index begun x + packets_begun x made)
     → ((x : ℕ) → x < length flits → slice_index flits x + flits_gone x made < 2 ^ 64 → slice_index flits_later x ≡ slice_index flits x + flits_gone x made)
-    → (s : Simulates queues groups old new begun_later flits_later (count + 1) room) × (s.simulation.rounds ≡ made ∷ h.simulation.rounds)
-simulates_next queues groups old between new begun flits begun_later flits_later count room made h low small short many size round runs same b f = (
+    → (s : Simulates by queues groups old new later begun_later flits_later (count + 1) room) × (s.simulation.rounds ≡ made ∷ h.simulation.rounds)
+simulates_next by queues groups old between new lasts later begun flits begun_later flits_later count room made h low small short many size round runs same b f = (
   record {
     simulation = record {
       rounds = made ∷ rounds;
       number = (let number = h.simulation.number in omega (arith, number));
-      are = (between, h.simulation.are, subst (λ (ms : List Move). IsRound between new ms made) choices round);
+      are = (between, lasts, h.simulation.are, subst (λ (ms : List Move). IsRound by between new lasts later ms made) choices round);
       runs = runs_behind old between new (moves_of_all rounds) made h.simulation.same h.simulation.runs runs;
       same = same_over old between new h.simulation.same same;
       senders = λ x here.
@@ -124,24 +127,25 @@ simulates_next queues groups old between new begun flits begun_later flits_later
     rounds : List (List Move)
     rounds = h.simulation.rounds
 
-    choices : choices_in queues groups (slice_index begun) count ≡ choices_in queues groups (λ x. begun_in x rounds) (length rounds)
+    choices : choices_in by queues groups (slice_index begun) count ≡ choices_in by queues groups (λ x. begun_in x rounds) (length rounds)
     choices =
-        ap (choices_in queues groups (slice_index begun)) (sym h.simulation.number)
-        ∙ ap (λ (ms : List Move). ms ++ turned_groups (length rounds) groups)
+        ap (choices_in by queues groups (slice_index begun)) (sym h.simulation.number)
+        ∙ ap (λ (ms : List Move). ms ++ turned_groups (turn_by by (length rounds)) groups)
         (same_dues (queue_at queues) (slice_index begun) (λ x. begun_in x rounds) (length rounds + 1) (length queues) h.simulation.senders)
 
 -- a simulation goes on by a round whose moves are the first of a list that the round writes into
-pub simulates_more : {A B : Type 0} (queues : List (Vec Timed A)) (groups : List (Vec Move B)) (old between new : NetworkMachineSpec)
-    (begun flits begun_later flits_later : List ℕ) (count room most many : ℕ) (made : List Move) (h : Simulates queues groups old between begun flits count room)
+pub simulates_more : {A B : Type 0} (by : Arbiter) (queues : List (Vec Timed A)) (groups : List (Vec Move B)) (old between new : NetworkMachineSpec)
+    (lasts later begun flits begun_later flits_later : List ℕ) (count room most many : ℕ) (made : List Move)
+    (h : Simulates by queues groups old between lasts begun flits count room)
     → count < most → most < 2 ^ 32 → room < 2 ^ 31 → many ≤ length made → length made ≡ room → length begun ≡ length queues
-    → length flits_later ≡ length flits → IsRound between new (choices_in queues groups (slice_index begun) count) (take many made)
+    → length flits_later ≡ length flits → IsRound by between new lasts later (choices_in by queues groups (slice_index begun) count) (take many made)
     → RunsTo between new (take many made) → SameTables between new
     → ((x : ℕ) → x < length begun → slice_index begun x + packets_begun x (take many made) < 2 ^ 64
     → slice_index begun_later x ≡ slice_index begun x + packets_begun x (take many made))
     → ((x : ℕ) → x < length flits → slice_index flits x + flits_gone x (take many made) < 2 ^ 64
     → slice_index flits_later x ≡ slice_index flits x + flits_gone x (take many made))
-    → (s : Simulates queues groups old new begun_later flits_later (count + 1) room) × (s.simulation.rounds ≡ take many made ∷ h.simulation.rounds)
-simulates_more queues groups old between new begun flits begun_later flits_later count room most many made h low few small short is each size round runs same b f =
+    → (s : Simulates by queues groups old new later begun_later flits_later (count + 1) room) × (s.simulation.rounds ≡ take many made ∷ h.simulation.rounds)
+simulates_more by queues groups old between new lasts later begun flits begun_later flits_later count room most many made h low few small short is each size round runs same b f =
     (let long : length (take many made) ≡ many = length-take-le many made short in
-    simulates_next queues groups old between new begun flits begun_later flits_later count room (take many made) h (omega (arith, low, few)) small
+    simulates_next by queues groups old between new lasts later begun flits begun_later flits_later count room (take many made) h (omega (arith, low, few)) small
     (omega (arith, long, short, is)) each size round runs same b f)

@@ -1,8 +1,10 @@
 pub mod Reasons
 pub mod Packets
 pub mod Traffic
+pub mod Fairness
 pub mod Flags
 pub mod Joined
+pub mod Arbiters
 pub mod Attempts
 pub mod Rounds
 pub mod Choices

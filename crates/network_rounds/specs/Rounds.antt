@@ -4,6 +4,8 @@ use Rattle.std.specs.Prelude.{ℕ, ◌%◌, List, ◌++◌, Vec, length, take, d
 use Rattle.std.specs.List.{flat_map}
 use Rattle.network_machine.specs.declared.moves.Move.{Move}
 use Rattle.network_machine.specs.Machine.{NetworkMachineSpec}
+use Rattle.network_rounds.specs.declared.arbiter.Arbiter.{Arbiter}
+use Rattle.network_rounds.specs.Arbiters.{attempts_by}
 use Rattle.network_rounds.specs.Attempts.{AreEnabledMoves, AttemptsMoves}
 
 -- some moves, from the one whose turn it is (a rotating arbiter: Dally and Towles, Principles and
@@ -15,8 +17,10 @@ turned turn moves = drop (turn % length moves) moves ++ take (turn % length move
 abbrev pub turned_groups : {A : Type 0} → ℕ → List (Vec Move A) → List Move
 turned_groups turn groups = flat_map (λ group. turned turn group.items) groups
 
--- a round over some choices: those that are enabled when it begins are attempted, in their order
-pub record IsRound (old new : NetworkMachineSpec) (choices made : List Move) : Type 0 where
+-- A round over some choices: of those that are enabled when it begins an arbiter has some attempted,
+-- in their order. What each channel was granted to last is known before the round and behind it.
+pub record IsRound (by : Arbiter) (old new : NetworkMachineSpec) (lasts later : List ℕ)
+    (choices made : List Move) : Type 0 where
   pub enabled : List Move
   pub begins : AreEnabledMoves old choices enabled
-  pub attempts : AttemptsMoves old new enabled made
+  pub attempts : AttemptsMoves old new lasts later (attempts_by by old lasts enabled) made

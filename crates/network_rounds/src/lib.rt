@@ -3,11 +3,14 @@
 //! round on: what its lines spell, or where and why it is refused.
 #![tactic(auto)]
 
+pub mod arbiter;
 mod attempting;
 pub mod choices;
 pub mod counting;
 pub mod flags;
+mod granting;
 pub mod joined;
+pub mod laws;
 mod picking;
 pub mod reading;
 pub mod reason;
@@ -18,6 +21,7 @@ pub mod sentence;
 pub mod simulating;
 mod spelling;
 
+pub use arbiter::{Arbiter, Attempt, Grants};
 pub use choices::{Part, groups_of};
 pub use counting::count_moves;
 pub use flags::Flags;

@@ -8,7 +8,9 @@ use Rattle.network_machine.specs.declared.moves.Move.{Move}
 use Rattle.network_machine.specs.Machine.{NetworkMachineSpec, SameTables}
 use Rattle.network_machine.specs.Runs.{RunsTo}
 use Rattle.network_machine.proofs.Running.{no_move}
+use Rattle.network_rounds.specs.declared.arbiter.Arbiter.{Arbiter}
 use Rattle.network_rounds.specs.declared.senders.Timed.{Timed}
+use Rattle.network_rounds.specs.Arbiters.{no_grants}
 use Rattle.network_rounds.specs.Counts.{flits_gone, packets_begun}
 use Rattle.network_rounds.specs.Rounds.{IsRound}
 use Rattle.network_rounds.specs.Senders.{queue_at}
@@ -19,17 +21,17 @@ use Rattle.network_traffic.specs.Watches.{ShowsRounds}
 use Rattle.network_traffic.specs.Simulated.{is_later, some_later, ends_behind, GoesOnSimulating, GoesOnBefore, last_moving}
 
 -- the rounds so far, behind none of which it is over
-pub record WatchedSoFar {A B C : Type 0} (t : Table) (packets : List Timed) (queues : List (Vec Timed A)) (groups : List (Vec Move B))
-    (old new : NetworkMachineSpec) (begun flits : List ℕ) (count room latest : ℕ) (watch : Watch C) : Type 0 where
-  pub simulates : Simulates queues groups old new begun flits count room
+pub record WatchedSoFar {A B C : Type 0} (by : Arbiter) (t : Table) (packets : List Timed) (queues : List (Vec Timed A)) (groups : List (Vec Move B))
+    (old new : NetworkMachineSpec) (lasts begun flits : List ℕ) (count room latest : ℕ) (watch : Watch C) : Type 0 where
+  pub simulates : Simulates by queues groups old new lasts begun flits count room
   pub shows : ShowsRounds t packets simulates.simulation.rounds watch
   pub last : latest ≡ last_moving simulates.simulation.rounds
   pub goes : GoesOnSimulating queues simulates.simulation.rounds
 
 -- the rounds so far, and whether it is over behind the last one; it isn't behind those before
-pub record WatchedNext {A B C : Type 0} (t : Table) (packets : List Timed) (queues : List (Vec Timed A)) (groups : List (Vec Move B))
-    (old new : NetworkMachineSpec) (begun flits : List ℕ) (count room latest : ℕ) (watch : Watch C) (now_over : Bool) : Type 0 where
-  pub simulates : Simulates queues groups old new begun flits count room
+pub record WatchedNext {A B C : Type 0} (by : Arbiter) (t : Table) (packets : List Timed) (queues : List (Vec Timed A)) (groups : List (Vec Move B))
+    (old new : NetworkMachineSpec) (lasts begun flits : List ℕ) (count room latest : ℕ) (watch : Watch C) (now_over : Bool) : Type 0 where
+  pub simulates : Simulates by queues groups old new lasts begun flits count room
   pub shows : ShowsRounds t packets simulates.simulation.rounds watch
   pub last : latest ≡ last_moving simulates.simulation.rounds
   pub goes : GoesOnBefore queues simulates.simulation.rounds
@@ -37,15 +39,15 @@ pub record WatchedNext {A B C : Type 0} (t : Table) (packets : List Timed) (queu
   pub on : now_over ≡ false → GoesOnSimulating queues simulates.simulation.rounds
 
 -- no round
-pub watched_none : {A B C : Type 0} (t : Table) (packets : List Timed) (queues : List (Vec Timed A)) (groups : List (Vec Move B)) (m : NetworkMachineSpec)
-    (begun flits : List ℕ) (room : ℕ) (watch : Watch C) → ((x : ℕ) → x < length queues → slice_index begun x ≡ 0) → ((x : ℕ) → x < length flits → slice_index flits x ≡ 0)
-    → ShowsRounds t packets [] watch → WatchedSoFar t packets queues groups m m begun flits 0 room 0 watch
-watched_none t packets queues groups m begun flits room watch b f shows = record {
+pub watched_none : {A B C : Type 0} (by : Arbiter) (t : Table) (packets : List Timed) (queues : List (Vec Timed A)) (groups : List (Vec Move B)) (m : NetworkMachineSpec)
+    (lasts begun flits : List ℕ) (room : ℕ) (watch : Watch C) → lasts ≡ no_grants (length m.channels) → ((x : ℕ) → x < length queues → slice_index begun x ≡ 0) → ((x : ℕ) → x < length flits → slice_index flits x ≡ 0)
+    → ShowsRounds t packets [] watch → WatchedSoFar by t packets queues groups m m lasts begun flits 0 room 0 watch
+watched_none by t packets queues groups m lasts begun flits room watch none b f shows = record {
   simulates = record {
     simulation = record {
       rounds = [];
       number = refl;
-      are = refl;
+      are = (refl, none);
       runs = no_move m;
       same = record { table = refl; replies = refl };
       senders = b;
@@ -71,11 +73,11 @@ later_same queues f g round is =
     any_over (λ x. is_later round (slice_get (queue_at queues x) (f x))) (λ x. is_later round (slice_get (queue_at queues x) (g x))) 0 (length queues)
     (λ x low. ap (λ (k : ℕ). is_later round (slice_get (queue_at queues x) k)) (is x (omega (arith, low))))
 
-pub watched_more : {A B C : Type 0} (t : Table) (packets : List Timed) (queues : List (Vec Timed A)) (groups : List (Vec Move B))
-    (old between new : NetworkMachineSpec) (begun flits begun_later flits_later : List ℕ) (count room most many last last_later : ℕ) (made : List Move)
-    (watch watch_later : Watch C) (over : Bool) (h : WatchedSoFar t packets queues groups old between begun flits count room last watch)
+pub watched_more : {A B C : Type 0} (by : Arbiter) (t : Table) (packets : List Timed) (queues : List (Vec Timed A)) (groups : List (Vec Move B))
+    (old between new : NetworkMachineSpec) (lasts later begun flits begun_later flits_later : List ℕ) (count room most many last last_later : ℕ) (made : List Move)
+    (watch watch_later : Watch C) (over : Bool) (h : WatchedSoFar by t packets queues groups old between lasts begun flits count room last watch)
     → count < most → most < 2 ^ 32 → room < 2 ^ 31 → many ≤ length made → length made ≡ room → length begun ≡ length queues
-    → length flits_later ≡ length flits → IsRound between new (choices_in queues groups (slice_index begun) count) (take many made)
+    → length flits_later ≡ length flits → IsRound by between new lasts later (choices_in by queues groups (slice_index begun) count) (take many made)
     → RunsTo between new (take many made) → SameTables between new
     → ((x : ℕ) → x < length begun → slice_index begun x + packets_begun x (take many made) < 2 ^ 64
     → slice_index begun_later x ≡ slice_index begun x + packets_begun x (take many made))
@@ -85,10 +87,10 @@ pub watched_more : {A B C : Type 0} (t : Table) (packets : List Timed) (queues :
     → ShowsRounds t packets (take many made ∷ rounds) watch_later)
     → last_later ≡ (if many == 0 then last else count + 1)
     → over ≡ (many == 0 && not (some_later queues (slice_index begun_later) (count + 1)))
-    → WatchedNext t packets queues groups old new begun_later flits_later (count + 1) room last_later watch_later over
-watched_more t packets queues groups old between new begun flits begun_later flits_later count room most many last last_later made watch watch_later over h
+    → WatchedNext by t packets queues groups old new later begun_later flits_later (count + 1) room last_later watch_later over
+watched_more by t packets queues groups old between new lasts later begun flits begun_later flits_later count room most many last last_later made watch watch_later over h
     low small rooms few is each size round runs same b f notes latest ended =
-    (let s = simulates_more queues groups old between new begun flits begun_later flits_later count room most many made h.simulates
+    (let s = simulates_more by queues groups old between new lasts later begun flits begun_later flits_later count room most many made h.simulates
     low small rooms few is each size round runs same b f in
     let before : List (List Move) = h.simulates.simulation.rounds in
     let number = h.simulates.simulation.number in

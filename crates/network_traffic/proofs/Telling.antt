@@ -9,6 +9,7 @@ use Rattle.network_machine.specs.declared.moves.Move.{Move}
 use Rattle.network_machine.specs.declared.moves.Ending.{Ending}
 use Rattle.network_machine.specs.Machine.{NetworkMachineSpec, IsOpenedNetwork}
 use Rattle.network_machine.specs.Endings.{IsEnding}
+use Rattle.network_rounds.specs.declared.arbiter.Arbiter.{Arbiter}
 use Rattle.network_rounds.specs.declared.senders.Timed.{Timed}
 use Rattle.network_rounds.specs.Choices.{groups_of}
 use Rattle.network_rounds.specs.Joined.{AreJoined}
@@ -52,22 +53,22 @@ same_channels n f g v w leave wait =
     ap (λ (m : ℕ). channel_line x m (v x)) (leave x (omega (arith, low))) ∙ ap (λ (m : ℕ). channel_line x (g x) m) (wait x (omega (arith, low))))
 
 -- the report that a program writes of a simulation is that of its rounds
-pub told : {A : Type 0} (n : NetworkSpec) (depth : ℕ) (packets ps : List Timed) (t : Table) (routers : List ℕ) (queues : List (Vec Timed A)) (groups : List (Vec Move A))
+pub told : {A : Type 0} (by : Arbiter) (n : NetworkSpec) (depth : ℕ) (packets ps : List Timed) (t : Table) (routers : List ℕ) (queues : List (Vec Timed A)) (groups : List (Vec Move A))
     (opened reached : NetworkMachineSpec) (flits fs ws : List ℕ) (bs ds : List (Option ℕ)) (watch : Watch A) (extent : Extent) (ending : Ending) (text : List ℕ) (sound : Bool)
     → t ≡ n.table → ps ≡ packets
     → AreRouters n.table routers → map (λ (q : Vec Timed A). q.items) queues ≡ map (queue_of packets) (range_with_len 0 (channels_of n.table))
     → map (λ (q : Vec Move A). q.items) groups ≡ groups_of n.table.kinds routers (channels_of n.table) → IsOpenedNetwork n.table n.replies depth opened
-    → IsSimulated t ps queues groups opened reached flits 1000000 watch extent → length flits ≡ channels_of n.table → IsEnding reached ending
+    → IsSimulated by t ps queues groups opened reached flits 1000000 watch extent → length flits ≡ channels_of n.table → IsEnding reached ending
     → bs ≡ watch.fates.begun.items → ds ≡ watch.fates.delivered.items → fs ≡ flits → ws ≡ watch.waited.items
     → text ≡ report_text packets (λ k. slice_index_or bs k None) (λ k. slice_index_or ds k None) (slice_index fs) (slice_index ws) (length fs) (end_line extent ending)
-    → sound ≡ is_sound extent ending → IsSimulationText A n depth packets text sound
-told n depth packets ps t0 routers queues groups opened reached flits fs ws bs ds watch extent ending text sound table same are queued grouped opens run0 size ends
+    → sound ≡ is_sound extent ending → IsSimulationText A by n depth packets text sound
+told by n depth packets ps t0 routers queues groups opened reached flits fs ws bs ds watch extent ending text sound table same are queued grouped opens run0 size ends
     begins delivers leave wait is sounds =
     (let t : Table = n.table in
-    let run1 : IsSimulated t ps queues groups opened reached flits 1000000 watch extent =
-    subst (λ (u : Table). IsSimulated u ps queues groups opened reached flits 1000000 watch extent) table run0 in
-    let run : IsSimulated t packets queues groups opened reached flits 1000000 watch extent =
-    subst (λ (us : List Timed). IsSimulated t us queues groups opened reached flits 1000000 watch extent) same run1 in
+    let run1 : IsSimulated by t ps queues groups opened reached flits 1000000 watch extent =
+    subst (λ (u : Table). IsSimulated by u ps queues groups opened reached flits 1000000 watch extent) table run0 in
+    let run : IsSimulated by t packets queues groups opened reached flits 1000000 watch extent =
+    subst (λ (us : List Timed). IsSimulated by t us queues groups opened reached flits 1000000 watch extent) same run1 in
     let rounds : List (List Move) = run.simulation.rounds in
     let fates = run.shows.log.fates in
     let b : ℕ → Option ℕ = λ k. slice_index_or bs k None in
@@ -88,6 +89,7 @@ told n depth packets ps t0 routers queues groups opened reached flits fs ws bs d
       opened = opened;
       opens = opens;
       reached = reached;
+      lasts = run.lasts;
       begun = run.begun;
       flits = flits;
       extent = extent;

@@ -15,6 +15,7 @@ use Rattle.network_machine.specs.declared.moves.Ending.TheVariants as ending
 use Rattle.network_machine.specs.declared.moves.Move.{Move}
 use Rattle.network_machine.specs.Machine.{NetworkMachineSpec, IsOpenedNetwork}
 use Rattle.network_machine.specs.Endings.{IsEnding}
+use Rattle.network_rounds.specs.declared.arbiter.Arbiter.{Arbiter}
 use Rattle.network_rounds.specs.declared.senders.Timed.{Timed}
 use Rattle.network_rounds.specs.declared.reading.Traffic.{Traffic}
 use Rattle.network_rounds.specs.declared.reason.TrafficReason.{TrafficReason}
@@ -52,9 +53,10 @@ is_sound e ending.Empty = e.is_over
 is_sound e (ending.Goes of) = false
 
 -- a text is the report on packets that are sent through a network: from the empty network on, in
--- clocked rounds over its choices, grouped by routers; and it is over and ends empty, or not
-pub record IsSimulationText (A : Type 0) (n : NetworkSpec) (depth : ℕ) (packets : List Timed)
-    (text : List ℕ) (sound : Bool) : Type 0 where
+-- clocked rounds by an arbiter over its choices, grouped by routers; and it is over and ends empty, or
+-- not
+pub record IsSimulationText (A : Type 0) (by : Arbiter) (n : NetworkSpec) (depth : ℕ)
+    (packets : List Timed) (text : List ℕ) (sound : Bool) : Type 0 where
   pub routers : List ℕ
   pub are : AreRouters n.table routers
   pub queues : List (Vec Timed A)
@@ -66,10 +68,11 @@ pub record IsSimulationText (A : Type 0) (n : NetworkSpec) (depth : ℕ) (packet
   pub opened : NetworkMachineSpec
   pub opens : IsOpenedNetwork n.table n.replies depth opened
   pub reached : NetworkMachineSpec
+  pub lasts : List ℕ
   pub begun : List ℕ
   pub flits : List ℕ
   pub extent : Extent
-  pub simulation : IsSimulation queues groups opened reached begun flits extent.rounds
+  pub simulation : IsSimulation by queues groups opened reached lasts begun flits extent.rounds
   pub far : IsExtent queues simulation.rounds 1000000 extent
   pub ending : Ending
   pub ends : IsEnding reached ending
@@ -89,10 +92,10 @@ pub record IsNoRouteText (n : NetworkSpec) (text : List ℕ) (sound : Bool) : Ty
   pub sounds : sound ≡ false
 
 -- what is answered to packets: the report on them; or the first pair of the network without a route
-abbrev pub IsSimulationAnswer : {A : Type 0} → NetworkSpec → ℕ → List Timed → SimulationAnswer A
-    → Type 0
-IsSimulationAnswer {A} n depth packets a = IsNoRouteText n a.text.items a.sound
-    ⊎ IsSimulationText A n depth packets a.text.items a.sound
+abbrev pub IsSimulationAnswer : {A : Type 0} → Arbiter → NetworkSpec → ℕ → List Timed
+    → SimulationAnswer A → Type 0
+IsSimulationAnswer {A} by n depth packets a = IsNoRouteText n a.text.items a.sound
+    ⊎ IsSimulationText A by n depth packets a.text.items a.sound
 
 -- out of memory, which is of no line
 abbrev pub memory_refused : LineFault
@@ -100,10 +103,10 @@ memory_refused = record { fault = fault.Memory; line = 0 }
 
 -- what is answered to packets: the report on them, or the first pair of the network without a
 -- route; or out of memory
-abbrev pub AnswersPackets : {A : Type 0} → NetworkSpec → ℕ → List Timed
+abbrev pub AnswersPackets : {A : Type 0} → Arbiter → NetworkSpec → ℕ → List Timed
     → Result (SimulationAnswer A) LineFault → Type 0
-AnswersPackets n depth packets (Ok a) = IsSimulationAnswer n depth packets a
-AnswersPackets n depth packets (Err e) = e ≡ memory_refused
+AnswersPackets by n depth packets (Ok a) = IsSimulationAnswer by n depth packets a
+AnswersPackets by n depth packets (Err e) = e ≡ memory_refused
 
 -- a fault is that of a refusal of a traffic text
 pub record IsTrafficFault (A : Type 0) (n : NetworkSpec) (traffic : List (List ℕ)) (e : LineFault)
@@ -114,12 +117,12 @@ pub record IsTrafficFault (A : Type 0) (n : NetworkSpec) (traffic : List (List �
 
 -- what is answered to a network text and a traffic text of these lines: the report on its packets; or
 -- the first fault of the network text, or else of the traffic text; or out of memory
-abbrev pub AnswersSimulationText : {A : Type 0} → List (List ℕ) → List (List ℕ) → ℕ
+abbrev pub AnswersSimulationText : {A : Type 0} → Arbiter → List (List ℕ) → List (List ℕ) → ℕ
     → Result (SimulationAnswer A) LineFault → Type 0
-AnswersSimulationText network traffic depth (Ok a) =
+AnswersSimulationText by network traffic depth (Ok a) =
     (n : NetworkSpec) × (network_of network ≡ Ok n) × (t : TrafficSpec)
     × (traffic_or_why traffic ≡ Ok t) × AreJoined n.table.joins t.packets (length t.packets)
-    × IsSimulationAnswer n depth t.packets a
-AnswersSimulationText {A} network traffic depth (Err e) =
+    × IsSimulationAnswer by n depth t.packets a
+AnswersSimulationText {A} by network traffic depth (Err e) =
     (e ≡ memory_refused) ⊎ ((network_of network ≡ Err e)
     ⊎ ((n : NetworkSpec) × (network_of network ≡ Ok n) × IsTrafficFault A n traffic e))

@@ -5,6 +5,7 @@ use Rattle.std.specs.List.{list_any, range_with_len}
 use Rattle.network_judge.specs.Table.{Table}
 use Rattle.network_machine.specs.declared.moves.Move.{Move}
 use Rattle.network_machine.specs.Machine.{NetworkMachineSpec}
+use Rattle.network_rounds.specs.declared.arbiter.Arbiter.{Arbiter}
 use Rattle.network_rounds.specs.declared.senders.Timed.{Timed}
 use Rattle.network_rounds.specs.Senders.{queue_at}
 use Rattle.network_rounds.specs.Simulations.{begun_in, IsSimulation}
@@ -57,10 +58,11 @@ pub record IsExtent {A : Type 0} (queues : List (Vec Timed A)) (rounds : List (L
 
 -- a simulation of some packets: its rounds, what becomes of the packets in them, and how many flits
 -- leave each channel
-pub record IsSimulated {A B C : Type 0} (t : Table) (packets : List Timed)
+pub record IsSimulated {A B C : Type 0} (by : Arbiter) (t : Table) (packets : List Timed)
     (queues : List (Vec Timed A)) (groups : List (Vec Move B)) (old new : NetworkMachineSpec)
     (flits : List ℕ) (most : ℕ) (watch : Watch C) (e : Extent) : Type 0 where
+  pub lasts : List ℕ
   pub begun : List ℕ
-  pub simulation : IsSimulation queues groups old new begun flits e.rounds
+  pub simulation : IsSimulation by queues groups old new lasts begun flits e.rounds
   pub shows : ShowsRounds t packets simulation.rounds watch
   pub far : IsExtent queues simulation.rounds most e

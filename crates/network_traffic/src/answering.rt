@@ -16,7 +16,7 @@ use network_judge::{NoRoute, Verdict};
 use network_machine::{Ending, Machine};
 use network_rounds::routers::routers_of;
 use network_rounds::{
-    Timed, Traffic, TrafficReason, check_joined, groups_of, queues_of, read_traffic,
+    Arbiter, Timed, Traffic, TrafficReason, check_joined, groups_of, queues_of, read_traffic,
 };
 use network_text::{Network, judge_network, read_network, verdict_text};
 use script::LineFault;
@@ -74,11 +74,13 @@ fn simulated<A: Allocator + Copy>(
     network: &Network<A>,
     packets: &[Timed],
     depth: u64,
+    by: Arbiter,
 ) -> Result<SimulationAnswer<A>, AllocError>
     requires arrive { AllArrive network.now.table }
     requires joined { AreJoined network.now.table.joins packets.now (length packets.now) }
     requires depth { depth ≤ 8 }
-    ensures { IfOk result (λ a. IsSimulationText A network.now depth packets.now a.text.items a.sound) }
+    ensures { IfOk result (λ a. IsSimulationText A by network.now depth packets.now a.text.items
+        a.sound) }
 {
     let kinds = network.kinds();
     let joins = network.joins();
@@ -88,7 +90,7 @@ fn simulated<A: Allocator + Copy>(
     let groups = groups_of(alloc, kinds, &routers, kinds.len())?;
     let queues = queues_of(alloc, packets, kinds.len())?;
     let plan = open_plan(alloc, kinds, joins, choices, packets)?;
-    let course = run_packets(alloc, &mut machine, &plan, &queues, &groups)?;
+    let course = run_packets(alloc, &mut machine, by, &plan, &queues, &groups)?;
     let ending = machine.ending();
     let text = report_text(
         alloc,
@@ -130,16 +132,17 @@ fn answered_by<A: Allocator + Copy>(
     verdict: &Verdict<A>,
     packets: &[Timed],
     depth: u64,
+    by: Arbiter,
 ) -> Result<SimulationAnswer<A>, AllocError>
     requires verdict { IsVerdict network.now.table network.now.replies verdict.now }
     requires joined { AreJoined network.now.table.joins packets.now (length packets.now) }
     requires depth { depth ≤ 8 }
-    ensures { IfOk result (IsSimulationAnswer network.now depth packets.now) }
+    ensures { IfOk result (IsSimulationAnswer by network.now depth packets.now) }
 {
     match verdict {
         Verdict::NoRoute(r) => Ok(no_route(alloc, network, *r)?),
-        Verdict::Rising(_) => Ok(simulated(alloc, network, packets, depth)?),
-        Verdict::Cycle(_) => Ok(simulated(alloc, network, packets, depth)?),
+        Verdict::Rising(_) => Ok(simulated(alloc, network, packets, depth, by)?),
+        Verdict::Cycle(_) => Ok(simulated(alloc, network, packets, depth, by)?),
     }
 }
 
@@ -151,13 +154,14 @@ fn judged<A: Allocator + Copy>(
     network: &Network<A>,
     packets: &[Timed],
     depth: u64,
+    by: Arbiter,
 ) -> Result<SimulationAnswer<A>, AllocError>
     requires joined { AreJoined network.now.table.joins packets.now (length packets.now) }
     requires depth { depth ≤ 8 }
-    ensures { IfOk result (IsSimulationAnswer network.now depth packets.now) }
+    ensures { IfOk result (IsSimulationAnswer by network.now depth packets.now) }
 {
     let verdict = judge_network(alloc, network)?;
-    answered_by(alloc, network, &verdict, packets, depth)
+    answered_by(alloc, network, &verdict, packets, depth, by)
 }
 
 /// The answer to the packets of a traffic text.
@@ -166,19 +170,20 @@ fn answered<A: Allocator + Copy>(
     network: &Network<A>,
     packets: &[Timed],
     depth: u64,
+    by: Arbiter,
 ) -> Result<SimulationAnswer<A>, LineFault>
     requires joined { AreJoined network.now.table.joins packets.now (length packets.now) }
     requires depth { depth ≤ 8 }
-    ensures { AnswersPackets network.now depth packets.now result }
+    ensures { AnswersPackets by network.now depth packets.now result }
 {
-    match judged(alloc, network, packets, depth) {
+    match judged(alloc, network, packets, depth, by) {
         Ok(answer) => Ok(answer),
         Err(_) => Err(MEMORY),
     }
 }
 
 /// Reads a network text and a traffic text, and sends the packets through the network, whose channels
-/// hold so many flits, in clocked rounds.
+/// hold so many flits, in clocked rounds by an arbiter.
 ///
 /// Errors: the first fault of the network text and its line, or else the first of the traffic text, a
 /// packet between channels that no packets go between among them; or `Fault::Memory` at line 0.
@@ -187,11 +192,12 @@ pub fn simulation_answer<A: Allocator + Copy>(
     network: &[u8],
     traffic: &[u8],
     depth: u64,
+    by: Arbiter,
 ) -> Result<SimulationAnswer<A>, LineFault>
     requires { depth ≤ 8 }
-    ensures { AnswersSimulationText (lines network.now) (lines traffic.now) depth result }
+    ensures { AnswersSimulationText by (lines network.now) (lines traffic.now) depth result }
 {
     let network = read_network(alloc, network)?;
     let traffic = read_packets(alloc, &network, traffic)?;
-    answered(alloc, &network, &traffic.packets, depth)
+    answered(alloc, &network, &traffic.packets, depth, by)
 }

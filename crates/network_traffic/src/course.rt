@@ -11,7 +11,7 @@ use crate::plan::Plan;
 use crate::running::{Extent, watch_rounds};
 use crate::watch::Watch;
 use network_machine::{Machine, Move};
-use network_rounds::{Flags, Timed, senders_of};
+use network_rounds::{Arbiter, Attempt, Flags, Grants, Timed, senders_of};
 use std::alloc::{AllocError, Allocator, Global};
 
 /// The most rounds of a simulation.
@@ -39,12 +39,19 @@ fn room_for<A: Allocator>(senders: usize, groups: &[Vec<Move, A>]) -> usize
     room
 }
 
-/// Sends the packets of a plan through a network.
+/// A choice to write over.
+const NO_ATTEMPT: Attempt = Attempt {
+    of: Move::Credit(0),
+    output: None,
+};
+
+/// Sends the packets of a plan through a network whose outputs are granted by an arbiter.
 ///
 /// Errors: out of memory.
 pub(crate) fn run_packets<A: Allocator + Copy>(
     alloc: A,
     machine: &mut Machine<A>,
+    by: Arbiter,
     plan: &Plan<A>,
     queues: &[Vec<Timed, A>],
     groups: &[Vec<Move, A>],
@@ -52,7 +59,7 @@ pub(crate) fn run_packets<A: Allocator + Copy>(
     requires plan { IsPlan plan.now }
     requires queues { length queues.now ≡ length plan.now.kinds.now }
     ensures size { IfOk result (λ course. length course.flits.items ≡ length plan.now.kinds.now) }
-    ensures run { IfOk result (λ course. IsSimulated (plan_table plan.now) plan.now.packets.now
+    ensures run { IfOk result (λ course. IsSimulated by (plan_table plan.now) plan.now.packets.now
         queues.now groups.now machine.old machine.new course.flits.items 1000000 course.watch
         course.extent) }
 {
@@ -67,21 +74,26 @@ pub(crate) fn run_packets<A: Allocator + Copy>(
     let mut sends = vec![in alloc; Move::Credit(0); channels]?;
     let mut choices = Flags::open(alloc, machine.channels(), groups)?;
     choices.tell_all(machine);
+    let mut grants = Grants::none(alloc, machine.channels())?;
     let senders = senders_of(alloc, queues)?;
     let mut enabled = vec![in alloc; Move::Credit(0); room]?;
+    let mut attempts = vec![in alloc; NO_ATTEMPT; room]?;
     let mut made = vec![in alloc; Move::Credit(0); room]?;
     let extent = watch_rounds(
         machine,
+        by,
         plan,
         queues,
         &senders,
         groups,
         &mut choices,
+        &mut grants,
         MOST_ROUNDS,
         &mut begun,
         &mut flits,
         &mut sends,
         &mut enabled,
+        &mut attempts,
         &mut made,
         &mut watch,
     );

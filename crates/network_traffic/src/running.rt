@@ -3,6 +3,7 @@
 ghost use Rattle.std.specs.Prelude.{◌≡◌, ◌+◌, ◌<◌, ◌≤◌, ◌^◌, ◌==◌, ◌&&◌, not, [], ℕ, length};
 ghost use Rattle.std.specs.Prelude.{slice_get, slice_index, if◌then◌else◌};
 ghost use Rattle.std.specs.List.{sum_by};
+ghost use Rattle.network_rounds.specs.Arbiters.{AreGrants, no_grants};
 ghost use Rattle.network_rounds.specs.Flags.{AreFlags, choices_of};
 ghost use Rattle.network_rounds.specs.Senders.{AreSenders};
 ghost use Rattle.network_traffic.specs.Plans.{IsPlan, plan_table};
@@ -13,7 +14,7 @@ ghost use Rattle.network_traffic.specs.Simulated.{is_later, some_later, IsSimula
 use crate::plan::Plan;
 use crate::watch::Watch;
 use network_machine::{Machine, Move};
-use network_rounds::{Flags, Timed, simulate_round};
+use network_rounds::{Arbiter, Attempt, Flags, Grants, Timed, simulate_round};
 use std::alloc::Allocator;
 
 /// How far a simulation goes.
@@ -70,16 +71,19 @@ fn last_of(count: usize, last: u64, round: u64) -> u64
 /// memory.
 pub(crate) fn watch_rounds<A: Allocator, B: Allocator>(
     machine: &mut Machine<A>,
+    by: Arbiter,
     plan: &Plan<B>,
     queues: &[Vec<Timed, B>],
     senders: &[usize],
     groups: &[Vec<Move, B>],
     choices: &mut Flags<B>,
+    grants: &mut Grants<B>,
     most: u64,
     begun: &mut [u64],
     flits: &mut [u64],
     sends: &mut [Move],
     enabled: &mut [Move],
+    attempts: &mut [Attempt],
     made: &mut [Move],
     watch: &mut Watch<B>,
 ) -> Extent
@@ -87,24 +91,27 @@ pub(crate) fn watch_rounds<A: Allocator, B: Allocator>(
     requires most { most < 2 ^ 32 }
     requires senders { AreSenders queues.now senders.now }
     requires flags { AreFlags machine.old (choices_of groups.now) choices.old }
+    requires grants { AreGrants machine.old grants.old }
+    requires none_granted { grants.old.lasts.items ≡ no_grants (length machine.old.channels) }
     requires begun { length begun.old ≡ length queues.now }
     requires none_begun { (x : ℕ) → x < length begun.old → slice_index begun.old x ≡ 0 }
     requires none_left { (x : ℕ) → x < length flits.old → slice_index flits.old x ≡ 0 }
     requires sends { length queues.now ≤ length sends.old }
     requires enabled { length queues.now + sum_by (λ group. length group.items) groups.now
         ≤ length enabled.old }
-    requires made { length queues.now + sum_by (λ group. length group.items) groups.now
-        ≤ length made.old }
+    requires attempts { length enabled.old ≤ length attempts.old }
+    requires made { length enabled.old ≤ length made.old }
     requires room { length made.old < 2 ^ 31 }
     requires watch { ShowsRounds (plan_table plan.now) plan.now.packets.now [] watch.old }
-    ensures { IsSimulated (plan_table plan.now) plan.now.packets.now queues.now groups.now
+    ensures { IsSimulated by (plan_table plan.now) plan.now.packets.now queues.now groups.now
         machine.old machine.new flits.new most watch.new result }
 {
     let mut rounds = 0;
     let mut last = 0;
     while rounds < most {
         let count = simulate_round(
-            machine, queues, senders, groups, choices, rounds, begun, flits, sends, enabled, made,
+            machine, by, queues, senders, groups, choices, grants, rounds, begun, flits, sends,
+            enabled, attempts, made,
         );
         rounds += 1;
         watch.note(plan, rounds, &made[..count]);

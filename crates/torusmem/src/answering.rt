@@ -12,6 +12,7 @@ use command_verdicts::{
 };
 use model_answer::MemoryModel;
 use model_replies::ValueOptions;
+use network_rounds::Arbiter;
 use program_fault::{ProgramFault, Texts};
 use report_lines::Out;
 use std::alloc::Global;
@@ -57,9 +58,10 @@ pub(crate) fn answer<R: Eprint + Clock + AllocGlobal + Threads + Wait + Sync, W:
             let run = texts.second.as_slice();
             sound(replay_network_text(alloc, first, run, u64::from(depth), out))
         }
-        Job::Simulate { depth, .. } => {
+        Job::Simulate { depth, arbiter, .. } => {
             let traffic = texts.second.as_slice();
-            sound(simulate_text(alloc, first, traffic, u64::from(depth), out))
+            let by = Arbiter::named(arbiter).unwrap_or(Arbiter::Rotating);
+            sound(simulate_text(alloc, first, traffic, u64::from(depth), by, out))
         }
         Job::Linearize { configurations, .. } => {
             let judged = judged_order_text(alloc, first, u64::from(configurations), out);

@@ -19,6 +19,7 @@ use command_jobs::{
 use command_line::{Job, Request, asks_version, name_of, request_told, words_told};
 use judging::Judging;
 use model_answer::MemoryModel;
+use network_rounds::Arbiter;
 use program_fault::{ProgramFault, Texts};
 use report_lines::Piped;
 use std::io::{Input, IsTerminal};
@@ -50,7 +51,7 @@ fn run<R: Env + Files + Input + Print + Eprint + Clock + AllocGlobal + Threads +
     let Some(request) = request_told(rt, words.as_slice()) else {
         return 2;
     };
-    if is_other_model(rt, &request.job) {
+    if is_other_model(rt, &request.job) || is_other_arbiter(rt, &request.job) {
         return 2;
     }
     match done(rt, &request, is_seen) {
@@ -70,6 +71,25 @@ fn is_other_model<R: Eprint>(rt: &R, job: &Job) -> bool {
     if is_other {
         let _ = eprintln!(rt;
             "there is no model {model}: the models are coherent, fenced, pso, tso and sc"
+        );
+    }
+    is_other
+}
+
+/// Whether the job names an arbiter that written networks don't have, which standard error says then.
+fn is_other_arbiter<R: Eprint>(rt: &R, job: &Job) -> bool {
+    let Job::Simulate { arbiter, .. } = *job else {
+        return false;
+    };
+    let is_other = Arbiter::named(arbiter).is_none();
+    if is_other {
+        let why = if arbiter == "oldest" {
+            "oldest is an arbiter of machines"
+        } else {
+            "there is no such arbiter"
+        };
+        let _ = eprintln!(rt;
+            "simulate --arbiter {arbiter}: {why}; a written network has rotating and turn"
         );
     }
     is_other

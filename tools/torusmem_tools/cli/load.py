@@ -16,12 +16,17 @@ stood before it and its sender held no credit (waited); and the greatest number 
 The sums are by kind, dimension, direction, class and bit. Of an operation: the rounds from its issue to its
 service, and from there to its answer, and the hops of its request. A percentile is the least value that so many
 of a hundred don't exceed. The numbers are those of the run that `torusmem steps` makes of the schedule; where the
-text has no lines `# round N`, each move counts as a round.
+text has no lines `# round N`, each move counts as a round. Of the processors that come off worst and best stand how many of
+their operations are answered, their share of all that are, and their longest wait.
 
 With --network the counts are those of a report on packets through a written network (docs/FORMATS.md, Traffic text). Of a
 channel: the flits that leave it, and the rounds for which one waited behind it. Of a packet that is delivered: the rounds for
-which it waited at its sender, those from its beginning to its delivery, and both together, its latency. --svg draws the
-network twice, in the colours of the flits and of the waits, with their numbers where it has at most 100 channels.
+which it waited at its sender, those from its beginning to its delivery, and both together, its latency; of the senders what
+is told of processors. --svg draws the network twice, in the colours of the flits and of the waits, with their numbers where it
+has at most 100 channels.
+
+A flit passes a channel in two rounds, a take and a put. With --cycle 2 times are in cycles of two rounds, as they are in
+simulators in which a flit passes a channel in one cycle.
 """
 from __future__ import annotations
 
@@ -33,7 +38,7 @@ from torusmem_tools import command
 from torusmem_tools.draw import channel_load, network_load, paper, svg_text, torus_layout
 from torusmem_tools.draw.histogram import drawn_bars, spread
 from torusmem_tools.draw.paper import Paper
-from torusmem_tools.model import replay, schedule_runs
+from torusmem_tools.model import cycles, replay, schedule_runs
 from torusmem_tools.model.network import parsed
 from torusmem_tools.model.network_words import text_of
 from torusmem_tools.texts import traffic_report
@@ -69,14 +74,26 @@ def hottest(rows: list[dict[str, Any]], most: int) -> list[dict[str, Any]]:
     return sorted(used, key=lambda it: (-it["flits"], -it["waited"], it["tile"], it["place"]))[:most]
 
 
-def operations_of(machine: replay.Machine) -> list[dict[str, Any]]:
-    """A row for each operation that is issued."""
+def operations_of(machine: replay.Machine, cycle: int) -> list[dict[str, Any]]:
+    """A row for each operation that is issued, with its times in cycles of so many rounds."""
     rows = []
     for it in machine.operations():
         row: dict[str, Any] = {"processor": it.processor, "index": it.index, "kind": it.kind, "address": it.address, "bank": it.bank}
-        row.update(hops=machine.shape.hops(it.processor, it.bank), issued=it.issued)
-        rows.append({**row, "served": it.served, "answered": it.answered})
+        row.update(hops=machine.shape.hops(it.processor, it.bank), issued=cycles.cycle_of(it.issued, cycle))
+        rows.append({**row, "served": cycles.cycle_if(it.served, cycle), "answered": cycles.cycle_if(it.answered, cycle)})
     return rows
+
+
+def by_processor(rows: list[dict[str, Any]], last: int) -> list[dict[str, Any]]:
+    """What becomes of the operations of each processor that issues some: how many are answered, their share of all that are, and
+    the longest wait of one, which ends with the last round where it isn't answered."""
+    whole, found = sum(it["answered"] is not None for it in rows), []
+    for processor in sorted({it["processor"] for it in rows}):
+        of = [it for it in rows if it["processor"] == processor]
+        here = sum(it["answered"] is not None for it in of)
+        longest = max((last if it["answered"] is None else it["answered"]) - it["issued"] for it in of)
+        found.append({"processor": processor, "operations": len(of), "answered": here, "share": round(here / max(whole, 1), 5), "longest_wait": longest})
+    return found
 
 
 def times_of(rows: list[dict[str, Any]]) -> dict[str, Any]:
@@ -89,17 +106,20 @@ def times_of(rows: list[dict[str, Any]]) -> dict[str, Any]:
     return {it: spread(made[it]) for it in (*TIMES, "hops")}
 
 
-def figures(texts: replay.Texts, top: int) -> dict[str, Any]:
-    """All that is counted."""
+def figures(texts: replay.Texts, top: int, cycle: int) -> dict[str, Any]:
+    """All that is counted; times are cycles of so many rounds."""
     machine = replay.last(texts)
-    rows, operations = rows_of(machine), operations_of(machine)
+    if cycle != 1 and texts.schedule.unit() != "round":
+        raise command.WrongWords("--cycle is of no use where the schedule has no rounds (--help says more)")
+    rows, operations = rows_of(machine), operations_of(machine, cycle)
     made: dict[str, Any] = {"radices": machine.shape.radices, "depth": machine.depth, "unit": texts.schedule.unit()}
+    made["time"] = made["unit"] if cycle == 1 else cycles.unit(cycle)
     made.update(rounds=machine.rounds, moves=machine.moves, finished=machine.is_finished())
     made.update(operations=len(operations), times=times_of(operations), hottest=hottest(rows, top))
     for name, key in (("kinds", "kind"), ("dimensions", "dimension"), ("directions", "direction")):
         made[name] = summed(rows, key)
     made.update(classes=summed(rows, "class"), bits=summed(rows, "bit"), channels=rows, runs=operations)
-    return made
+    return {**made, "processors": by_processor(operations, cycles.cycle_of(machine.rounds, cycle))}
 
 
 def time_rows(made: dict[str, Any], names: Sequence[str]) -> list[list[str]]:
@@ -115,10 +135,11 @@ def table(made: dict[str, Any]) -> str:
     shape, how = " x ".join(map(str, made["radices"])), "finished" if made["finished"] else "not finished"
     span = f"{made['rounds']} rounds" if made["unit"] == "round" else "no rounds"
     lines = [f"{shape} tiles, depth {made['depth']}: {made['moves']} moves in {span}, {how}"]
-    heads = [f"{made['unit']}s", "count", "least", "mean", "median", "p95", "p99", "greatest"]
+    heads = [f"{made['time']}s", "count", "least", "mean", "median", "p95", "p99", "greatest"]
     for head, names in ((heads[0], TIMES), ("hops", ("hops",))):
         rows = time_rows(made, names)
         lines += ["", *aligned([[head, *heads[1:]], *rows])] if rows else []
+    lines += ["", *aligned(network_load.shares(made["processors"], "processor", "answered"))] if made["processors"] else []
     for name in ("kinds", "dimensions", "directions", "classes", "bits"):
         if made[name]:
             columns = list(made[name][0])
@@ -139,14 +160,14 @@ def histograms(made: dict[str, Any], given: Paper | None) -> str:
     ways = (("issue", "issued", "service", "served"), ("service", "served", "answer", "answered"), ("issue", "issued", "answer", "answered"))
     for at, (begin, first, end, last) in enumerate(ways):
         heading = f"from {begin} to {end}"
-        parts += drawn_bars([it[last] - it[first] for it in of], heading, made["unit"], 36 + 220 * at, on.room() - 30, 11 if given else 13)
+        parts += drawn_bars([it[last] - it[first] for it in of], heading, made["time"], 36 + 220 * at, on.room() - 30, 11 if given else 13)
     return on.svg(TOOL, on.room(), 36 + 220 * len(ways), parts)
 
 
 def of_network(given: argparse.Namespace, top: int) -> str:
     """What the tool prints of a report on packets through a written network."""
     net = parsed(text_of(given.network), given.network)
-    made = network_load.figures(net, traffic_report.report_of(net, given.machine), top)
+    made = network_load.figures(net, traffic_report.report_of(net, given.machine), top, given.cycle)
     if given.json:
         return json.dumps(made, indent=2) + "\n"
     if given.histogram:
@@ -164,6 +185,7 @@ def words() -> command.Parser:
     shown.add_argument("--histogram", action="store_true", help="draw how many operations took how long")
     most = command.whole(0, 65536)
     paper.add_word(parser, "with --svg or --histogram: ")
+    cycles.add_word(parser)
     parser.add_argument("--top", metavar="N", type=most, help="how many channels to name; 10 if not given")
     return parser
 
@@ -180,7 +202,7 @@ def work() -> str:
     if given.network is not None:
         return of_network(given, top)
     texts = schedule_runs.read(given)
-    made = figures(texts, top)
+    made = figures(texts, top, given.cycle)
     if given.json:
         return json.dumps(made, indent=2) + "\n"
     if given.histogram:

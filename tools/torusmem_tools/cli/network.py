@@ -98,7 +98,7 @@ from torusmem_tools.model.deadlock import run_of
 from torusmem_tools.model.network import Network, channel_dependencies, parsed
 from torusmem_tools.model.network_verdict import Verdict, explained, verdict_of, verdict_read
 from torusmem_tools.model.network_words import generated, text_of
-from torusmem_tools.model.packet_rounds import simulated
+from torusmem_tools.model.packet_rounds import ARBITERS, simulated
 from torusmem_tools.model.wormhole import replayed
 from torusmem_tools.texts.network_rows import table
 
@@ -169,7 +169,7 @@ DRAWN = ("packets", "rate", "length", "pattern", "digits", "seed")
 USES = {**{it: ("traffic",) for it in DRAWN}, "mixed": ("mesh",), "adaptive": ("mesh", "torus"), "west_first": ("mesh",), "odd_even": ("mesh",), "dateline": ("ring",),
         "ordered": ("from-garnet",), "set": ("from-garnet",), "classes": GENERATORS, "shared": GENERATORS,
         "svg": (*GENERATORS, "walk"), "names": GENERATORS, "explain": ("walk",),
-        "verdict": (*GENERATORS, "walk", "run"), "depth": ("run", "replay", "simulate"), "moves": ("replay", "simulate")}
+        "verdict": (*GENERATORS, "walk", "run"), "depth": ("run", "replay", "simulate"), "arbiter": ("simulate",), "moves": ("replay", "simulate")}
 
 
 def asked() -> Namespace:
@@ -193,6 +193,7 @@ def asked() -> Namespace:
     words.add_argument("--explain", action="store_true", help="of walk: who holds what, and waits for what")
     words.add_argument("--verdict", metavar="FILE", help="what `torusmem network` printed of it")
     words.add_argument("--depth", type=command.whole(1, 8), help="how many flits a channel holds: 1, or up to 8")
+    words.add_argument("--arbiter", choices=ARBITERS, help="of simulate: which head an output takes, rotating by default")
     traffic_draw.add_words(words)
     given = words.parse_args()
     for option, of in USES.items():
@@ -236,8 +237,9 @@ def work() -> str:
         return traffic_draw.written(net, given)
     if given.what in ("replay", "simulate"):
         alone(net)
-        shown = replayed if given.what == "replay" else simulated
-        return "\n".join(shown(net, given.depth or 1, text_of(given.moves), given.moves)) + "\n"
+        words = net, given.depth or 1, text_of(given.moves), given.moves
+        shown = replayed(*words) if given.what == "replay" else simulated(*words, given.arbiter or ARBITERS[0])
+        return "\n".join(shown) + "\n"
     if given.what == "run":
         return locked(net, given.verdict, given.depth or 1)
     return drawn(net, given.verdict, given.width) if given.svg else walk(net, given.verdict, given.explain)

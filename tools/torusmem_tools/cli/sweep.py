@@ -14,7 +14,8 @@ moves, and its report has the same events.
 
 Accepted are the operations that are answered in the window, for each round and tile. The latency is that of the
 operations that are asked for in it: the rounds from the one in which it is asked for to that of its answer, both
-counted. Both stand as a mean over the seeds with the half width of its 95 % interval by Student's t. The latency without
+counted. Both stand as a mean over the seeds with the half width of its 95 % interval by Student's t. Behind the greatest 95th
+percentile stand the longest latency, and the least and the most that is accepted of one tile or sender. The latency without
 load is that of the formula of docs/FORMATS.md. A load is saturated where the latency is over three times that, or where
 in some run not all that is measured is answered.
 
@@ -26,6 +27,9 @@ With --network each sender of the network asks for a packet of --length flits wi
 `tools/network traffic` draws them, by its patterns. Accepted are the packets that are delivered in the window, for each round
 and sender; the latency is that of docs/FORMATS.md ("Traffic text"). The rounds are those of `torusmem simulate`, or where the
 program has no such command of the plain model. All else is as of machines.
+
+A flit passes a channel in two rounds, a take and a put. With --cycle 2 all that is said of rounds is said of cycles of two, as
+they are in simulators in which a flit passes a channel in one cycle.
 """
 from __future__ import annotations
 
@@ -40,8 +44,9 @@ from typing import Any, Callable, Iterator, Union
 
 from torusmem_tools import command
 from torusmem_tools.draw import curves, paper
-from torusmem_tools.model import offered_load, offered_packets, traffic_draw, trial
+from torusmem_tools.model import cycles, offered_load, offered_packets, traffic_draw, trial
 from torusmem_tools.model.network_words import sizes
+from torusmem_tools.model.packet_rounds import ARBITERS
 from torusmem_tools.model.torus import radices_of
 from torusmem_tools.progress import rewrite
 from torusmem_tools.texts.columns import aligned
@@ -103,19 +108,22 @@ def row_of(point: Point, found: list[offered_load.Found]) -> dict[str, Any]:
     row.update(latency=round(latency[0], 2), latency_within=round(latency[1], 2))
     row.update(p95=max(it.p95 for it in found), measured=sum(it.measured for it in found), drained=drained)
     is_high = zero is not None and latency[0] > SATURATION * zero
-    return {**row, "seeds": len(found), "zero_load": zero and round(zero, 2), "saturated": is_high or drained < len(found)}
+    row.update(seeds=len(found), zero_load=zero and round(zero, 2), saturated=is_high or drained < len(found))
+    shares = min(it.least for it in found), max(it.most for it in found)
+    return {**row, "least": round(shares[0], 5), "most": round(shares[1], 5), "longest": max(it.longest for it in found)}
 
 
 def table(rows: list[dict[str, Any]]) -> str:
     """What the loads came to, as text."""
-    heads = [next(iter(rows[0])), "traffic", "offered", "accepted", "latency", "p95", "without load", ""]
+    heads = [next(iter(rows[0])), "traffic", "offered", "accepted", "latency", "p95", "longest", "of one sender", "without load", ""]
     cells = [heads]
     for it in rows:
         zero = "-" if it["zero_load"] is None else f"{it['zero_load']:.2f}"
         both = f"{it['accepted']:.4f} +- {it['accepted_within']:.4f}", f"{it['latency']:.2f} +- {it['latency_within']:.2f}"
         mark = "saturated" if it["saturated"] else ""
-        cells.append([it[heads[0]], it["traffic"], f"{it['offered']:g}", *both, str(it["p95"]), zero, mark])
-    return "".join(f"{it}\n" for it in aligned(cells, (0, 1, 7)))
+        share = f"{it['least']:.4f} to {it['most']:.4f}"
+        cells.append([it[heads[0]], it["traffic"], f"{it['offered']:g}", *both, str(it["p95"]), str(it["longest"]), share, zero, mark])
+    return "".join(f"{it}\n" for it in aligned(cells, (0, 1, 9)))
 
 
 def csv(rows: list[dict[str, Any]]) -> str:
@@ -158,6 +166,9 @@ def words() -> command.Parser:
     number("warm-up", "R", 0, 100000, 200, "rounds before the measured ones")
     number("window", "R", 1, 100000, 500, "rounds that are measured")
     number("drain", "R", 0, 100000, 500, "the most rounds behind these")
+    arbiter = f"of a network: which head an output takes, of {' and '.join(ARBITERS)}; {ARBITERS[0]} if not given"
+    add("arbiter", "NAME", choices=ARBITERS, help=arbiter)
+    cycles.add_word(parser)
     number("seeds", "N", 2, 30, 5, "runs of each load, each by a seed of its own")
     number("seed", "S", 0, 2**64 - 1, 1, "the first seed")
     jobs = "runs at once; as many as cores if not given"
@@ -175,16 +186,17 @@ def points_of(given: Any) -> Iterator[Point]:
     """The loads that are asked for, each with the first seed."""
     rounds = given.warm_up, given.window, given.drain
     for network, traffic, load in itertools.product(given.network or [], given.traffic or ["uniform"], given.loads):
-        yield offered_packets.Point(network, traffic, load, tuple(given.digits or []), given.depth, given.length or LENGTH, *rounds, given.seed)
+        of_packets = given.depth, given.length or LENGTH, *rounds, given.cycle, given.arbiter or ARBITERS[0]
+        yield offered_packets.Point(network, traffic, load, tuple(given.digits or []), *of_packets, given.seed)
     tags, stores = given.tags or TAGS, STORES if given.stores is None else given.stores
     for radices, traffic, load in itertools.product(given.shape or [], given.traffic or offered_load.TRAFFIC, given.loads):
-        yield offered_load.Point(tuple(radices), traffic, load, tags, given.depth, stores, *rounds, not given.rounds_in_order, given.seed)
+        yield offered_load.Point(tuple(radices), traffic, load, tags, given.depth, stores, *rounds, not given.rounds_in_order, given.cycle, given.seed)
 
 
 def asked() -> Any:
     """What the command line asks for; refuses words that are of no use together."""
     given = words().parse_args()
-    idle = ("length", "digits") if given.shape else ("tags", "stores", "rounds_in_order")
+    idle = ("length", "digits", "arbiter") if given.shape else ("tags", "stores", "rounds_in_order")
     for name in idle:
         if getattr(given, name) is not None and getattr(given, name) is not False:
             raise command.WrongWords(f"--{name.replace('_', '-')} is of no use with --{'shape' if given.shape else 'network'} (--help says more)")
@@ -210,12 +222,13 @@ def work() -> str:
         return csv(named(rows, given))
     if not given.svg:
         return table(named(rows, given))
+    unit = cycles.unit(given.cycle)
     if given.network:
         said = f"packets of {given.length or LENGTH} flits, depth {given.depth}"
-        return curves.plot(rows, given.width, said, "offered, packets per sender and round")
+        return curves.plot(rows, given.width, said, f"offered, packets per sender and {unit}", unit)
     rounds, stores = "rounds in order" if given.rounds_in_order else "clocked rounds", STORES if given.stores is None else given.stores
     said = f"{rounds}, {stores} % stores, depth {given.depth}, {given.tags or TAGS} tags"
-    return curves.plot(rows, given.width, said, "offered, operations per tile and round")
+    return curves.plot(rows, given.width, said, f"offered, operations per tile and {unit}", unit)
 
 
 def main() -> None:

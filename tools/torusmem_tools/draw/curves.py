@@ -97,7 +97,7 @@ def legend(curves: list[list[Row]], dashes: dict[str, str | None], place: Point,
     return parts, low
 
 
-def plot(rows: list[Row], paper: Paper, words: str, axis: str) -> str:
+def plot(rows: list[Row], paper: Paper, words: str, axis: str, unit: str) -> str:
     """Both panels with all curves, and the legend."""
     wide, letters = paper.wide, paper.letters()
     shapes = list(dict.fromkeys(it["shape"] for it in rows))
@@ -109,7 +109,7 @@ def plot(rows: list[Row], paper: Paper, words: str, axis: str) -> str:
     room = wide - left - right
     upper = Panel((left, 3.4 * letters, room, 0.5 * room), (most, high), letters)
     lower = Panel((left, upper.top + upper.high + 1.8 * letters, room, 0.32 * room), (most, max(it["accepted"] for it in rows) * 1.05), letters)
-    parts = [svg_text.text(left, 1.5 * letters, words, letters), *upper.axes("latency, rounds", False), *lower.axes("accepted", True)]
+    parts = [svg_text.text(left, 1.5 * letters, words, letters), *upper.axes(f"latency, {unit}s", False), *lower.axes("accepted", True)]
     for panel, key in ((upper, "latency"), (lower, "accepted")):
         parts += [curve(panel, of, key, dashes[of[0]["shape"]]) for of in curves]
     low = lower.top + lower.high + 3.2 * letters

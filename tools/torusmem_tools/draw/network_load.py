@@ -15,7 +15,9 @@ from torusmem_tools.draw.network_picture import COLUMN, MARGIN
 from torusmem_tools.draw.paper import Paper
 from torusmem_tools.draw.router_ends import Plan, plan_of
 from torusmem_tools.draw.strokes import LETTERS
+from torusmem_tools.model.cycles import cycle_if, cycle_of, unit
 from torusmem_tools.model.network import Network
+from torusmem_tools.model.packet_rounds import Packet
 from torusmem_tools.texts.columns import aligned
 from torusmem_tools.texts.traffic_report import Delivered, Sent
 
@@ -27,12 +29,33 @@ COUNTS = {"flits": "flits that leave a channel", "waited": "rounds for which one
 MOST_NUMBERED, MOST_DRAWN = 100, 4096
 
 
+def in_cycles(sent: List[Sent], cycle: int) -> List[Sent]:
+    """Packets whose times are cycles of so many rounds."""
+    of: Callable[[Sent], Packet] = lambda it: it.packet._replace(round=cycle_of(it.packet.round, cycle))
+    return [Sent(of(it), cycle_if(it.begun, cycle), cycle_if(it.delivered, cycle)) for it in sent]
+
+
 def times_of(it: Sent) -> Optional[Dict[str, int]]:
     """The times of a packet that is delivered; the first and the last round are counted, but of the wait."""
     if it.begun is None or it.delivered is None:
         return None
     wait = it.begun - it.packet.round
     return {"asked_to_begun": wait, "begun_to_delivered": it.delivered - it.begun + 1, "latency": it.delivered - it.packet.round + 1}
+
+
+def by_sender(sent: List[Sent], last: int) -> List[Row]:
+    """What becomes of the packets of each sender: how many are delivered, their share of all that are, and the longest wait of
+    one, which ends with the last round where it isn't delivered."""
+    found: Dict[int, List[Sent]] = {}
+    for it in sent:
+        found.setdefault(it.packet.start, []).append(it)
+    whole = sum(it.delivered is not None for it in sent)
+    rows = []
+    for x, of in sorted(found.items()):
+        here = sum(it.delivered is not None for it in of)
+        longest = max((last if it.delivered is None else it.delivered) - it.packet.round + 1 for it in of)
+        rows.append({"sender": x, "packets": len(of), "delivered": here, "share": round(here / max(whole, 1), 5), "longest_wait": max(longest, 0)})
+    return rows
 
 
 def summed(rows: List[Row]) -> List[Row]:
@@ -42,16 +65,25 @@ def summed(rows: List[Row]) -> List[Row]:
     return [{"kind": kind, "channels": len(of[kind]), **{what: sum(it[what] for it in of[kind]) for what in COUNTS}} for kind in kinds]
 
 
-def figures(net: Network, found: Delivered, top: int) -> Row:
-    """All that is counted."""
-    plan = plan_of(net)
+def figures(net: Network, found: Delivered, top: int, cycle: int = 1) -> Row:
+    """All that is counted; times are cycles of so many rounds."""
+    plan, sent = plan_of(net), in_cycles(found.sent, cycle)
     rows: List[Row] = [{"channel": x, "kind": KINDS[net.kinds[x]], "name": name_of(net, plan, x), "flits": flits, "waited": waited}
             for x, (flits, waited) in enumerate(found.channels)]
-    times = [it for it in map(times_of, found.sent) if it]
+    times = [it for it in map(times_of, sent) if it]
     hottest = sorted((it for it in rows if it["flits"]), key=lambda it: (-it["flits"], -it["waited"], it["channel"]))
-    runs = [{**it.packet._asdict(), "begun": it.begun, "delivered": it.delivered} for it in found.sent]
-    return {"end": found.end, "packets": len(found.sent), "delivered": len(times), "times": {it: spread([row[it] for row in times]) for it in TIMES},
+    runs = [{**it.packet._asdict(), "begun": it.begun, "delivered": it.delivered} for it in sent]
+    return {"unit": unit(cycle), "end": found.end, "senders": by_sender(sent, cycle_of(found.rounds(), cycle)), "packets": len(found.sent), "delivered": len(times), "times": {it: spread([row[it] for row in times]) for it in TIMES},
             "kinds": summed(rows), "hottest": hottest[:top], "channels": rows, "runs": runs}
+
+
+def shares(rows: List[Row], name: str, count: str) -> List[List[str]]:
+    """What becomes of what those ask that come off worst and best, by one of their counts; the first of several."""
+    number: Callable[[Row, str], float] = lambda it, key: float(it[key])
+    ends: Callable[[str], List[Row]] = lambda key: [of(rows, key=lambda it: number(it, key)) for of in (min, max)]
+    cells: Callable[[str, str], List[str]] = lambda key, form: [f"{it[key]:{form}} ({it[name]})" for it in ends(key)]
+    heads = [f"of one {name} of {len(rows)}", "least", "greatest"]
+    return [heads, [count, *cells(count, "d")], ["share of all", *cells("share", ".4f")], ["longest wait", *cells("longest_wait", "d")]]
 
 
 def table(made: Row) -> str:
@@ -59,8 +91,9 @@ def table(made: Row) -> str:
     lines = [f"{len(made['channels'])} channels: {made['delivered']} of {made['packets']} packets delivered, {made['end']}"]
     shown: Callable[[str, Row], str] = lambda key, it: f"{it[key]:.2f}" if key == "mean" else str(it[key])
     cells = [[TIMES[it], *(shown(key, of) for key in of)] for it, of in made["times"].items() if of]
-    heads = ["rounds", "count", "least", "mean", "median", "p95", "p99", "greatest"]
+    heads = [f"{made['unit']}s", "count", "least", "mean", "median", "p95", "p99", "greatest"]
     lines += ["", *aligned([heads, *cells])] if cells else []
+    lines += ["", *aligned(shares(made["senders"], "sender", "delivered"))] if made["senders"] else []
     lines += ["", *aligned([list(made["kinds"][0]), *([str(it) for it in row.values()] for row in made["kinds"])])]
     hottest = [[f"{it['channel']} {it['name']}", str(it["flits"]), str(it["waited"])] for it in made["hottest"]]
     return "\n".join([*lines, "", *aligned([["hottest channels", *COUNTS], *hottest])]) + "\n"
@@ -78,7 +111,7 @@ def histograms(made: Row, given: Optional[Paper]) -> str:
     ways = (("wait at the sender", lambda it: it["begun"] - it["round"]), ("from begun to delivered", lambda it: it["delivered"] - it["begun"] + 1),
             ("latency", lambda it: it["delivered"] - it["round"] + 1))
     for at, (heading, time) in enumerate(ways):
-        parts += drawn_bars([time(it) for it in of], heading, "round", 36 + 220 * at, on.room() - 30, 11 if given else 13, "packets")
+        parts += drawn_bars([time(it) for it in of], heading, made["unit"], 36 + 220 * at, on.room() - 30, 11 if given else 13, "packets")
     return on.svg("load", on.room(), 36 + 220 * len(ways), parts)
 
 

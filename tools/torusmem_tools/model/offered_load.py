@@ -12,7 +12,7 @@ from dataclasses import dataclass
 from typing import Any, Callable
 
 from torusmem_tools import command
-from torusmem_tools.model import campaign_cases, clocked_rounds, replay, schedule_runs
+from torusmem_tools.model import campaign_cases, clocked_rounds, cycles, replay, schedule_runs
 from torusmem_tools.model.percentiles import percentile
 from torusmem_tools.texts import report
 
@@ -29,7 +29,7 @@ BETWEEN_LOOKS = 8
 
 @dataclass(frozen=True)
 class Point:
-    """What is asked of one run."""
+    """What is asked of one run. Its times are cycles of so many rounds."""
 
     radices: tuple[int, ...]
     traffic: str
@@ -41,6 +41,7 @@ class Point:
     window: int
     drain: int
     is_clocked: bool
+    cycle: int
     seed: int
 
     def shape(self) -> str:
@@ -51,20 +52,24 @@ class Point:
         """How many tiles there are."""
         return report.product(list(self.radices))
 
-    def rounds(self) -> int:
-        """How many rounds are made at most."""
+    def cycles(self) -> int:
+        """How many cycles are made at most."""
         return self.warm_up + self.window + self.drain
 
 
 @dataclass(frozen=True)
 class Found:
-    """What a run came to: operations answered for each round and tile, and the times of those asked for in the window."""
+    """What a run came to: operations answered for each cycle and tile, and the times of those asked for in the window; the
+    least and the most that are answered of a tile, and the longest of the times."""
 
     accepted: float
     latency: float
     p95: int
     measured: int
     is_drained: bool
+    least: float
+    most: float
+    longest: int
 
 
 def bank_of(numbers: campaign_cases.Numbers, point: Point, source: int) -> int:
@@ -76,11 +81,11 @@ def bank_of(numbers: campaign_cases.Numbers, point: Point, source: int) -> int:
 
 
 def asked(point: Point) -> tuple[campaign_cases.Case, list[list[int]]]:
-    """The machine and the scripts of a run, and for each processor the rounds in which its operations are asked for."""
+    """The machine and the scripts of a run, and for each processor the cycles in which its operations are asked for."""
     numbers, tiles = campaign_cases.Numbers(point.seed), point.tiles()
     case = campaign_cases.Case("rounds", list(point.radices), None, point.depth, point.tags, tiles * WORDS, [], [])
     asks: list[list[int]] = [[] for _ in range(tiles)]
-    for now, processor in itertools.product(range(1, point.rounds() + 1), range(tiles)):
+    for now, processor in itertools.product(range(1, point.cycles() + 1), range(tiles)):
         if numbers.below(MILLION) >= round(point.load * MILLION):
             continue
         address = bank_of(numbers, point, processor) + tiles * numbers.below(WORDS)
@@ -89,20 +94,22 @@ def asked(point: Point) -> tuple[campaign_cases.Case, list[list[int]]]:
         asks[processor].append(now)
     if max(map(len, asks)) > MOST_OF_ONE or len(case.lines) > MOST_OF_ALL:
         raise command.Refusal(
-            f"{len(case.lines)} operations are asked for in {point.rounds()} rounds, and a machine makes at most "
-            f"{MOST_OF_ALL}, of one processor {MOST_OF_ONE}: take a lower load, or fewer rounds"
+            f"{len(case.lines)} operations are asked for in {point.cycles()} {cycles.unit(point.cycle)}s, and a machine makes at most "
+            f"{MOST_OF_ALL}, of one processor {MOST_OF_ONE}: take a lower load, or fewer {cycles.unit(point.cycle)}s"
         )
     return case, asks
 
 
 def made(point: Point, case: campaign_cases.Case, asks: list[list[int]]) -> tuple[replay.Machine, list[str]]:
-    """The machine after the run, and its moves: until all that is measured is answered, at most all rounds."""
+    """The machine after the run, and its moves: until all that is measured is answered, at most all cycles. What is asked for
+    in a cycle is ready in its first round."""
     machine, lines = replay.Machine(case), []
     rounds = clocked_rounds.moves if point.is_clocked else replay.in_order(machine.shape)
-    due = [sum(it <= point.warm_up + point.window for it in rounds_) for rounds_ in asks]
-    for number in range(1, point.rounds() + 1):
-        lines += rounds(machine, number, lambda at: asks[at.tile][len(at.operations)] <= number)
-        if number > point.warm_up + point.window and number % BETWEEN_LOOKS == 0 and is_answered(machine, due):
+    due = [sum(it <= point.warm_up + point.window for it in of_one) for of_one in asks]
+    for number in range(1, point.cycles() * point.cycle + 1):
+        now = cycles.cycle_of(number, point.cycle)
+        lines += rounds(machine, number, lambda at: asks[at.tile][len(at.operations)] <= now)
+        if now > point.warm_up + point.window and number % BETWEEN_LOOKS == 0 and is_answered(machine, due):
             break
     return machine, lines
 
@@ -124,38 +131,39 @@ def measured(point: Point) -> Found:
 
 
 def found_of(point: Point, machine: replay.Machine, asks: list[list[int]]) -> Found:
-    """What a run came to. A time counts the round in which an operation is asked for and that in which it is answered."""
+    """What a run came to. A time counts the cycle in which an operation is asked for and that in which it is answered."""
     within: Callable[[int], bool] = lambda now: point.warm_up < now <= point.warm_up + point.window
-    answered = sum(it.answered is not None and within(it.answered) for it in machine.operations())
+    ends = [[cycles.cycle_if(it.answered, point.cycle) for it in processor.operations] for processor in machine.processors]
+    of_one = [sum(it is not None and within(it) for it in row) / point.window for row in ends]
     times, is_drained = [], True
-    for processor, rounds in zip(machine.processors, asks):
-        for at, now in enumerate(rounds):
+    for row, asked_in in zip(ends, asks):
+        for at, now in enumerate(asked_in):
             if not within(now):
                 continue
-            last = processor.operations[at].answered if at < len(processor.operations) else None
+            last = row[at] if at < len(row) else None
             is_drained &= last is not None
             times += [last - now + 1] if last is not None else []
     if not times:
         raise command.Refusal("no operation is measured: --window is too short for this load")
     rising = sorted(times)
-    accepted = answered / (point.window * point.tiles())
-    return Found(accepted, sum(rising) / len(rising), percentile(rising, 95), len(rising), is_drained)
+    accepted = sum(of_one) / len(of_one)
+    return Found(accepted, sum(rising) / len(rising), percentile(rising, 95), len(rising), is_drained, min(of_one), max(of_one), rising[-1])
 
 
 def zero_load(point: Point) -> float | None:
-    """The mean time of an operation with nothing else under way, by its formula; of rounds in order there is none."""
+    """The mean time of an operation with nothing else under way, by its formula, in cycles; of rounds in order there is
+    none."""
     if not point.is_clocked:
         return None
     shape, tiles = replay.Shape(list(point.radices), [it - 1 for it in point.radices]), range(point.tiles())
-    uniform = sum(shape.hops(a, b) for a in tiles for b in tiles) / len(tiles) ** 2
-    if point.traffic == "uniform":
-        hops = uniform
-    elif point.traffic == "hot-spot":
-        hops = uniform * 3 / 4 + sum(shape.hops(a, 0) for a in tiles) / len(tiles) / 4
-    else:
-        hops = sum(shape.hops(a, bank_of(campaign_cases.Numbers(0), point, a)) for a in tiles) / len(tiles)
     # a load and a store have four flits, request and reply together
-    return 4 * hops + (13 if point.depth > 1 else 15)
+    time: Callable[[int, int], int] = lambda a, b: cycles.cycle_of(4 * shape.hops(a, b) + (13 if point.depth > 1 else 15), point.cycle)
+    uniform = sum(time(a, b) for a in tiles for b in tiles) / len(tiles) ** 2
+    if point.traffic == "uniform":
+        return uniform
+    if point.traffic == "hot-spot":
+        return uniform * 3 / 4 + sum(time(a, 0) for a in tiles) / len(tiles) / 4
+    return sum(time(a, bank_of(campaign_cases.Numbers(0), point, a)) for a in tiles) / len(tiles)
 
 
 def result(point: Point) -> Any:

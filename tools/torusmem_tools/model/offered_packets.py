@@ -7,11 +7,12 @@ from __future__ import annotations
 
 import functools
 import os
+from collections import Counter
 from dataclasses import dataclass
 from typing import Any, List, Optional
 
 from torusmem_tools import command
-from torusmem_tools.model import campaign_cases, traffic_draw, trial
+from torusmem_tools.model import campaign_cases, cycles, traffic_draw, trial
 from torusmem_tools.model.deadlock import route
 from torusmem_tools.model.network import Network, channel_dependencies, parsed
 from torusmem_tools.model.network_words import text_of
@@ -23,7 +24,7 @@ from torusmem_tools.texts import traffic_report
 
 @dataclass(frozen=True)
 class Point:
-    """What is asked of one run."""
+    """What is asked of one run. Its times are cycles of so many rounds."""
 
     network: str
     traffic: str
@@ -34,18 +35,20 @@ class Point:
     warm_up: int
     window: int
     drain: int
+    cycle: int
+    arbiter: str
     seed: int
 
     def shape(self) -> str:
         """What the network is called: its file, without folder and suffix."""
         return os.path.splitext(os.path.basename(self.network))[0]
 
-    def rounds(self) -> int:
-        """How many rounds count at most."""
+    def cycles(self) -> int:
+        """How many cycles count at most."""
         return self.warm_up + self.window + self.drain
 
     def is_measured(self, number: int) -> bool:
-        """Whether a round is one of the window."""
+        """Whether a cycle is one of the window."""
         return self.warm_up < number <= self.warm_up + self.window
 
 
@@ -77,17 +80,17 @@ def report_lines(point: Point, asked: List[Packet]) -> List[str]:
     if not can_simulate(command.program_path()):
         return stopped(point, asked)
     with command.kept("".join(f"{traffic_draw.line(it)}\n" for it in asked).encode("ascii")) as traffic:
-        words = ["simulate", point.network, traffic, "--depth", str(point.depth)]
+        words = ["simulate", point.network, traffic, "--depth", str(point.depth), "--arbiter", point.arbiter]
         return command.torusmem(*words, fine=(0, 1, 3)).splitlines()
 
 
 def stopped(point: Point, asked: List[Packet]) -> List[str]:
     """The report by the model, which stops once all that is measured is delivered, or behind the last round that counts."""
-    run = Simulation(network_of(point.network), point.depth, asked)
-    due = [it for it in run.courses if point.is_measured(it.packet.round)]
-    for number in range(1, point.rounds() + 1):
+    run = Simulation(network_of(point.network), point.depth, asked, point.arbiter)
+    due = [it for it in run.courses if point.is_measured(cycles.cycle_of(it.packet.round, point.cycle))]
+    for number in range(1, point.cycles() * point.cycle + 1):
         run.round(number)
-        if number > point.warm_up + point.window and all(it.delivered is not None for it in due):
+        if number > (point.warm_up + point.window) * point.cycle and all(it.delivered is not None for it in due):
             break
     return run.lines(f"not over after round {number}")
 
@@ -95,29 +98,33 @@ def stopped(point: Point, asked: List[Packet]) -> List[str]:
 def measured(point: Point) -> Found:
     """Makes a run, and measures it."""
     traffic, numbers = traffic_of(point), campaign_cases.Numbers(point.seed)
-    rounds = range(1, point.rounds() + 1)
+    rounds = (cycles.first_round(it, point.cycle) for it in range(1, point.cycles() + 1))
     asked = [it for number in rounds for it in traffic_draw.asked(traffic, numbers, point.load, point.size, number)]
     found = traffic_report.read(network_of(point.network), report_lines(point, asked), "the report")
-    return found_of(point, found, len(traffic.ends))
+    return found_of(point, found, sorted(traffic.ends))
 
 
-def found_of(point: Point, report: traffic_report.Delivered, senders: int) -> Found:
-    """What the packets of the window come to; one that is delivered behind the last round that counts is not."""
-    last = [it.delivered if it.delivered is not None and it.delivered <= point.rounds() else None for it in report.sent]
-    due = [(it.packet, end) for it, end in zip(report.sent, last) if point.is_measured(it.packet.round)]
-    times = sorted(end - packet.round + 1 for packet, end in due if end is not None)
+def found_of(point: Point, report: traffic_report.Delivered, senders: List[int]) -> Found:
+    """What the packets of the window come to; one that is delivered behind the last cycle that counts is not."""
+    ends = [cycles.cycle_if(it.delivered, point.cycle) for it in report.sent]
+    last = [it if it is not None and it <= point.cycles() else None for it in ends]
+    begins = [cycles.cycle_of(it.packet.round, point.cycle) for it in report.sent]
+    due = [(begin, end) for begin, end in zip(begins, last) if point.is_measured(begin)]
+    times = sorted(end - begin + 1 for begin, end in due if end is not None)
     if not times:
         raise command.Refusal("no packet is measured: --window is too short for this load")
-    accepted = sum(end is not None and point.is_measured(end) for end in last) / (point.window * senders)
-    return Found(accepted, sum(times) / len(times), percentile(times, 95), len(times), len(times) == len(due))
+    accepted = Counter(it.packet.start for it, end in zip(report.sent, last) if end is not None and point.is_measured(end))
+    of_one = [accepted[it] / point.window for it in senders]
+    return Found(sum(of_one) / len(of_one), sum(times) / len(times), percentile(times, 95), len(times), len(times) == len(due),
+                 min(of_one), max(of_one), times[-1])
 
 
 def zero_load(point: Point) -> Optional[float]:
     """The mean latency of a packet with nothing else under way: two rounds for each channel of its route, and two more for
-    each further flit, or three where a channel holds one."""
+    each further flit, or three where a channel holds one; in cycles."""
     pairs, net = traffic_of(point).pairs(), network_of(point.network)
     more = (2 if point.depth > 1 else 3) * (point.size - 1)
-    times = sum(share * (2 * len(route(net, i, j)) + more) for share, i, j in pairs)
+    times = sum(share * cycles.cycle_of(2 * len(route(net, i, j)) + more, point.cycle) for share, i, j in pairs)
     return times / sum(share for share, _, _ in pairs)
 
 

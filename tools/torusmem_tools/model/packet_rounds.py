@@ -1,5 +1,5 @@
 """Packets through a network in clocked rounds, in plain Python: each choice that is enabled when a round begins is
-attempted once (crates/network_rounds). Nothing here is proved."""
+attempted once, but for heads that an arbiter passes over (crates/network_rounds). Nothing here is proved."""
 from __future__ import annotations
 
 from typing import Dict, Iterator, List, NamedTuple, Optional, Tuple
@@ -11,6 +11,10 @@ from torusmem_tools.model.wormhole import Wormhole
 # The most rounds of a simulation; the last round that a packet may name, and the most flits that it has.
 MOST_ROUNDS = 1000000
 MOST = 2147483647
+
+# Which head an output takes: `rotating`, that of the first input behind the one whose head it took last; or `turn`, any
+# that it has room for, in an order that begins with another input in each round.
+ARBITERS = ("rotating", "turn")
 
 Move = Tuple[str, int]
 
@@ -90,8 +94,10 @@ def turned(moves: List[Move], turn: int) -> List[Move]:
 class Simulation:
     """A network with packets on their way, in clocked rounds."""
 
-    def __init__(self, net: Network, depth: int, traffic: List[Packet]) -> None:
-        self.net, self.machine = net, Wormhole(net, depth)
+    def __init__(self, net: Network, depth: int, traffic: List[Packet], arbiter: str = ARBITERS[0]) -> None:
+        self.net, self.machine, self.is_turned = net, Wormhole(net, depth), arbiter == "turn"
+        # the input whose head each output took last
+        self.granted: Dict[int, int] = {}
         self.courses = [Course(it) for it in traffic]
         self.queues: Dict[int, List[int]] = {}
         for number, it in enumerate(traffic):
@@ -117,11 +123,31 @@ class Simulation:
     def can(self, word: str, x: int) -> bool:
         return not self.machine.refusal(word, x)
 
+    def asked(self, word: str, x: int) -> Optional[int]:
+        """The output that a move asks for: that of a head, which is put."""
+        latch = self.machine.channels[x].latch
+        return next(iter(self.machine.outputs(x)), None) if word == "put" and latch is not None and latch.head else None
+
+    def chosen(self, enabled: List[Move]) -> List[Move]:
+        """What is attempted of the moves that are enabled, by the arbiter."""
+        if self.is_turned:
+            return enabled
+        asking: Dict[int, List[int]] = {}
+        for word, x in enabled:
+            output = self.asked(word, x)
+            if output is not None:
+                asking.setdefault(output, []).append(x)
+        # behind the last one those with higher numbers come first, and then the others
+        first = {y: min([x for x in inputs if x > self.granted.get(y, x)] or inputs) for y, inputs in asking.items()}
+        passed = {x for y, inputs in asking.items() for x in inputs if x != first[y]}
+        return [(word, x) for word, x in enabled if word != "put" or x not in passed]
+
     def round(self, number: int) -> int:
         """Makes the round of this number, from 1 on, and answers how many moves it makes."""
         starts = [it for it in self.due(number)
                   if not self.machine.refusal("send", *self.courses[it].packet[1:])]
-        enabled = [it for group in self.groups for it in turned(group, number - 1) if self.can(*it)]
+        turn = number - 1 if self.is_turned else 0
+        enabled = self.chosen([it for group in self.groups for it in turned(group, turn) if self.can(*it)])
         full = [x for x, it in enumerate(self.machine.channels) if it.latch is not None]
         for packet in starts:
             self.begin(packet, number)
@@ -155,6 +181,9 @@ class Simulation:
             if flit.tail:
                 self.courses[flit.packet].delivered = number
         self.left[x] += word in ("take", "accept")
+        output = self.asked(word, x)
+        if output is not None:
+            self.granted[output] = x
         self.machine.move(word, x)
         if word == "more":
             self.tag(x, self.queues[x][self.begun[x] - 1])
@@ -184,6 +213,6 @@ class Simulation:
         return [*(it.line() for it in self.courses), *channels, end]
 
 
-def simulated(net: Network, depth: int, text: str, path: str) -> List[str]:
+def simulated(net: Network, depth: int, text: str, path: str, arbiter: str = ARBITERS[0]) -> List[str]:
     """The report on the packets of a traffic text."""
-    return Simulation(net, depth, read_traffic(net, text, path)).report()
+    return Simulation(net, depth, read_traffic(net, text, path), arbiter).report()

@@ -1,14 +1,20 @@
-use Rattle.std.proofs.Common.{refl, subst, sym}
+use Rattle.std.proofs.Common.{refl, subst, sym, arith}
+use Rattle.std.proofs.lemmas.Grind.{common_steps}
 use Rattle.network_machine.specs.Machine.{KeepsOtherChannels}
 use Rattle.network_rounds.specs.Flags.{AreFlags}
-use Rattle.network_rounds.proofs.Lists.{misses_one}
+use Rattle.network_rounds.proofs.Lists.{makes_one, misses_one}
 use Rattle.network_rounds.proofs.Told.{tells_both, tells_same}
 use Rattle.network_rounds.proofs.attempting.attempt_one.Goals.{then-y-x, else-y-x}
 use Rattle.network_rounds.proofs.attempting.attempt_one.Goals as goal
 
 pub returns-in_default-clause-adds : goal.returns-in_default-clause-adds
 returns-in_default-clause-adds g c =
-    misses_one c.args.machine.now c.try_move.new.self c.args.of _ _ c.in_default.ensures.prevented c.in_default.ensures.stays refl
+    misses_one c.args.machine.now c.try_move.new.self _ _ c.args.attempt _ _ c.in_default.ensures.prevented c.in_default.ensures.stays refl refl
+
+pub returns-clause-adds : goal.returns-clause-adds
+returns-clause-adds g c =
+    makes_one c.args.machine.now c.try_move.new.self _ _ c.args.attempt _ _ (c.in-Some.ensures.moves, c.try_move.ensures.same) c.note.ensures.lasts
+    (grind (arith, common_steps))
 
 pub returns-clause-flags : goal.returns-clause-flags
 returns-clause-flags g c = λ choices are.

@@ -48,7 +48,7 @@ returns g c =
     let same : t0 ≡ n.table =
     tables n c.kinds-kinds.result.now c.joins-joins.result.now c.choices-choices.result.now c.kinds-kinds.ensures.value c.joins-joins.ensures c.choices-choices.ensures in
     let course = c.in_ok-course.course in
-    told n c.args.depth c.args.packets.now c.in_ok-plan.plan.packets.now (plan_table c.in_ok-plan.plan) c.in_ok-routers.routers.items c.deref-2.result.now
+    told c.args.by n c.args.depth c.args.packets.now c.in_ok-plan.plan.packets.now (plan_table c.in_ok-plan.plan) c.in_ok-routers.routers.items c.deref-2.result.now
     c.deref-3.result.now c.in_ok-machine.machine c.run_packets.new.machine course.flits.items c.deref-6.result.now c.deref-7.result.now c.deref-4.result.now
     c.deref-5.result.now course.watch course.extent c.ending-ending.result c.in_ok-text.text.items c.is_sound.result
     (c.in_ok-plan.ensures.table ∙ same) c.in_ok-plan.ensures.packets

@@ -11,6 +11,9 @@ pub returns-clause-run : goal.returns-clause-run
 returns-clause-run g c =
     let r = c.watch_rounds-extent in
     let size = r.auto.flits ∙ ap length c.deref_mut-2.ensures.value in
-    subst (λ (flits : List ℕ). IsSimulated (plan_table c.args.plan.now) c.args.plan.now.packets.now c.args.queues.now c.args.groups.now c.args.machine.now
+    subst (λ (flits : List ℕ). IsSimulated c.args.by (plan_table c.args.plan.now) c.args.plan.now.packets.now c.args.queues.now c.args.groups.now c.args.machine.now
     r.new.machine flits 1000000 r.new.watch r.result)
     (sym (written_back c.in_ok-flits.flits.len r.new.flits c.in_ok-flits.flits.items size c.in_ok-flits.flits.ok.0)) r.ensures
+
+pub watch_rounds-extent-requires-clause-grants : goal.watch_rounds-extent-requires-clause-grants
+watch_rounds-extent-requires-clause-grants g c = c.in_ok-grants.ensures.are c.args.machine.now (sym c.channels-2.ensures.value)

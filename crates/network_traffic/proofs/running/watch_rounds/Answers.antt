@@ -18,8 +18,10 @@ loop-rounds-init g c = record {
   stood = c.requires.watch.stood;
   waited = c.requires.watch.waited;
   flags = c.requires.flags;
-  watched = watched_none (plan_table c.args.plan.now) c.args.plan.now.packets.now c.args.queues.now c.args.groups.now c.args.machine.now
-      c.args.begun.now c.args.flits.now (length c.args.made.now) c.args.watch.now
+  grants = c.requires.grants;
+  attempts = refl;
+  watched = watched_none c.args.by (plan_table c.args.plan.now) c.args.plan.now.packets.now c.args.queues.now c.args.groups.now c.args.machine.now
+      c.args.grants.now.lasts.items c.args.begun.now c.args.flits.now (length c.args.made.now) c.args.watch.now c.requires.none_granted
       (λ x here. c.requires.none_begun x (let size = c.requires.begun in omega (arith, here, size))) c.requires.none_left c.requires.watch;
 }
 
@@ -27,8 +29,8 @@ pub loop-rounds-preserved : goal.loop-rounds-preserved
 loop-rounds-preserved g c =
     let l = c.loop-rounds in
     let r = c.simulate_round-count in
-    let w = watched_more (plan_table c.args.plan.now) c.args.plan.now.packets.now c.args.queues.now c.args.groups.now c.args.machine.now l.machine r.new.machine
-    l.begun l.flits r.new.begun r.new.flits l.rounds (length c.args.made.now) c.args.most r.result l.last c.last_of-last.result r.new.made l.watch c.note.new.self c.ends.result
+    let w = watched_more c.args.by (plan_table c.args.plan.now) c.args.plan.now.packets.now c.args.queues.now c.args.groups.now c.args.machine.now l.machine r.new.machine
+    l.grants.lasts.items r.new.grants.lasts.items l.begun l.flits r.new.begun r.new.flits l.rounds (length c.args.made.now) c.args.most r.result l.last c.last_of-last.result r.new.made l.watch c.note.new.self c.ends.result
     l.invariant.watched c.loop-rounds-test.true c.requires.most c.requires.room r.ensures.few (r.auto.made ∙ l.invariant.made)
     (l.invariant.begun ∙ c.requires.begun) r.auto.flits r.ensures.round r.ensures.runs r.ensures.same r.ensures.begun r.ensures.flits
     c.note.ensures.rounds c.last_of-last.ensures c.ends.ensures in
@@ -43,6 +45,8 @@ loop-rounds-preserved g c =
       stood = c.note.ensures.stood;
       waited = c.note.ensures.waited;
       flags = r.ensures.flags;
+      grants = r.ensures.grants;
+      attempts = r.auto.attempts ∙ l.invariant.attempts;
       watched = record { simulates = w.simulates; shows = w.shows; last = w.last; goes = w.on c.if-ends.false };
     }
 
@@ -50,12 +54,13 @@ pub returns-then-ends : goal.returns-then-ends
 returns-then-ends g c =
     let l = c.loop-rounds in
     let r = c.simulate_round-count in
-    let w = watched_more (plan_table c.args.plan.now) c.args.plan.now.packets.now c.args.queues.now c.args.groups.now c.args.machine.now l.machine r.new.machine
-    l.begun l.flits r.new.begun r.new.flits l.rounds (length c.args.made.now) c.args.most r.result l.last c.last_of-last.result r.new.made l.watch c.note.new.self c.ends.result
+    let w = watched_more c.args.by (plan_table c.args.plan.now) c.args.plan.now.packets.now c.args.queues.now c.args.groups.now c.args.machine.now l.machine r.new.machine
+    l.grants.lasts.items r.new.grants.lasts.items l.begun l.flits r.new.begun r.new.flits l.rounds (length c.args.made.now) c.args.most r.result l.last c.last_of-last.result r.new.made l.watch c.note.new.self c.ends.result
     l.invariant.watched c.loop-rounds-test.true c.requires.most c.requires.room r.ensures.few (r.auto.made ∙ l.invariant.made)
     (l.invariant.begun ∙ c.requires.begun) r.auto.flits r.ensures.round r.ensures.runs r.ensures.same r.ensures.begun r.ensures.flits
     c.note.ensures.rounds c.last_of-last.ensures c.ends.ensures in
     record {
+      lasts = r.new.grants.lasts.items;
       begun = r.new.begun;
       simulation = w.simulates.simulation;
       shows = w.shows;
@@ -75,6 +80,7 @@ returns g c =
     let end = c.loop-rounds-test.false in
     let few = l.invariant.few in
     record {
+      lasts = l.grants.lasts.items;
       begun = l.begun;
       simulation = h.simulates.simulation;
       shows = h.shows;

@@ -1,4 +1,5 @@
 use Rattle.std.proofs.Common.{◌≡◌, ◌-◌, ◌≤◌, length}
+use Rattle.network_rounds.specs.Arbiters.{AreGrants}
 use Rattle.network_rounds.specs.Flags.{AreFlags, choices_of}
 use Rattle.network_traffic.specs.Plans.{plan_table}
 use Rattle.network_traffic.specs.Labels.{labels_spec, HasChannels}
@@ -13,12 +14,14 @@ invariant-loop-rounds g l = record {
   flits : length l.flits ≡ length l.initial.flits;
   sends : length l.sends ≡ length l.initial.sends;
   enabled : length l.enabled ≡ length l.initial.enabled;
+  attempts : length l.attempts ≡ length l.initial.attempts;
   made : length l.made ≡ length l.initial.made;
   channels : HasChannels (labels_spec l.watch.labels) (length l.plan.kinds.now);
   stood : length l.watch.stood.items ≡ length l.plan.kinds.now;
   waited : length l.watch.waited.items ≡ length l.plan.kinds.now;
   flags : AreFlags l.machine (choices_of l.groups) l.choices;
-  watched : WatchedSoFar (plan_table l.plan) l.plan.packets.now l.queues l.groups l.initial.machine l.machine l.begun l.flits l.rounds
+  grants : AreGrants l.machine l.grants;
+  watched : WatchedSoFar l.by (plan_table l.plan) l.plan.packets.now l.queues l.groups l.initial.machine l.machine l.grants.lasts.items l.begun l.flits l.rounds
       (length l.initial.made) l.last l.watch;
 }
 
