@@ -29,3 +29,8 @@ mod JamExamples
 pub mod Walks
 pub mod NoJams
 mod SearchExamples
+pub mod Parts
+pub mod Owners
+pub mod Cutting
+pub mod Fills
+pub mod Repeats

@@ -3,3 +3,4 @@ pub mod Refused
 pub mod Locking
 pub mod Telling
 pub mod Numberless
+pub mod Filled

@@ -1,4 +1,4 @@
-use Rattle.network_text.proofs.Jams.{none_found}
+use Rattle.network_text.proofs.Jams.{none_found, jam_found}
 use Rattle.network_text.proofs.jam.jam_of.Goals as goal
 
 pub returns-in-Rising : goal.returns-in-Rising
