@@ -1,9 +1,9 @@
 -- Parts of routes, one after the other, and the channels on them.
-use Rattle.std.proofs.Common.{◌≡◌, ◌≢◌, ◌⊎◌, inl, inr, ⊎_elim, ℕ, suc, ◌+◌, ◌-◌, ◌<◌, ◌≤◌, true, eqb, List, [], ◌∷◌, ◌++◌, refl, sym, ◌∙◌, ap}
+use Rattle.std.proofs.Common.{◌≡◌, ◌≢◌, ◌⊎◌, inl, inr, ⊎_elim, ℕ, suc, ◌+◌, ◌-◌, ◌<◌, ◌≤◌, eqb, List, [], ◌∷◌, ◌++◌, refl, sym, ◌∙◌, ap}
 use Rattle.std.proofs.Common.{subst, arith}
 use Rattle.std.proofs.lemmas.Bool.{eqb-true, eqb-false}
 use Rattle.network_judge.specs.declared.table.Reply.{Reply}
-use Rattle.network_judge.specs.Table.{Table, joins_of}
+use Rattle.network_judge.specs.Table.{Table}
 use Rattle.network_judge.specs.Arcs.{Arc, at, begin, On, AnyOn, Apart, LeadsTo, first_of, Chain}
 use Rattle.network_judge.proofs.Rounds.{found}
 use Rattle.network_judge.proofs.Still.{simple}

@@ -31,6 +31,7 @@ pub mod NoJams
 mod SearchExamples
 pub mod Parts
 pub mod Owners
+pub mod SpanLists
 pub mod Cutting
 pub mod Fills
 pub mod Repeats

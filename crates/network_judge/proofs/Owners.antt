@@ -1,5 +1,5 @@
 -- Channels with owners, and where packets pass them.
-use Rattle.std.proofs.Common.{◌≡◌, ◌≢◌, ◌⊎◌, inl, inr, ⊎_elim, ℕ, zero, suc, ◌+◌, ◌-◌, ◌<◌, ◌≤◌, List, [], ◌∷◌, ◌++◌, Option, Some, None, length, set, refl, sym, ◌∙◌, ap, subst, arith}
+use Rattle.std.proofs.Common.{◌≡◌, ◌≢◌, ◌⊎◌, inl, inr, ℕ, suc, ◌+◌, ◌-◌, ◌<◌, ◌≤◌, List, [], ◌++◌, Option, Some, None, length, set, sym, ◌∙◌, ap, subst, arith}
 use Rattle.std.specs.Prelude.{slice_index, IfSome, IfNone, drop, take}
 use Rattle.std.proofs.Math.Seq.{drop-length, take-length}
 use Rattle.std.proofs.lemmas.Bool.{cases_lt, cases_eq}
@@ -7,11 +7,9 @@ use Rattle.std.proofs.lemmas.List.{length-set, get_or-set_same, get_or-set_other
 use Rattle.network_judge.specs.declared.table.Kind.TheVariants.{Ejection}
 use Rattle.network_judge.specs.declared.spans.Span.{Span}
 use Rattle.network_judge.specs.declared.tangles.Met.{Met}
-use Rattle.network_judge.specs.declared.tangles.Tangle.{Tangle}
 use Rattle.network_judge.specs.Table.{Table, channels_of, kind_of}
 use Rattle.network_judge.specs.Ways.{place}
-use Rattle.network_judge.specs.Arcs.{Arc, at}
-use Rattle.network_judge.specs.Spans.{span_at, span_of, IsOn, IsArc, AreArcs, IsNoted, AreOwners, IsLastMet, MeetsNone, IsTangle, IsUntangled}
+use Rattle.network_judge.specs.Spans.{span_at, IsOn, IsArc, IsNoted, AreOwners, IsLastMet, MeetsNone, IsTangle, IsUntangled}
 use Rattle.network_judge.proofs.Still.{on_within}
 
 -- a step of an arc's route is at a channel, and its packets go on to an ejection channel

@@ -1,5 +1,5 @@
 -- Parts of routes at the links of a cycle make a circle.
-use Rattle.std.proofs.Common.{◌≡◌, ◌≢◌, inl, inr, ℕ, zero, suc, ◌+◌, ◌-◌, ◌<◌, ◌≤◌, true, false, List, [], ◌∷◌, ◌++◌, Some, refl, sym, ◌∙◌, ap, subst, arith, length, map}
+use Rattle.std.proofs.Common.{◌≡◌, ◌≢◌, inl, inr, ℕ, zero, suc, ◌+◌, ◌-◌, ◌<◌, ◌≤◌, true, false, List, [], ◌∷◌, ◌++◌, refl, sym, ◌∙◌, ap, subst, arith, length, map}
 use Rattle.std.proofs.lemmas.Bool.{cases_lt}
 use Rattle.std.proofs.Math.Seq.{drop-cons, drop-length}
 use Rattle.std.proofs.lemmas.List.{get_or_append_left, get_or_push}
@@ -14,7 +14,7 @@ use Rattle.network_judge.specs.Ways.{place, IsWay}
 use Rattle.network_judge.specs.Replies.{IsReply, AreReplies}
 use Rattle.network_judge.specs.Cycles.{Leads, link_at, IsCycle}
 use Rattle.network_judge.specs.Verdicts.{AllArrive, join_at}
-use Rattle.network_judge.specs.Arcs.{Arc, at, begin, On, AnyOn, Apart, LeadsTo, Chain, Circle}
+use Rattle.network_judge.specs.Arcs.{Arc, at, begin, On, AnyOn, Apart, LeadsTo, Chain}
 use Rattle.network_judge.specs.Spans.{AreDistinct, end_by, end_of, span_at, span_of, IsPoint, ComesAt, IsMissed, IsCircle}
 use Rattle.network_judge.proofs.Places.{place_next}
 use Rattle.network_judge.proofs.Passing.{dependency_passes}
@@ -22,7 +22,7 @@ use Rattle.network_judge.proofs.Marking.{joined_at, place_of}
 use Rattle.network_judge.proofs.Rounds.{collide}
 use Rattle.network_judge.proofs.Still.{before_end, on_within, simple}
 use Rattle.network_judge.proofs.Arcs.{apart_on}
-use Rattle.network_judge.proofs.JamLinks.{Point, point_at, channel, by_at, each}
+use Rattle.network_judge.proofs.JamLinks.{point_at, channel, by_at, each}
 
 -- a walk that hasn't come to its end is not behind it
 pub not_behind : (t : Table) (i j len step : ℕ) → IsWay t i j len → ((k : ℕ) → k < step → place t j i k ≢ j) → step ≤ len

@@ -1,16 +1,16 @@
 -- The links of a cycle, cut where a channel has two of them.
-use Rattle.std.proofs.Common.{◌≡◌, ◌≢◌, inl, inr, ℕ, zero, suc, ◌+◌, ◌-◌, ◌<◌, ◌≤◌, List, [], ◌∷◌, length, take, drop, set, refl, sym, ◌∙◌, ap, subst, arith}
+use Rattle.std.proofs.Common.{◌≡◌, ◌≢◌, inl, inr, ℕ, suc, ◌+◌, ◌-◌, ◌<◌, ◌≤◌, List, length, take, drop, set, refl, sym, ◌∙◌, ap, subst, arith}
 use Rattle.std.specs.Prelude.{slice_index}
 use Rattle.std.proofs.lemmas.Bool.{cases_lt, cases_eq}
 use Rattle.std.proofs.lemmas.Option.{slice_get_within}
 use Rattle.std.proofs.lemmas.List.{length-set, get_or-set_same, get_or-set_other, length-drop, length-take-le, get_or-drop, get_or-take}
 use Rattle.network_judge.specs.declared.table.Kind.{Kind}
-use Rattle.network_judge.specs.declared.table.Kind.TheVariants.{Injection, Hop, Ejection}
+use Rattle.network_judge.specs.declared.table.Kind.TheVariants.{Ejection}
 use Rattle.network_judge.specs.declared.table.Reply.{Reply}
 use Rattle.network_judge.specs.declared.table.Link.{Link}
 use Rattle.network_judge.specs.declared.table.By.{By}
 use Rattle.network_judge.specs.declared.table.By.TheVariants.{To, Replied}
-use Rattle.network_judge.specs.Table.{Table, channels_of, kind_of}
+use Rattle.network_judge.specs.Table.{Table, channels_of}
 use Rattle.network_judge.specs.Replies.{AreReplies}
 use Rattle.network_judge.specs.Verdicts.{AllArrive}
 use Rattle.network_judge.specs.Cycles.{Leads, link_at, IsCycle}

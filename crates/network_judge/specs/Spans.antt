@@ -1,5 +1,5 @@
 -- What the search for a jam finds of the parts of routes.
-use Rattle.std.specs.Prelude.{◌≡◌, ◌≢◌, ◌⊎◌, ℕ, zero, suc, ◌-◌, ◌+◌, ◌<◌, ◌≤◌, true, nat_lt}
+use Rattle.std.specs.Prelude.{◌≡◌, ◌≢◌, ◌⊎◌, ℕ, zero, suc, ◌-◌, ◌+◌, ◌<◌, ◌≤◌, nat_lt}
 use Rattle.std.specs.Prelude.{if◌then◌else◌, List, [], ◌∷◌, ◌++◌, length, map, slice_index}
 use Rattle.std.specs.Prelude.{slice_index_or}
 use Rattle.network_judge.specs.declared.table.Reply.{Reply}
@@ -10,7 +10,7 @@ use Rattle.network_judge.specs.declared.fill.Fill.{Fill}
 use Rattle.network_judge.specs.declared.spans.Span.{Span}
 use Rattle.network_judge.specs.declared.tangles.Met.{Met}
 use Rattle.network_judge.specs.declared.tangles.Tangle.{Tangle}
-use Rattle.network_judge.specs.Table.{Table, channels_of, joins_of}
+use Rattle.network_judge.specs.Table.{Table, channels_of}
 use Rattle.network_judge.specs.Ways.{place, IsWay}
 use Rattle.network_judge.specs.Cycles.{link_at}
 use Rattle.network_judge.specs.Verdicts.{join_at}

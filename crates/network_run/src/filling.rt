@@ -41,7 +41,7 @@ fn way_of<A: Allocator + Copy>(
     let mut last = fill.from;
     for _step in 0..fill.step {
         match next_of(kinds, joins, choices, columns, width, last, fill.to) {
-            None => break,
+            None => return Ok(Way { before, last }),
             Some(next) => {
                 before.push(last)?;
                 last = next;

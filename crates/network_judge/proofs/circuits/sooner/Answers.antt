@@ -1,8 +1,9 @@
-use Rattle.std.proofs.Common.{rules, ◌≡◌, ◌<◌, ◌∙◌, List, ap, sym, subst, length}
+use Rattle.std.proofs.Common.{◌≡◌, ◌<◌, ◌∙◌, List, sym, subst}
 use Rattle.network_judge.specs.Table.{Table, table_of}
 use Rattle.network_judge.specs.declared.spans.Span.{Span}
 use Rattle.network_judge.specs.Spans.{starts, IsCircle, IsTangle, IsUntangled}
-use Rattle.network_judge.proofs.Cutting.{clear_circle, comes_somewhere, cut_spans, cut_is, fewer_steps, cut_circle}
+use Rattle.network_judge.proofs.Cutting.{comes_somewhere, cut_circle}
+use Rattle.network_judge.proofs.SpanLists.{clear_circle, cut_spans, cut_is, fewer_steps}
 use Rattle.network_judge.proofs.circuits.sooner.Goals as goal
 
 pub returns-in-None-clause-clear : goal.returns-in-None-clause-clear

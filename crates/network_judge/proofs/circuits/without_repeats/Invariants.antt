@@ -1,4 +1,3 @@
-use Rattle.std.proofs.Common.{◌≡◌}
 use Rattle.network_judge.proofs.Repeats.{ArePlaces}
 use Rattle.network_judge.proofs.circuits.without_repeats.Given as goal
 

@@ -1,7 +1,7 @@
-use Rattle.std.proofs.Common.{◌≡◌, ◌-◌, ◌∙◌, ℕ, List, length, ap, sym, subst, arith}
+use Rattle.std.proofs.Common.{◌≡◌, ◌-◌, ◌∙◌, ℕ, List, ap, sym, subst, arith}
 use Rattle.std.specs.Prelude.{slice_index}
 use Rattle.network_judge.specs.Table.{Table, table_of}
-use Rattle.network_judge.specs.Spans.{span_at, AreOwners, IsLastMet, MeetsNone}
+use Rattle.network_judge.specs.Spans.{span_at, IsLastMet}
 use Rattle.network_judge.proofs.Owners.{tangle, untangled}
 use Rattle.network_judge.proofs.tangles.first_tangle.Goals as goal
 

@@ -1,6 +1,5 @@
-use Rattle.std.proofs.Common.{◌≡◌, ◌≤◌, ◌+◌, ◌∙◌, ◌<◌, ◌≢◌, ℕ, sym, subst, arith}
+use Rattle.std.proofs.Common.{◌+◌, ◌∙◌, ◌<◌, sym, subst, arith}
 use Rattle.network_judge.specs.Table.{Table, table_of, channels_of}
-use Rattle.network_judge.specs.Spans.{IsArc}
 use Rattle.network_judge.proofs.Walks.{further}
 use Rattle.network_judge.proofs.Owners.{MetSoFar, met_here, met_before, some_met, none_met, arc_end, arc_start, arc_within}
 use Rattle.network_judge.proofs.tangles.last_met.Goals as goal

@@ -1,7 +1,7 @@
-use Rattle.std.proofs.Common.{◌≡◌, ◌≤◌, ◌+◌, ◌∙◌, ◌<◌, ℕ, List, sym, subst, arith}
+use Rattle.std.proofs.Common.{◌+◌, ◌<◌, ℕ, List, sym, subst, arith}
 use Rattle.network_judge.specs.Table.{Table, table_of, channels_of}
 use Rattle.network_judge.proofs.Walks.{further}
-use Rattle.network_judge.proofs.Owners.{NotedTo, noted_more, noted_less, noted, arc_end, arc_start, arc_within}
+use Rattle.network_judge.proofs.Owners.{NotedTo, noted_more, noted_less, noted, arc_end, arc_within}
 use Rattle.network_judge.proofs.tangles.note.Goals as goal
 use Rattle.network_judge.proofs.tangles.note.Goals.{then-step-span+then-at-owners, else-step-span, else-step-span-via-then-step-span+else-at-owners, else-step-span-via-else-step-span}
 

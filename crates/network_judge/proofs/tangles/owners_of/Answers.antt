@@ -1,4 +1,4 @@
-use Rattle.std.proofs.Common.{rules, ◌≡◌, ◌+◌, ◌∙◌, ℕ, List, length, ap, sym, subst, arith, refl}
+use Rattle.std.proofs.Common.{rules, ◌≡◌, ◌+◌, ℕ, List, length, sym, subst, arith, refl}
 use Rattle.network_judge.specs.Table.{Table, table_of}
 use Rattle.network_judge.specs.Spans.{span_at, AreOwners, IsNoted}
 use Rattle.network_judge.proofs.Owners.{owned_more, written}
