@@ -1,8 +1,12 @@
 -- What stands behind the text of a verdict.
 use Rattle.std.proofs.Common.{◌≡◌, true, false, ◌++◌, [], append-nil, ap, ◌∙◌, ℕ, List, refl, sym, subst}
-use Rattle.std.specs.Prelude.{Vec, Option, Some, None, IfSome, IsSome}
+use Rattle.std.specs.Prelude.{Vec, Option, Some, None, IfSome, IsSome, Result, Ok, Err, IfOk}
 use Rattle.network_judge.specs.declared.table.Verdict.{Verdict}
 use Rattle.network_judge.specs.declared.table.Verdict.TheVariants.{Rising, NoRoute, Cycle}
+use Rattle.network_judge.specs.declared.table.Kind.{Kind}
+use Rattle.network_judge.specs.declared.table.Join.{Join}
+use Rattle.network_judge.specs.declared.table.Reply.{Reply}
+use Rattle.network_judge.specs.Table.{Table, table_of}
 use Rattle.network_judge.specs.Replies.{AreReplies}
 use Rattle.network_judge.specs.Verdicts.{IsVerdict}
 use Rattle.network_judge.specs.Cycles.{IsCycle}
@@ -31,6 +35,25 @@ jam_found n (Cycle others) links (Some fills) is are holds jam some = jam
 jam_found {A} n (Cycle others) links None is are holds jam some =
     (let same : others ≡ links = cc in
     let no : false ≡ true = some are (subst (λ (ls : Vec Link A). IsCycle n.table n.replies ls.items) same holds.1) in cc)
+
+-- that is so of what a search of the network's own lists answers
+pub jam_answered : {A E : Type 0} (n : NetworkSpec) (v : Verdict A) (links : Vec Link A) (kinds : List Kind) (joins : List Join) (choices : List ℕ)
+    (replies : List Reply) (lent : List Link) (r : Result (Option (Vec Fill A)) E) → kinds ≡ n.table.kinds → joins ≡ n.table.joins
+    → choices ≡ n.table.choices → replies ≡ n.replies → lent ≡ links.items → v ≡ Cycle links → AreReplies n.table n.replies → IsVerdict n.table n.replies v
+    → IfOk r (λ f. IfSome f (λ jam. IsJam (table_of kinds joins choices) replies jam.items))
+    → IfOk r (λ f. AreReplies (table_of kinds joins choices) replies → IsCycle (table_of kinds joins choices) replies lent → IsSome f)
+    → IfOk r (IsFoundVerdict n v)
+jam_answered n v links kinds joins choices replies lent (Ok found) one two three four five is are holds jam some =
+    (let same : table_of kinds joins choices ≡ n.table =
+    ap (λ k. table_of k joins choices) one ∙ (ap (λ j. table_of n.table.kinds j choices) two ∙ ap (λ c. table_of n.table.kinds n.table.joins c) three) in
+    jam_found n v links found is are holds
+    (subst (λ (t : Table). IfSome found (λ fs. IsJam t n.replies fs.items)) same
+    (subst (λ (rs : List Reply). IfSome found (λ fs. IsJam (table_of kinds joins choices) rs fs.items)) four jam))
+    (λ those cycle. some
+        (subst (λ (t : Table). AreReplies t replies) (sym same) (subst (λ (rs : List Reply). AreReplies n.table rs) (sym four) those))
+        (subst (λ (t : Table). IsCycle t replies lent) (sym same)
+        (subst (λ (rs : List Reply). IsCycle n.table rs lent) (sym four) (subst (λ (ls : List Link). IsCycle n.table n.replies ls) (sym five) cycle)))))
+jam_answered n v links kinds joins choices replies lent (Err e) one two three four five is are holds jam some = tt
 
 -- its text is put behind that of the verdict
 pub jam_put : (head before text : List ℕ) (lent jam : List Fill) → text ≡ before ++ jam_text lent → before ≡ head → lent ≡ jam
