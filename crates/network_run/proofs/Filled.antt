@@ -26,7 +26,7 @@ use Rattle.network_run.specs.Filling.{channels_before, through, packet_moves, pa
 use Rattle.network_run.specs.LockedUp.{MovesLockUp}
 
 -- the plain format has packets of one flit
-plain : (t : Table) → HasOneFlitPackets t plain_format
+abbrev plain : (t : Table) → HasOneFlitPackets t plain_format
 plain t = record {
   word = λ j. 4 * j + 3;
   head = λ j kind. eq-eqb ((4 * j + 3) / 2 % 2) 1 (omega arith);

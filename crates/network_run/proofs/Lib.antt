@@ -4,3 +4,4 @@ pub mod Locking
 pub mod Telling
 pub mod Numberless
 pub mod Filled
+pub mod Ways

@@ -22,23 +22,6 @@ of_verdict n depth (Rising numbers) moves text finds is = absurd (let no : Some 
 of_verdict n depth (NoRoute r) moves text finds is = absurd (let no : Some moves ≡ None = finds in cc)
 of_verdict n depth (Cycle links) moves text finds is = of_cycle n depth (Cycle links) moves text finds is
 
--- where none is found it is that of the verdict
-no_run : {A : Type 0} (n : NetworkSpec) (depth : ℕ) (v : Verdict A) (text : List ℕ) → FindsRun {A = A} n depth v None → text ≡ verdict_text v → IsOfVerdict n depth v text
-no_run n depth (Rising numbers) text finds is = is
-no_run n depth (NoRoute r) text finds is = is
-no_run n zero (Cycle links) text finds is = is
-no_run n (suc d) (Cycle links) text finds is = absurd finds
-
-pub verdict_told : {A : Type 0} (n : NetworkSpec) (depth : ℕ) (v : Verdict A) (found : Option (Vec Move A)) (a : Answer A)
-    → found ≡ None → FindsRun n depth v found → IsVerdict n.table n.replies v → a.text.items ≡ verdict_text v
-    → a.rising ≡ is_rising v → AnswersRun n depth a
-verdict_told n depth v found a none finds holds text rises = record {
-  verdict = v;
-  holds = holds;
-  text = no_run n depth v a.text.items (subst (λ (f : Option (Vec Move _)). FindsRun n depth v f) none finds) text;
-  rising = rises;
-}
-
 pub run_told : {A : Type 0} (n : NetworkSpec) (depth : ℕ) (v : Verdict A) (found : Option (Vec Move A)) (moves : Vec Move A) (lent : List Move) (a : Answer A)
     → found ≡ Some moves → FindsRun n depth v found → IsVerdict n.table n.replies v → a.text.items ≡ moves_text lent → lent ≡ moves.items
     → a.rising ≡ is_rising v → AnswersRun n depth a

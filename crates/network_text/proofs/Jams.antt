@@ -50,9 +50,9 @@ jam_answered n v links kinds joins choices replies lent (Ok found) one two three
     (subst (λ (t : Table). IfSome found (λ fs. IsJam t n.replies fs.items)) same
     (subst (λ (rs : List Reply). IfSome found (λ fs. IsJam (table_of kinds joins choices) rs fs.items)) four jam))
     (λ those cycle. some
-        (subst (λ (t : Table). AreReplies t replies) (sym same) (subst (λ (rs : List Reply). AreReplies n.table rs) (sym four) those))
-        (subst (λ (t : Table). IsCycle t replies lent) (sym same)
-        (subst (λ (rs : List Reply). IsCycle n.table rs lent) (sym four) (subst (λ (ls : List Link). IsCycle n.table n.replies ls) (sym five) cycle)))))
+    (subst (λ (t : Table). AreReplies t replies) (sym same) (subst (λ (rs : List Reply). AreReplies n.table rs) (sym four) those))
+    (subst (λ (t : Table). IsCycle t replies lent) (sym same)
+    (subst (λ (rs : List Reply). IsCycle n.table rs lent) (sym four) (subst (λ (ls : List Link). IsCycle n.table n.replies ls) (sym five) cycle)))))
 jam_answered n v links kinds joins choices replies lent (Err e) one two three four five is are holds jam some = tt
 
 -- its text is put behind that of the verdict

@@ -4,8 +4,8 @@ use Rattle.network_run.specs.Filling.{channels_before}
 use Rattle.network_run.proofs.filling.way_of.Given as goal
 
 -- the channels so far
-abbrev pub invariant-loop-_step : goal.invariant-loop-_step
-invariant-loop-_step g l = record {
+abbrev pub invariant-loop-step : goal.invariant-loop-step
+invariant-loop-step g l = record {
   before : l.before.items ≡ channels_before l.network.table l.fill.to l.fill.from l._step;
   last : l.last ≡ place l.network.table l.fill.to l.fill.from l._step;
 }
