@@ -1,62 +1,30 @@
 -- Parts of routes, one after the other, and the channels on them.
-use Rattle.std.proofs.Common.{◌≡◌, ◌≢◌, ◌⊎◌, inl, inr, ⊎_elim, ℕ, suc, ◌+◌, ◌-◌, ◌<◌, ◌≤◌, true, eqb, List, [], ◌∷◌, ◌++◌, refl, sym, ◌∙◌, ap}
+use Rattle.std.proofs.Common.{◌≡◌, ◌≢◌, ◌⊎◌, inl, inr, ⊎_elim, ℕ, suc, ◌+◌, ◌-◌, ◌<◌, ◌≤◌, eqb, List, [], ◌∷◌, ◌++◌, refl, sym, ◌∙◌, ap}
 use Rattle.std.proofs.Common.{subst, arith}
 use Rattle.std.proofs.lemmas.Bool.{eqb-true, eqb-false}
 use Rattle.network_judge.specs.declared.table.Reply.{Reply}
-use Rattle.network_judge.specs.Table.{Table, joins_of}
-use Rattle.network_judge.specs.Ways.{place, IsWay}
-use Rattle.network_judge.specs.Replies.{IsReply}
+use Rattle.network_judge.specs.Table.{Table}
+use Rattle.network_judge.specs.Arcs.{Arc, at, begin, On, AnyOn, Apart, LeadsTo, first_of, Chain}
 use Rattle.network_judge.proofs.Rounds.{found}
 use Rattle.network_judge.proofs.Still.{simple}
 
--- a part of a route, from one of its steps to another
-pub record Arc (t : Table) : Type 0 where
-  pub from : ℕ
-  pub to : ℕ
-  pub len : ℕ
-  pub start : ℕ
-  pub end : ℕ
-  pub joined : joins_of t from to ≡ true
-  pub way : IsWay t from to len
-  pub order : start ≤ end
-  pub within : end ≤ len
-
 module _ (t : Table) where
-  -- its channel at a step of the route
-  abbrev pub at : Arc t → ℕ → ℕ
-  at a k = place t a.to a.from k
-
-  abbrev pub begin : Arc t → ℕ
-  begin a = at a a.start
-
-  -- a channel is on it
-  pub record On (a : Arc t) (x : ℕ) : Type 0 where
-    pub step : ℕ
-    pub low : a.start ≤ step
-    pub high : step ≤ a.end
-    pub here : at a step ≡ x
-
-  pub is_on : (a : Arc t) (x : ℕ) → On a x ⊎ (On a x → ⊥)
-  is_on a x = elim (found (λ k. eqb (at a (a.start + k)) x) (suc (a.end - a.start))) [
+  pub is_on : (a : Arc t) (x : ℕ) → On t a x ⊎ (On t a x → ⊥)
+  is_on a x = elim (found (λ k. eqb (at t a (a.start + k)) x) (suc (a.end - a.start))) [
     | inl w ↦ (let low = w.1 in let order = a.order in inl (record { step = a.start + w.0; low = omega arith; high = omega arith; here = eqb-true _ x w.2 }))
     | inr none ↦ inr (λ o. (let low = o.low in let high = o.high in
-        eqb-false (at a (a.start + (o.step - a.start))) x (none (o.step - a.start) (omega arith))
-        ((let same : a.start + (o.step - a.start) ≡ o.step = omega arith in ap (at a) same) ∙ o.here)))
+        eqb-false (at t a (a.start + (o.step - a.start))) x (none (o.step - a.start) (omega arith))
+        ((let same : a.start + (o.step - a.start) ≡ o.step = omega arith in ap (at t a) same) ∙ o.here)))
   ]
 
-  pub on_begin : (a : Arc t) → On a (begin a)
+  pub on_begin : (a : Arc t) → On t a (begin t a)
   on_begin a = (let order = a.order in record { step = a.start; low = omega arith; high = order; here = refl })
 
   -- a route is nowhere twice
-  pub apart_on : (a : Arc t) (j k : ℕ) → j < k → k ≤ a.len → at a j ≢ at a k
+  pub apart_on : (a : Arc t) (j k : ℕ) → j < k → k ≤ a.len → at t a j ≢ at t a k
   apart_on a j k less low = simple t a.from a.to a.len a.way j k less low
 
-  -- a channel is on one of some
-  abbrev pub AnyOn : List (Arc t) → ℕ → Type 0
-  AnyOn [] x = ⊥
-  AnyOn (a ∷ ps) x = On a x ⊎ AnyOn ps x
-
-  pub is_any : (ps : List (Arc t)) (x : ℕ) → AnyOn ps x ⊎ (AnyOn ps x → ⊥)
+  pub is_any : (ps : List (Arc t)) (x : ℕ) → AnyOn t ps x ⊎ (AnyOn t ps x → ⊥)
   is_any [] x = inr (λ h. h)
   is_any (a ∷ ps) x = elim (is_on a x) [
     | inl here ↦ inl (inl here)
@@ -66,19 +34,19 @@ module _ (t : Table) where
     ]
   ]
 
-  pub any_left : (ps qs : List (Arc t)) (x : ℕ) → AnyOn ps x → AnyOn (ps ++ qs) x
+  pub any_left : (ps qs : List (Arc t)) (x : ℕ) → AnyOn t ps x → AnyOn t (ps ++ qs) x
   any_left [] qs x h = absurd h
   any_left (a ∷ ps) qs x (inl h) = inl h
   any_left (a ∷ ps) qs x (inr h) = inr (any_left ps qs x h)
 
-  pub any_right : (ps qs : List (Arc t)) (x : ℕ) → AnyOn qs x → AnyOn (ps ++ qs) x
+  pub any_right : (ps qs : List (Arc t)) (x : ℕ) → AnyOn t qs x → AnyOn t (ps ++ qs) x
   any_right [] qs x h = h
   any_right (a ∷ ps) qs x h = inr (any_right ps qs x h)
 
-  pub any_either : (ps qs : List (Arc t)) (x : ℕ) → AnyOn (ps ++ qs) x → AnyOn ps x ⊎ AnyOn qs x
+  pub any_either : (ps qs : List (Arc t)) (x : ℕ) → AnyOn t (ps ++ qs) x → AnyOn t ps x ⊎ AnyOn t qs x
   any_either [] qs x h = inr h
   any_either (a ∷ ps) qs x (inl h) = inl (inl h)
-  any_either (a ∷ ps) qs x (inr h) = ⊎_elim (λ (l : AnyOn ps x). inl (inr l)) (λ (r : AnyOn qs x). inr r) (any_either ps qs x h)
+  any_either (a ∷ ps) qs x (inr h) = ⊎_elim (λ (l : AnyOn t ps x). inl (inr l)) (λ (r : AnyOn t qs x). inr r) (any_either ps qs x h)
 
   -- the first of some that a channel is on
   pub record Located (ps : List (Arc t)) (x : ℕ) : Type 0 where
@@ -86,15 +54,15 @@ module _ (t : Table) where
     pub arc : Arc t
     pub after : List (Arc t)
     pub split : ps ≡ before ++ arc ∷ after
-    pub on : On arc x
-    pub none : AnyOn before x → ⊥
+    pub on : On t arc x
+    pub none : AnyOn t before x → ⊥
 
-  pub located : (ps : List (Arc t)) (x : ℕ) → AnyOn ps x → Located ps x
+  pub located : (ps : List (Arc t)) (x : ℕ) → AnyOn t ps x → Located ps x
   located [] x h = absurd h
   located (a ∷ ps) x h = elim (is_on a x) [
     | inl here ↦ record { before = []; arc = a; after = ps; split = refl; on = here; none = λ n. n }
     | inr isnt ↦
-        let r = located ps x (⊎_elim (λ (o : On a x). absurd (isnt o)) (λ (o : AnyOn ps x). o) h) in
+        let r = located ps x (⊎_elim (λ (o : On t a x). absurd (isnt o)) (λ (o : AnyOn t ps x). o) h) in
         record {
           before = a ∷ r.before;
           arc = r.arc;
@@ -105,60 +73,37 @@ module _ (t : Table) where
         }
   ]
 
-  -- they have no channel in common
-  abbrev pub Apart : List (Arc t) → Type 0
-  Apart [] = Unit {0}
-  Apart (a ∷ ps) = ((x : ℕ) → On a x → AnyOn ps x → ⊥) × Apart ps
-
-  pub apart_left : (ps qs : List (Arc t)) → Apart (ps ++ qs) → Apart ps
+  pub apart_left : (ps qs : List (Arc t)) → Apart t (ps ++ qs) → Apart t ps
   apart_left [] qs h = tt
   apart_left (a ∷ ps) qs h = (λ x on any. h.0 x on (any_left ps qs x any), apart_left ps qs h.1)
 
-  pub apart_right : (ps qs : List (Arc t)) → Apart (ps ++ qs) → Apart qs
+  pub apart_right : (ps qs : List (Arc t)) → Apart t (ps ++ qs) → Apart t qs
   apart_right [] qs h = h
   apart_right (a ∷ ps) qs h = apart_right ps qs h.1
 
-  pub apart_both : (ps qs : List (Arc t)) → Apart (ps ++ qs) → (x : ℕ) → AnyOn ps x → AnyOn qs x → ⊥
+  pub apart_both : (ps qs : List (Arc t)) → Apart t (ps ++ qs) → (x : ℕ) → AnyOn t ps x → AnyOn t qs x → ⊥
   apart_both [] qs h x l r = l
   apart_both (a ∷ ps) qs h x (inl l) r = h.0 x l (any_right ps qs x r)
   apart_both (a ∷ ps) qs h x (inr l) r = apart_both ps qs h.1 x l r
 
-  pub apart_join : (ps qs : List (Arc t)) → Apart ps → Apart qs → ((x : ℕ) → AnyOn ps x → AnyOn qs x → ⊥) → Apart (ps ++ qs)
+  pub apart_join : (ps qs : List (Arc t)) → Apart t ps → Apart t qs → ((x : ℕ) → AnyOn t ps x → AnyOn t qs x → ⊥) → Apart t (ps ++ qs)
   apart_join [] qs l r both = r
   apart_join (a ∷ ps) qs l r both =
       (λ x on any. ⊎_elim (l.0 x on) (both x (inl on)) (any_either ps qs x any), apart_join ps qs l.1 r (λ x h. both x (inr h)))
 
   module _ (replies : List Reply) where
-    -- how an arc leads on to a channel: the next one of its route, or at its end one on which its packets are answered
-    abbrev pub LeadsTo : Arc t → ℕ → Type 0
-    LeadsTo a y = ((a.end < a.len) × (at a (suc a.end) ≡ y)) ⊎ ((a.end ≡ a.len) × IsReply replies a.to y)
-
-    abbrev pub first_of : List (Arc t) → ℕ → ℕ
-    first_of [] e = e
-    first_of (a ∷ ps) e = begin a
-
-    -- each leads on to the next one's first channel, and the last to channel e
-    abbrev pub Chain : List (Arc t) → ℕ → Type 0
-    Chain [] e = Unit {0}
-    Chain (a ∷ ps) e = LeadsTo a (first_of ps e) × Chain ps e
-
-    pub first_both : (ps qs : List (Arc t)) (e : ℕ) → first_of (ps ++ qs) e ≡ first_of ps (first_of qs e)
+    pub first_both : (ps qs : List (Arc t)) (e : ℕ) → first_of t replies (ps ++ qs) e ≡ first_of t replies ps (first_of t replies qs e)
     first_both [] qs e = refl
     first_both (a ∷ ps) qs e = refl
 
-    pub chain_left : (ps qs : List (Arc t)) (e : ℕ) → Chain (ps ++ qs) e → Chain ps (first_of qs e)
+    pub chain_left : (ps qs : List (Arc t)) (e : ℕ) → Chain t replies (ps ++ qs) e → Chain t replies ps (first_of t replies qs e)
     chain_left [] qs e h = tt
-    chain_left (a ∷ ps) qs e h = (subst (LeadsTo a) (first_both ps qs e) h.0, chain_left ps qs e h.1)
+    chain_left (a ∷ ps) qs e h = (subst (LeadsTo t replies a) (first_both ps qs e) h.0, chain_left ps qs e h.1)
 
-    pub chain_right : (ps qs : List (Arc t)) (e : ℕ) → Chain (ps ++ qs) e → Chain qs e
+    pub chain_right : (ps qs : List (Arc t)) (e : ℕ) → Chain t replies (ps ++ qs) e → Chain t replies qs e
     chain_right [] qs e h = h
     chain_right (a ∷ ps) qs e h = chain_right ps qs e h.1
 
-    pub chain_join : (ps qs : List (Arc t)) (e : ℕ) → Chain ps (first_of qs e) → Chain qs e → Chain (ps ++ qs) e
+    pub chain_join : (ps qs : List (Arc t)) (e : ℕ) → Chain t replies ps (first_of t replies qs e) → Chain t replies qs e → Chain t replies (ps ++ qs) e
     chain_join [] qs e l r = r
-    chain_join (a ∷ ps) qs e l r = (subst (LeadsTo a) (sym (first_both ps qs e)) l.0, chain_join ps qs e l.1 r)
-
-    -- around
-    pub record Circle (ps : List (Arc t)) : Type 0 where
-      pub chain : Chain ps (first_of ps 0)
-      pub apart : Apart ps
+    chain_join (a ∷ ps) qs e l r = (subst (LeadsTo t replies a) (sym (first_both ps qs e)) l.0, chain_join ps qs e l.1 r)

@@ -4,9 +4,9 @@ use Rattle.std.proofs.Common.{subst, arith}
 use Rattle.std.proofs.lemmas.Bool.{cases_lt}
 use Rattle.network_judge.specs.declared.table.Reply.{Reply}
 use Rattle.network_judge.specs.Table.{Table}
-use Rattle.network_judge.proofs.Arcs.{Arc, at, begin, On, apart_on, AnyOn, is_any, any_left, any_right, any_either, Located, located}
-use Rattle.network_judge.proofs.Arcs.{Apart, apart_left, apart_right, apart_both, apart_join, LeadsTo, first_of, Chain, first_both, chain_left}
-use Rattle.network_judge.proofs.Arcs.{chain_right, chain_join, Circle}
+use Rattle.network_judge.specs.Arcs.{Arc, at, begin, On, AnyOn, Apart, LeadsTo, first_of, Chain, Circle, IsClear, AreClear}
+use Rattle.network_judge.proofs.Arcs.{apart_on, is_any, any_left, any_right, any_either, Located, located, apart_left, apart_right, apart_both, apart_join}
+use Rattle.network_judge.proofs.Arcs.{first_both, chain_left, chain_right, chain_join}
 
 module _ (t : Table) (replies : List Reply) where
   -- the steps before the arcs, together
@@ -18,11 +18,7 @@ module _ (t : Table) (replies : List Reply) where
   before_both [] qs = omega arith
   before_both (a ∷ ps) qs = let r = before_both ps qs in omega arith
 
-  -- packets pass none of some arcs before they come to their own
-  abbrev pub IsClear : List (Arc t) → Arc t → Type 0
-  IsClear ps a = (k : ℕ) → k < a.start → AnyOn t ps (at t a k) → ⊥
-
-  -- or they do, last at this step
+  -- packets pass one of some arcs before they come to their own, last at this step
   pub record Meets (ps : List (Arc t)) (a : Arc t) : Type 0 where
     pub step : ℕ
     pub low : step < a.start
@@ -30,7 +26,7 @@ module _ (t : Table) (replies : List Reply) where
     pub none : (k : ℕ) → step < k → k < a.start → AnyOn t ps (at t a k) → ⊥
 
   last_met : (ps : List (Arc t)) (a : Arc t) (n d : ℕ) → n + d ≡ a.start → ((k : ℕ) → n ≤ k → k < a.start → AnyOn t ps (at t a k) → ⊥)
-      → Meets ps a ⊎ IsClear ps a
+      → Meets ps a ⊎ IsClear t ps a
   last_met ps a zero d all none = inr (λ k l. none k (omega arith) l)
   last_met ps a (suc n) d all none = elim (is_any t ps (at t a n)) [
     | inl here ↦ inl (record { step = n; low = omega arith; on = here; none = λ k l. none k (omega arith) })
@@ -40,12 +36,8 @@ module _ (t : Table) (replies : List Reply) where
     ])
   ]
 
-  meets : (ps : List (Arc t)) (a : Arc t) → Meets ps a ⊎ IsClear ps a
+  meets : (ps : List (Arc t)) (a : Arc t) → Meets ps a ⊎ IsClear t ps a
   meets ps a = last_met ps a a.start 0 (omega arith) (λ k l h on. absurd (omega arith))
-
-  abbrev pub AreClear : List (Arc t) → List (Arc t) → Type 0
-  AreClear all [] = Unit {0}
-  AreClear all (a ∷ ps) = IsClear all a × AreClear all ps
 
   pub record Tangled (all ps : List (Arc t)) : Type 0 where
     pub front : List (Arc t)
@@ -54,7 +46,7 @@ module _ (t : Table) (replies : List Reply) where
     pub split : ps ≡ front ++ arc ∷ back
     pub meets : Meets all arc
 
-  tangled : (all ps : List (Arc t)) → Tangled all ps ⊎ AreClear all ps
+  tangled : (all ps : List (Arc t)) → Tangled all ps ⊎ AreClear t all ps
   tangled all [] = inr tt
   tangled all (a ∷ ps) = elim (meets all a) [
     | inl m ↦ inl (record { front = []; arc = a; back = ps; split = refl; meets = m })
@@ -72,7 +64,7 @@ module _ (t : Table) (replies : List Reply) where
     pub less : before (head ∷ rest) < before ps
 
   -- an arc that begins earlier
-  abbrev longer : (a : Arc t) (q : ℕ) → q < a.start → Arc t
+  abbrev pub longer : (a : Arc t) (q : ℕ) → q < a.start → Arc t
   longer a q low = (let order = a.order in record {
     from = a.from;
     to = a.to;
@@ -86,7 +78,7 @@ module _ (t : Table) (replies : List Reply) where
   })
 
   -- an arc that ends before a step
-  abbrev shorter : (b : Arc t) (u : ℕ) → b.start < u → u ≤ b.end → Arc t
+  abbrev pub shorter : (b : Arc t) (u : ℕ) → b.start < u → u ≤ b.end → Arc t
   shorter b u some low = (let within = b.within in record {
     from = b.from;
     to = b.to;
@@ -126,27 +118,23 @@ module _ (t : Table) (replies : List Reply) where
     kept : Apart t front
     kept = apart_left t front (b ∷ back) circle.apart.1
 
-    cut_here : b.start ≡ on.step → Less (a ∷ there)
-    cut_here same =
+    pub circle_here : b.start ≡ on.step → Circle t replies (longer a q low ∷ front)
+    circle_here same =
         let reaches : begin t b ≡ at t a q = ap (at t b) same ∙ on.here in
-        let r = before_both front (b ∷ back) in
         record {
-          head = longer a q low;
-          rest = front;
-          circle = record {
-            chain = (subst (λ e. LeadsTo t replies a (first_of t replies front e)) reaches parts.0, subst (Chain t replies front) reaches parts.1);
-            apart = (stays_apart front (λ x h. any_left t front (b ∷ back) x h) none, kept);
-          };
-          less = omega arith;
+          chain = (subst (λ e. LeadsTo t replies a (first_of t replies front e)) reaches parts.0, subst (Chain t replies front) reaches parts.1);
+          apart = (stays_apart front (λ x h. any_left t front (b ∷ back) x h) none, kept);
         }
 
-    cut_within : b.start < on.step → Less (a ∷ there)
-    cut_within some =
+    cut_here : b.start ≡ on.step → Less (a ∷ there)
+    cut_here same =
+        let r = before_both front (b ∷ back) in
+        record { head = longer a q low; rest = front; circle = circle_here same; less = omega arith }
+
+    pub circle_within : (some : b.start < on.step) → Circle t replies (longer a q low ∷ (front ++ shorter b on.step some on.high ∷ []))
+    circle_within some =
         let high = on.high in
         let within = b.within in
-        let c : Arc t = shorter b on.step some on.high in
-        let r = before_both front (b ∷ back) in
-        let r2 = before_both front (shorter b on.step some on.high ∷ []) in
         let step : suc (on.step - 1) ≡ on.step = omega arith in
         let leads : LeadsTo t replies (shorter b on.step some on.high) (at t a q) = inl (omega arith, ap (at t b) step ∙ on.here) in
         let joined : Chain t replies (longer a q low ∷ (front ++ shorter b on.step some on.high ∷ [])) (at t a q) =
@@ -159,17 +147,12 @@ module _ (t : Table) (replies : List Reply) where
         λ any. ⊎_elim none (λ (h : AnyOn t (shorter b on.step some on.high ∷ []) (at t a q)). gone h)
         (any_either t front (shorter b on.step some on.high ∷ []) (at t a q) any) in
         record {
-          head = longer a q low;
-          rest = front ++ shorter b on.step some on.high ∷ [];
-          circle = record {
-            chain = joined;
-            apart = (
-              stays_apart (front ++ shorter b on.step some on.high ∷ []) sub clear,
-              apart_join t front (shorter b on.step some on.high ∷ []) kept ((λ x h e. e), tt)
-                  (λ x l h. apart_both t front (b ∷ back) circle.apart.1 x l (one x h)),
-            );
-          };
-          less = omega arith;
+          chain = joined;
+          apart = (
+            stays_apart (front ++ shorter b on.step some on.high ∷ []) sub clear,
+            apart_join t front (shorter b on.step some on.high ∷ []) kept ((λ x h e. e), tt)
+                (λ x l h. apart_both t front (b ∷ back) circle.apart.1 x l (one x h)),
+          );
         }
       where
         one : (x : ℕ) → AnyOn t (shorter b on.step some on.high ∷ []) x → AnyOn t (b ∷ back) x
@@ -181,7 +164,18 @@ module _ (t : Table) (replies : List Reply) where
             apart_on t b o.step on.step (omega arith) (omega arith) (o.here ∙ sym on.here))
         gone (inr e) = e
 
-    pub cut : Less (a ∷ there)
+    cut_within : b.start < on.step → Less (a ∷ there)
+    cut_within some =
+        let r = before_both front (b ∷ back) in
+        let r2 = before_both front (shorter b on.step some on.high ∷ []) in
+        record {
+          head = longer a q low;
+          rest = front ++ shorter b on.step some on.high ∷ [];
+          circle = circle_within some;
+          less = omega arith;
+        }
+
+    cut : Less (a ∷ there)
     cut = elim (cases_lt b.start on.step) [
       | inl some ↦ cut_within some
       | inr none_more ↦ (let least = on.low in cut_here (omega arith))
@@ -200,7 +194,7 @@ module _ (t : Table) (replies : List Reply) where
           (λ k more less h. m.none k more less (subst (λ (r : List (Arc t)). AnyOn t (a ∷ r) (at t a k)) (sym l.split) h)))
 
   -- a circle that begins with another of its arcs
-  turned : (front : List (Arc t)) (a : Arc t) (back : List (Arc t)) → Circle t replies (front ++ a ∷ back) → Circle t replies (a ∷ (back ++ front))
+  pub turned : (front : List (Arc t)) (a : Arc t) (back : List (Arc t)) → Circle t replies (front ++ a ∷ back) → Circle t replies (a ∷ (back ++ front))
   turned front a back circle =
       let e : ℕ = first_of t replies (front ++ a ∷ back) 0 in
       let same : e ≡ first_of t replies front (begin t a) = first_both t replies front (a ∷ back) 0 in
@@ -230,14 +224,14 @@ module _ (t : Table) (replies : List Reply) where
     pub head : Arc t
     pub rest : List (Arc t)
     pub circle : Circle t replies (head ∷ rest)
-    pub clear : AreClear (head ∷ rest) (head ∷ rest)
+    pub clear : AreClear t (head ∷ rest) (head ∷ rest)
 
   pub untangled : (fuel : ℕ) (a : Arc t) (rest : List (Arc t)) → before (a ∷ rest) < fuel → Circle t replies (a ∷ rest) → Untangled
   untangled zero a rest less circle = absurd (omega arith)
   untangled (suc fuel) a rest less circle = by (λ b more fewer c. untangled fuel b more fewer c) (tangled (a ∷ rest) (a ∷ rest))
     where
       by : ((b : Arc t) (more : List (Arc t)) → before (b ∷ more) < fuel → Circle t replies (b ∷ more) → Untangled)
-          → Tangled (a ∷ rest) (a ∷ rest) ⊎ AreClear (a ∷ rest) (a ∷ rest) → Untangled
+          → Tangled (a ∷ rest) (a ∷ rest) ⊎ AreClear t (a ∷ rest) (a ∷ rest) → Untangled
       by again (inr clear) = record { head = a; rest = rest; circle = circle; clear = clear }
       by again (inl d) =
           let c = turned d.front d.arc d.back (subst (Circle t replies) d.split circle) in

@@ -8,19 +8,20 @@ use Rattle.network_judge.specs.Table.{Table}
 use Rattle.network_judge.proofs.Places.{place_next}
 use Rattle.network_judge.specs.declared.fill.Fill.{Fill}
 use Rattle.network_judge.specs.Jams.{fill_channel, is_filled, AreFilledInTurn, WaitsForFilled, IsJam}
-use Rattle.network_judge.proofs.Arcs.{Arc, at, begin, On, on_begin, apart_on, AnyOn, Apart, LeadsTo, first_of, Chain}
-use Rattle.network_judge.proofs.Circles.{IsClear, AreClear, Untangled}
+use Rattle.network_judge.specs.Arcs.{Arc, at, begin, On, AnyOn, Apart, LeadsTo, first_of, Chain, Circle, IsClear, AreClear}
+use Rattle.network_judge.proofs.Arcs.{on_begin, apart_on}
+use Rattle.network_judge.proofs.Circles.{Untangled}
 
 module _ (t : Table) (replies : List Reply) where
-  abbrev fill : Arc t → ℕ → Fill
+  abbrev pub fill : Arc t → ℕ → Fill
   fill a k = record { from = a.from; to = a.to; step = k }
 
   -- an arc's channels from step k on, n of them, and then others
-  abbrev fills_from : Arc t → ℕ → ℕ → List Fill → List Fill
+  abbrev pub fills_from : Arc t → ℕ → ℕ → List Fill → List Fill
   fills_from a k zero fs = fs
   fills_from a k (suc n) fs = fill a k ∷ fills_from a (suc k) n fs
 
-  abbrev fills : List (Arc t) → List Fill
+  abbrev pub fills : List (Arc t) → List Fill
   fills [] = []
   fills (a ∷ ps) = fills_from a a.start (suc (a.end - a.start)) (fills ps)
 
@@ -66,7 +67,7 @@ module _ (t : Table) (replies : List Reply) where
       (λ i low high here. h (inl (record { step = i; low = low; high = omega arith; here = here }))) (none_filled ps x (λ r. h (inr r)))
 
   -- each comes in once those behind it are filled
-  arc_in_turn : (all : List (Arc t)) (a : Arc t) (ps : List (Arc t)) → IsClear t replies all a → ((x : ℕ) → AnyOn t (a ∷ ps) x → AnyOn t all x)
+  arc_in_turn : (all : List (Arc t)) (a : Arc t) (ps : List (Arc t)) → IsClear t all a → ((x : ℕ) → AnyOn t (a ∷ ps) x → AnyOn t all x)
       → ((x : ℕ) → On t a x → AnyOn t ps x → ⊥) → AreFilledInTurn t (fills ps)
       → (n k : ℕ) → k + n ≡ suc a.end → a.start ≤ k → AreFilledInTurn t (fills_from a k n (fills ps))
   arc_in_turn all a ps clear sub apart rest zero k size low = rest
@@ -86,7 +87,7 @@ module _ (t : Table) (replies : List Reply) where
     arc_in_turn all a ps clear sub apart rest n (suc k) (omega arith) (omega arith),
   )
 
-  in_turn : (all ps : List (Arc t)) → AreClear t replies all ps → Apart t ps → ((x : ℕ) → AnyOn t ps x → AnyOn t all x) → AreFilledInTurn t (fills ps)
+  in_turn : (all ps : List (Arc t)) → AreClear t all ps → Apart t ps → ((x : ℕ) → AnyOn t ps x → AnyOn t all x) → AreFilledInTurn t (fills ps)
   in_turn all [] clear apart sub = tt
   in_turn all (a ∷ ps) clear apart sub =
       let order = a.order in
@@ -132,14 +133,15 @@ module _ (t : Table) (replies : List Reply) where
       first_filled [] h = target
       first_filled (b ∷ rest) h = h (begin t b) (inl (on_begin t b))
 
+  pub is_jam : (head : Arc t) (rest : List (Arc t)) → Circle t replies (head ∷ rest) → AreClear t (head ∷ rest) (head ∷ rest)
+      → IsJam t replies (fills (head ∷ rest))
+  is_jam head rest circle clear =
+      let own : (x : ℕ) → AnyOn t (head ∷ rest) x → is_filled t (fills (head ∷ rest)) x ≡ true = λ x h. any_filled (head ∷ rest) x h in
+      record {
+        some = omega arith;
+        in_turn = in_turn (head ∷ rest) (head ∷ rest) clear circle.apart (λ x h. h);
+        waits = wait (fills (head ∷ rest)) (head ∷ rest) (begin t head) circle.chain (own (begin t head) (inl (on_begin t head))) own;
+      }
+
   pub jam_of : Untangled t replies → (fs : List Fill) × IsJam t replies fs
-  jam_of u =
-      let all : List (Arc t) = u.head ∷ u.rest in
-      let own : (x : ℕ) → AnyOn t (u.head ∷ u.rest) x → is_filled t (fills (u.head ∷ u.rest)) x ≡ true = λ x h. any_filled (u.head ∷ u.rest) x h in (
-        fills (u.head ∷ u.rest),
-        record {
-          some = omega arith;
-          in_turn = in_turn (u.head ∷ u.rest) (u.head ∷ u.rest) u.clear u.circle.apart (λ x h. h);
-          waits = wait (fills (u.head ∷ u.rest)) (u.head ∷ u.rest) (begin t u.head) u.circle.chain (own (begin t u.head) (inl (on_begin t u.head))) own;
-        },
-      )
+  jam_of u = (fills (u.head ∷ u.rest), is_jam u.head u.rest u.circle u.clear)

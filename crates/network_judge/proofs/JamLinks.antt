@@ -15,17 +15,20 @@ use Rattle.network_judge.specs.Verdicts.{AllArrive}
 use Rattle.network_judge.proofs.Places.{place_next}
 use Rattle.network_judge.proofs.Passing.{dependency_passes}
 use Rattle.network_judge.proofs.Still.{before_end}
-use Rattle.network_judge.proofs.Arcs.{Arc, at, begin, On, AnyOn, is_any, Located, located, Apart, apart_left, LeadsTo, Chain, chain_left, Circle}
+use Rattle.network_judge.specs.Spans.{end_by}
+use Rattle.network_judge.specs.Arcs.{Arc, at, begin, On, AnyOn, Apart, LeadsTo, Chain, Circle}
+use Rattle.network_judge.proofs.Arcs.{is_any, Located, located, apart_left, chain_left}
 
 module _ (t : Table) (replies : List Reply) (arrive : AllArrive t) (are : AreReplies t replies) where
-  -- an arc of one channel, which leads on to another
-  record Point (x y : ℕ) : Type 0 where
-    arc : Arc t
-    single : arc.start ≡ arc.end
-    here : begin t arc ≡ x
-    leads : LeadsTo t replies arc y
+  -- an arc of one channel, whose packets go to an ejection channel, and which leads on to another channel
+  pub record Point (e x y : ℕ) : Type 0 where
+    pub arc : Arc t
+    pub ends : arc.to ≡ e
+    pub single : arc.start ≡ arc.end
+    pub here : begin t arc ≡ x
+    pub leads : LeadsTo t replies arc y
 
-  by_route : (x j y : ℕ) → Depends t x j y → Point x y
+  by_route : (x j y : ℕ) → Depends t x j y → Point j x y
   by_route x j y d =
       let p = dependency_passes t arrive x j y d in
       let h = p.0 in
@@ -42,13 +45,14 @@ module _ (t : Table) (replies : List Reply) (arrive : AllArrive t) (are : AreRep
           order = omega arith;
           within = omega arith;
         };
+        ends = refl;
         single = refl;
         here = h.here;
         leads = inl (h.before, place_next t j h.from h.step ∙ (ap (λ z. table_next t z j) h.here ∙ p.1));
       }
 
   -- a channel of which packets are answered is the end of the route by which they come
-  by_reply : (w : ℕ) (by : By) (x y : ℕ) → Leads t replies w by x → IsReply replies x y → Point x y
+  by_reply : (w : ℕ) (by : By) (x y : ℕ) → Leads t replies w by x → IsReply replies x y → Point x x y
   by_reply w (To j) x y d r =
       let p = dependency_passes t arrive w j x d in
       let h = p.0 in
@@ -74,6 +78,7 @@ module _ (t : Table) (replies : List Reply) (arrive : AllArrive t) (are : AreRep
           order = omega arith;
           within = omega arith;
         };
+        ends = same;
         single = refl;
         here = h.way.arrives ∙ same;
         leads = inr (refl, subst (λ z. IsReply replies z y) (sym same) r);
@@ -83,7 +88,7 @@ module _ (t : Table) (replies : List Reply) (arrive : AllArrive t) (are : AreRep
       let two : kind_of t x ≡ Some Ejection = (are x y r).0 in
       absurd (cc)
 
-  point : (w : ℕ) (was : By) (x : ℕ) (by : By) (y : ℕ) → Leads t replies w was x → Leads t replies x by y → Point x y
+  point : (w : ℕ) (was : By) (x : ℕ) (by : By) (y : ℕ) → Leads t replies w was x → Leads t replies x by y → Point (end_by x by) x y
   point w was x (To j) y before d = by_route x j y d
   point w was x Replied y before r = by_reply w was x y before r
 
@@ -134,13 +139,13 @@ module _ (t : Table) (replies : List Reply) (arrive : AllArrive t) (are : AreRep
           }
 
   module _ (links : List Link) (cycle : IsCycle t replies links) where
-    abbrev channel : ℕ → ℕ
+    abbrev pub channel : ℕ → ℕ
     channel k = (link_at links k).channel
 
-    abbrev by_at : ℕ → By
+    abbrev pub by_at : ℕ → By
     by_at k = (link_at links k).by
 
-    each : (k : ℕ) → suc k < length links → Leads t replies (channel k) (by_at k) (channel (suc k))
+    pub each : (k : ℕ) → suc k < length links → Leads t replies (channel k) (by_at k) (channel (suc k))
     each k l = (let same : k + 1 ≡ suc k = omega arith in subst (λ z. Leads t replies (channel k) (by_at k) (channel z)) same (cycle.each k (omega arith)))
 
     -- who leads on to a channel
@@ -153,7 +158,7 @@ module _ (t : Table) (replies : List Reply) (arrive : AllArrive t) (are : AreRep
     source zero l = record { from = channel (length links - 1); by = by_at (length links - 1); leads = cycle.last }
     source (suc k) l = record { from = channel k; by = by_at k; leads = each k l }
 
-    point_at : (k y : ℕ) → k < length links → Leads t replies (channel k) (by_at k) y → Point (channel k) y
+    pub point_at : (k y : ℕ) → k < length links → Leads t replies (channel k) (by_at k) y → Point (end_by (channel k) (by_at k)) (channel k) y
     point_at k y l lead = (let s = source k l in point s.from s.by (channel k) (by_at k) y s.leads lead)
 
     -- the points from one place on

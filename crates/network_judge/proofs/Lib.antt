@@ -29,3 +29,10 @@ mod JamExamples
 pub mod Walks
 pub mod NoJams
 mod SearchExamples
+mod SpanExamples
+pub mod Parts
+pub mod Owners
+pub mod SpanLists
+pub mod Cutting
+pub mod Fills
+pub mod Repeats

@@ -13,3 +13,5 @@ pub mod Receivers
 pub mod Jams
 pub mod LockUps
 pub mod Clear
+pub mod Arcs
+pub mod Spans

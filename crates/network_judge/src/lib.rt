@@ -4,6 +4,7 @@
 #![tactic(auto)]
 
 pub mod check;
+pub mod circuits;
 pub mod columns;
 pub mod dependencies;
 pub mod fill;
@@ -15,6 +16,7 @@ pub mod progress_laws;
 pub mod search;
 pub mod spans;
 pub mod table;
+pub mod tangles;
 pub mod walk;
 
 pub use check::is_jam;

@@ -3,3 +3,5 @@ pub mod Refused
 pub mod Locking
 pub mod Telling
 pub mod Numberless
+pub mod Filled
+pub mod Ways

@@ -18,9 +18,7 @@ use Rattle.network_machine.specs.Machine.{NetworkMachineSpec, ShowsNetwork, plai
 use Rattle.network_machine.specs.Runs.{Runs, RunsTo}
 use Rattle.network_machine.specs.Endings.{IsEnding}
 use Rattle.network_run.specs.LockedUp.{MovesLockUp}
-use Rattle.network_run.specs.declared.replaying.Made.{Made}
-use Rattle.network_run.specs.declared.replaying.Made.TheVariants.{Ended}
-use Rattle.network_run.specs.Replays.{RunEnds, IsMade}
+use Rattle.network_run.specs.Replays.{RunEnds}
 
 -- the events of a run, of which each is its move
 pub record IsRunBy (n : Net) (s t : NetState) (moves : List Move) : Type 0 where
@@ -105,10 +103,3 @@ run_ends n depth moves ending a b opened moved same ended = record {
   ends = ended;
   locks = λ locked. locked_by n depth moves a b opened moved same (subst (λ (e : Ending). IsEnding b e) locked ended);
 }
-
--- moves that are found to end deadlocked
-pub made_locked : (n : NetworkSpec) (depth : ℕ) (moves found : List Move) (m : Made) (e : Ending) → m ≡ Ended e → e ≡ Locked → moves ≡ found
-    → IsMade n depth moves m → MovesLockUp n depth found
-made_locked n depth moves found m e is locked same made =
-    (let ended : RunEnds n depth moves e = subst (λ (k : Made). IsMade n depth moves k) is made in
-    subst (λ (ms : List Move). MovesLockUp n depth ms) same (ended.locks locked))

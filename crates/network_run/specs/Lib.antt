@@ -4,5 +4,6 @@ pub mod Moved
 pub mod Replays
 pub mod Written
 pub mod LockedUp
+pub mod Filling
 pub mod Printed
 pub mod Answers

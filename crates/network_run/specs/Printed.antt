@@ -1,6 +1,6 @@
 -- What is answered where the run is asked for by which a network deadlocks (this project's own
 -- format).
-use Rattle.std.specs.Prelude.{◌≡◌, ◌⊎◌, ℕ, List, Vec, Option, None, IfSome}
+use Rattle.std.specs.Prelude.{◌≡◌, ℕ, zero, suc, List, Vec, Option, None, IsSomeAnd}
 use Rattle.network_judge.specs.declared.table.Verdict.{Verdict}
 use Rattle.network_judge.specs.declared.table.Verdict.TheVariants.{Rising, NoRoute, Cycle}
 use Rattle.network_judge.specs.Verdicts.{IsVerdict}
@@ -11,11 +11,12 @@ use Rattle.network_machine.specs.declared.moves.Move.{Move}
 use Rattle.network_run.specs.LockedUp.{MovesLockUp}
 use Rattle.network_run.specs.Written.{moves_text}
 
--- moves, if any are found, deadlock the network
+-- moves are found that deadlock the network, if its channels hold flits
 abbrev pub IsLockingRun : {A : Type 0} → NetworkSpec → ℕ → Option (Vec Move A) → Type 0
-IsLockingRun n depth found = IfSome found (λ moves. MovesLockUp n depth moves.items)
+IsLockingRun n zero found = found ≡ None
+IsLockingRun n (suc d) found = IsSomeAnd found (λ moves. MovesLockUp n (suc d) moves.items)
 
--- moves are found only where the verdict is a cycle
+-- moves are found exactly where the verdict is a cycle
 abbrev pub FindsRun : {A : Type 0} → NetworkSpec → ℕ → Verdict A → Option (Vec Move A) → Type 0
 FindsRun n depth (Rising numbers) found = found ≡ None
 FindsRun n depth (NoRoute r) found = found ≡ None
@@ -27,14 +28,18 @@ pub record IsTextOfRun (n : NetworkSpec) (depth : ℕ) (text : List ℕ) : Type 
   pub locks : MovesLockUp n depth moves
   pub is : text ≡ moves_text moves
 
+-- the text of a run, if the channels hold flits, and else that of the verdict
+abbrev pub IsOfCycle : {A : Type 0} → NetworkSpec → ℕ → Verdict A → List ℕ → Type 0
+IsOfCycle n zero v text = text ≡ verdict_text v
+IsOfCycle n (suc d) v text = IsTextOfRun n (suc d) text
+
 -- the text of the verdict, or where that is a cycle, that of a run
 abbrev pub IsOfVerdict : {A : Type 0} → NetworkSpec → ℕ → Verdict A → List ℕ → Type 0
 IsOfVerdict {A} n depth (Rising numbers) text = text ≡ verdict_text {A = A} (Rising numbers)
 IsOfVerdict {A} n depth (NoRoute r) text = text ≡ verdict_text {A = A} (NoRoute r)
-IsOfVerdict {A} n depth (Cycle links) text =
-    (text ≡ verdict_text {A = A} (Cycle links)) ⊎ IsTextOfRun n depth text
+IsOfVerdict {A} n depth (Cycle links) text = IsOfCycle {A = A} n depth (Cycle links) text
 
--- what is answered of a network: the text of a run by which it deadlocks, only if there is one, and
+-- what is answered of a network: the text of a run by which it deadlocks, where there is a cycle, and
 -- else that of its verdict; and whether its numbers rise
 pub record AnswersRun {A : Type 0} (n : NetworkSpec) (depth : ℕ) (a : Answer A) : Type 0 where
   pub verdict : Verdict A

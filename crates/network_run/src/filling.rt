@@ -1,8 +1,11 @@
-//! The moves that fill the channels of a jam. What they come to is asked of the network itself.
+//! The moves that fill the channels of a jam.
 
-ghost use Rattle.std.specs.Prelude.{◌≡◌, ◌≤◌};
+ghost use Rattle.std.specs.Prelude.{◌≡◌, ◌≤◌, ◌++◌, ℕ, IfOk, OnOk};
 ghost use Rattle.network_judge.specs.Columns.{AreColumns};
 ghost use Rattle.network_judge.specs.Table.{columns_of};
+ghost use Rattle.network_judge.specs.Ways.{IsWay};
+ghost use Rattle.network_judge.specs.Jams.{AreFilledInTurn};
+ghost use Rattle.network_run.specs.Filling.{IsWayOf, packet_moves, fill_moves, jam_moves};
 
 use network_judge::Fill;
 use network_judge::check::next_of;
@@ -30,13 +33,15 @@ fn way_of<A: Allocator + Copy>(
 ) -> Result<Way<A>, AllocError>
     requires columns { AreColumns network.now.table.kinds columns.now }
     requires width { width ≡ columns_of network.now.table }
+    ensures { IfOk result (λ way. (len : ℕ) → IsWay network.now.table fill.from fill.to len
+        → fill.step ≤ len → IsWayOf network.now.table fill way.before.items way.last) }
 {
     let (kinds, joins, choices) = (network.kinds(), network.joins(), network.choices());
     let mut before = Vec::new(alloc);
     let mut last = fill.from;
     for _step in 0..fill.step {
         match next_of(kinds, joins, choices, columns, width, last, fill.to) {
-            None => break,
+            None => return Ok(Way { before, last }),
             Some(next) => {
                 before.push(last)?;
                 last = next;
@@ -53,7 +58,9 @@ fn put_packet<A: Allocator>(
     moves: &mut Vec<Move, A>,
     before: &[usize],
     packet: Packet,
-) -> Result<(), AllocError> {
+) -> Result<(), AllocError>
+    ensures { OnOk result (moves.new.items ≡ moves.old.items ++ packet_moves packet before.now) }
+{
     moves.push(Move::Send(packet))?;
     for x in before {
         moves.push(Move::Take(*x))?;
@@ -74,6 +81,8 @@ fn put_fill<A: Allocator>(
     depth: u64,
 ) -> Result<(), AllocError>
     requires { depth ≤ 8 }
+    ensures { OnOk result (moves.new.items
+        ≡ moves.old.items ++ fill_moves packet way.now.before.items way.now.last depth) }
 {
     if way.last != packet.to {
         put_packet(moves, &way.before, packet)?;
@@ -96,6 +105,8 @@ pub(crate) fn filling_moves<A: Allocator + Copy>(
     depth: u64,
 ) -> Result<Vec<Move, A>, AllocError>
     requires { depth ≤ 8 }
+    ensures { IfOk result (λ moves. AreFilledInTurn network.now.table fills.now
+        → moves.items ≡ jam_moves network.now.table depth fills.now) }
 {
     let columns = columns_of(alloc, network.kinds())?;
     let width = ends_of(alloc, network.kinds())?.len();

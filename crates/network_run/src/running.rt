@@ -2,38 +2,18 @@
 
 ghost use Rattle.std.specs.Prelude.{◌≡◌, ◌≤◌, IfOk};
 ghost use Rattle.network_judge.specs.Verdicts.{AllArrive, IsVerdict};
+ghost use Rattle.network_judge.specs.Cycles.{IsCycle};
 ghost use Rattle.network_text.specs.Answer.{is_rising};
 ghost use Rattle.network_run.specs.Printed.{FindsRun, IsLockingRun, AnswersRun};
 
 use crate::filling::filling_moves;
-use crate::replaying::{Made, make_moves};
 use crate::writing::moves_text;
 use network_judge::{Fill, Link, Verdict, find_jam};
-use network_machine::{Ending, Move};
+use network_machine::Move;
 use network_text::{Answer, Network, judge_network, verdict_text};
 use std::alloc::{AllocError, Allocator};
 
-/// The moves that fill a jam, if they deadlock the network.
-///
-/// Errors: out of memory.
-fn locking_run<A: Allocator + Copy>(
-    alloc: A,
-    network: &Network<A>,
-    fills: &[Fill],
-    depth: u64,
-) -> Result<Option<Vec<Move, A>>, AllocError>
-    requires arrive { AllArrive network.now.table }
-    requires depth { depth ≤ 8 }
-    ensures { IfOk result (IsLockingRun network.now depth) }
-{
-    let moves = filling_moves(alloc, network, fills, depth)?;
-    match make_moves(alloc, network, &moves, depth)? {
-        Made::Ended(Ending::Locked) => Ok(Some(moves)),
-        _ => Ok(None),
-    }
-}
-
-/// A run by which a network with a cycle deadlocks, if one is found.
+/// A run by which a network with a cycle deadlocks; none where its channels hold no flit.
 ///
 /// Errors: out of memory.
 fn run_of_cycle<A: Allocator + Copy>(
@@ -43,9 +23,13 @@ fn run_of_cycle<A: Allocator + Copy>(
     depth: u64,
 ) -> Result<Option<Vec<Move, A>>, AllocError>
     requires arrive { AllArrive network.now.table }
+    requires cycle { IsCycle network.now.table network.now.replies links.now }
     requires depth { depth ≤ 8 }
     ensures { IfOk result (IsLockingRun network.now depth) }
 {
+    if depth == 0 {
+        return Ok(None);
+    }
     let found = find_jam(
         alloc,
         network.kinds(),
@@ -56,11 +40,11 @@ fn run_of_cycle<A: Allocator + Copy>(
     )?;
     match found {
         None => Ok(None),
-        Some(fills) => locking_run(alloc, network, &fills, depth),
+        Some(fills) => Ok(Some(filling_moves(alloc, network, &fills, depth)?)),
     }
 }
 
-/// A run by which a network with this verdict deadlocks, if it is a cycle and one is found.
+/// A run by which a network with this verdict deadlocks, if it is a cycle.
 ///
 /// Errors: out of memory.
 fn run_of<A: Allocator + Copy>(

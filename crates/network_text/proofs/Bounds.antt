@@ -1,5 +1,5 @@
 -- How many choices there may be.
-use Rattle.std.proofs.Common.{◌≡◌, ℕ, ◌+◌, ◌*◌, ◌^◌, ◌<◌, ◌≤◌, ap, sym, subst, arith}
+use Rattle.std.proofs.Common.{◌≡◌, ℕ, ◌+◌, ◌*◌, ◌^◌, ◌<◌, ◌≤◌, sym, subst, arith}
 use Rattle.std.proofs.Math.Nat.{mul-le-mul_right}
 
 -- with one ejection channel more there are few more

@@ -2,7 +2,7 @@
 -- own format).
 use Rattle.std.specs.Prelude.{◌≡◌, ◌⊎◌, ℕ, ◌+◌, ◌-◌, ◌<◌, ◌==◌, Bool, true, false}
 use Rattle.std.specs.Prelude.{if◌then◌else◌, List, [], ◌++◌, length, slice_index, Vec}
-use Rattle.std.specs.Prelude.{Result, Ok, Err, Option, None, IfSome, codes, decimal}
+use Rattle.std.specs.Prelude.{Result, Ok, Err, Option, None, IsSomeAnd, codes, decimal}
 use Rattle.std.specs.List.{flat_map, range_with_len}
 use Rattle.torus.specs.declared.fault.Fault.TheVariants as fault
 use Rattle.script.specs.declared.fault.LineFault.{LineFault}
@@ -112,19 +112,20 @@ pub record IsJamText (n : NetworkSpec) (text : List ℕ) : Type 0 where
   pub is : text ≡ jam_text jam
   pub locks : AlwaysLocksUp n
 
--- what is found of a network with a verdict: a jam or none where it is a cycle, and else none; with
--- numbers the network is free of deadlock
+-- what is found of a network with a verdict: a jam where it is a cycle, and else none; with numbers
+-- the network is free of deadlock
 abbrev pub IsFoundVerdict : {A : Type 0} → NetworkSpec → Verdict A → Option (Vec Fill A) → Type 0
 IsFoundVerdict n (Rising numbers) found = (found ≡ None) × NeverLocksUp n
 IsFoundVerdict n (NoRoute r) found = found ≡ None
-IsFoundVerdict n (Cycle links) found = IfSome found (λ jam. IsJam n.table n.replies jam.items)
+IsFoundVerdict n (Cycle links) found =
+    IsSomeAnd found (λ jam. IsJam n.table n.replies jam.items)
 
--- what may stand behind the text of a verdict: nothing behind numbers, with which the network is
--- free of deadlock, nor behind a pair without a route; behind a cycle nothing, or the text of a jam
+-- what stands behind the text of a verdict: nothing behind numbers, with which the network is free
+-- of deadlock, nor behind a pair without a route; behind a cycle the text of a jam
 abbrev pub IsBehind : {A : Type 0} → NetworkSpec → Verdict A → List ℕ → Type 0
 IsBehind n (Rising numbers) behind = (behind ≡ []) × NeverLocksUp n
 IsBehind n (NoRoute r) behind = behind ≡ []
-IsBehind n (Cycle links) behind = (behind ≡ []) ⊎ IsJamText n behind
+IsBehind n (Cycle links) behind = IsJamText n behind
 
 -- what is written of a network with a verdict: the text of the verdict, and what stands behind it
 pub record IsJudgedText {A : Type 0} (n : NetworkSpec) (v : Verdict A) (text : List ℕ) : Type 0

@@ -3,11 +3,11 @@
 use Rattle.std.specs.Prelude.{◌≡◌, ◌⊎◌, ℕ, ◌+◌, ◌*◌, ◌^◌, ◌==◌, ◌&&◌, Bool, true, false, not}
 use Rattle.std.specs.Prelude.{nat_le, nat_lt, List, [], ◌∷◌, ◌++◌}
 use Rattle.std.specs.Prelude.{length, replicate, slice_index, slice_index_or, slice_get, slice_set}
-use Rattle.std.specs.Prelude.{Result, Ok, Err, Option, Some, None, ok_or, if◌then◌else◌}
+use Rattle.std.specs.Prelude.{Result, Ok, Err, Option, Some, None, if◌then◌else◌}
 use Rattle.std.specs.List.{list_any}
 use Rattle.lexer.specs.Words.{words_of, begins_comment}
 use Rattle.lexer.specs.declared.refusal.Refusal.{Refusal}
-use Rattle.lexer.specs.Outcome.{◌>>=◌, then_lines}
+use Rattle.lexer.specs.Outcome.{then_lines}
 use Rattle.script.specs.declared.fault.LineFault.{LineFault}
 use Rattle.script.specs.Outcome.{by_fault}
 use Rattle.network_text.specs.declared.reason.Keyword.{Keyword}

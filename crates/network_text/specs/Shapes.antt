@@ -1,7 +1,7 @@
 -- The words behind a keyword of the network text (this project's own format): what a line makes that
 -- is given by their numbers, and why they are refused.
 use Rattle.std.specs.Prelude.{ℕ, ◌&&◌, Bool, true, false, nat_le, List, [], ◌∷◌, length}
-use Rattle.std.specs.Prelude.{Result, Ok, Err, Option, Some, None, ok_or, if◌then◌else◌}
+use Rattle.std.specs.Prelude.{Result, Err, Option, Some, None, ok_or, if◌then◌else◌}
 use Rattle.std.specs.List.{list_all}
 use Rattle.std.specs.Char.{is_ascii_graphic}
 use Rattle.lexer.specs.Numbers.{index_of}

@@ -15,7 +15,7 @@ use torus::Fault;
 /// What is answered to a network text.
 #[derive(Drop)]
 pub struct Answer<A: Allocator = Global> {
-    /// The text of the verdict, and behind a cycle that of a jam, where one is found.
+    /// The text of the verdict, and behind a cycle that of a jam.
     pub text: Vec<u8, A>,
     /// Whether the channels' numbers rise.
     pub rising: bool,

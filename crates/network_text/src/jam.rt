@@ -38,7 +38,7 @@ fn put_jam<A: Allocator>(out: &mut Vec<u8, A>, fills: &[Fill]) -> Result<(), All
     out.extend_from_slice(b"locks up\n")
 }
 
-/// A jam of a network with this verdict, if it is a cycle and one is found.
+/// A jam of a network with this verdict, if it is a cycle.
 ///
 /// Errors: out of memory.
 pub(crate) fn jam_of<A: Allocator + Copy>(
@@ -64,8 +64,7 @@ pub(crate) fn jam_of<A: Allocator + Copy>(
     }
 }
 
-/// The text of what is judged of a network: that of its verdict, and behind a cycle that of a jam,
-/// where one is found.
+/// The text of what is judged of a network: that of its verdict, and behind a cycle that of a jam.
 ///
 /// Errors: out of memory.
 pub fn judged_text<A: Allocator + Copy>(

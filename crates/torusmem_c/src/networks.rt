@@ -42,7 +42,7 @@ fn put_verdict(
 }
 
 /// Judges the network of a text, and puts the text of the verdict into a buffer, and behind a cycle
-/// that of a jam, where one is found.
+/// that of a jam.
 ///
 /// Errors: the text's first fault, or out of memory. The buffer is as it was then.
 #[unsafe(no_mangle)]

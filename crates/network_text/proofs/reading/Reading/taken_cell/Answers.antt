@@ -1,12 +1,10 @@
-use Rattle.std.proofs.Common.{◌≡◌, ◌<◌, ℕ, true, sym, ◌∙◌, ap, arith, length}
-use Rattle.std.specs.Prelude.{slice_get}
+use Rattle.std.proofs.Common.{◌<◌, sym, ◌∙◌, arith}
 use Rattle.std.proofs.lemmas.Bool.{ne_eqb}
 use Rattle.std.proofs.lemmas.List.{get_or_read}
-use Rattle.network_judge.specs.Table.{is_receiver}
 use Rattle.network_text.specs.Network.{count_of}
 use Rattle.network_text.specs.Reading.{reading_of}
 use Rattle.network_text.proofs.Begun.{begun_same, not_taken, is_taken}
-use Rattle.network_text.proofs.Cells.{Cell, cell_at}
+use Rattle.network_text.proofs.Cells.{cell_at}
 use Rattle.network_text.proofs.reading.Reading.taken_cell.Goals as goal
 
 pub overflow_add-cell : goal.overflow_add-cell
