@@ -11,8 +11,8 @@ ghost use Rattle.trace_watch.specs.Matchings.{IsPart};
 ghost use Rattle.trace_watch.specs.Closed.{CatchesUp, Closes, Expands, IsOneMore};
 
 use crate::index::{Index, widen};
-use crate::matching::fits;
-use crate::state::{State, changed, copy_of, is_idle};
+use crate::matching::{newest_left, partners};
+use crate::state::{State, changed, copy_of, effect_of, is_idle};
 use crate::watch::Full;
 use std::alloc::{AllocError, Allocator};
 use trace_laws::Call;
@@ -75,11 +75,14 @@ fn attempt<A: Allocator + Copy>(
     index: &mut Index<A>,
     at: usize,
     calls: &[Call],
+    taken: &[u64],
     call: Call,
     bound: usize,
 ) -> Result<(), Full>
     requires inside { at < length found.old.items }
     requires indexed { IsIndexed index.old (configs_of found.old.items) }
+    requires partners { (c : Config) → slice_get (configs_of found.old.items) at ≡ Some c
+        → ArePartners calls.now c.effects taken.now }
     ensures expands { OnOk result (Expands at calls.now (call ∷ [])
         (configs_of found.old.items) (configs_of found.new.items)) }
     ensures full { IfErr result (λ full. full ≡ Configurations → GivesUp calls.now (call ∷ []) bound
@@ -91,11 +94,10 @@ fn attempt<A: Allocator + Copy>(
     if is_idle(call.operation.op, state.word) {
         return Ok(());
     }
-    let next = changed(alloc, state, calls, call)?;
-    let enough = fits(alloc, calls, &next.effects)?;
-    if !enough {
+    if newest_left(calls, taken, effect_of(state, call)).is_none() {
         return Ok(());
     }
+    let next = changed(alloc, state, calls, call)?;
     add_within(found, index, next, bound)?;
     Ok(())
 }
@@ -119,8 +121,11 @@ fn expand<A: Allocator + Copy>(
     ensures few { OnOk result (length found.new.items ≤ max bound (length found.old.items)) }
     ensures indexed { OnOk result (IsIndexed index.new (configs_of found.new.items)) }
 {
+    let Some(taken) = partners(alloc, calls, &found[at].effects)? else {
+        return Ok(());
+    };
     for i in 0..newest.len() {
-        attempt(alloc, found, index, at, calls, newest[i], bound)?;
+        attempt(alloc, found, index, at, calls, &taken, newest[i], bound)?;
     }
     Ok(())
 }
