@@ -1,13 +1,13 @@
 //! Lets open operations take effect.
 
-ghost use Rattle.std.specs.Prelude.{◌≡◌, ◌<◌, ◌≤◌, ℕ, List, [], ◌∷◌, ◌++◌, IfErr, IfOk, OnOk};
-ghost use Rattle.std.specs.Prelude.{length, max};
+ghost use Rattle.std.specs.Prelude.{◌≡◌, ◌<◌, ◌≤◌, ℕ, List, [], ◌∷◌, ◌++◌, IfErr, IfOk, OnOk, Some};
+ghost use Rattle.std.specs.Prelude.{length, max, slice_get};
 ghost use Rattle.trace_laws.specs.declared.event.Call.{Call};
 ghost use Rattle.trace_watch.specs.States.{Config, config_of, configs_of};
 ghost use Rattle.trace_watch.specs.declared.watch.Full.TheVariants.{Configurations};
 ghost use Rattle.trace_watch.specs.Chains.{IsIndexed};
 ghost use Rattle.trace_watch.specs.Crowds.{GivesUp, IsOpenCrowd, IsOverfullCrowd};
-ghost use Rattle.trace_watch.specs.Matchings.{IsPart};
+ghost use Rattle.trace_watch.specs.Matchings.{ArePartners, IsPart};
 ghost use Rattle.trace_watch.specs.Closed.{CatchesUp, Closes, Expands, IsOneMore};
 
 use crate::index::{Index, widen};
@@ -36,10 +36,11 @@ pub(crate) fn add<A: Allocator + Copy>(
         (IsOneMore (configs_of found.old.items) (config_of state) (configs_of found.new.items)) }
     ensures indexed { OnOk result (IsIndexed index.new (configs_of found.new.items)) }
 {
-    if index.is_there(found, &state) {
+    let place = index.place(&state);
+    if index.is_there(found, &state, place) {
         return Ok(());
     }
-    index.note(&state)?;
+    index.note(place)?;
     push(found, state)?;
     Ok(())
 }
@@ -94,9 +95,9 @@ fn attempt<A: Allocator + Copy>(
     if is_idle(call.operation.op, state.word) {
         return Ok(());
     }
-    if newest_left(calls, taken, effect_of(state, call)).is_none() {
+    let Some(_) = newest_left(calls, taken, effect_of(state, call)) else {
         return Ok(());
-    }
+    };
     let next = changed(alloc, state, calls, call)?;
     add_within(found, index, next, bound)?;
     Ok(())

@@ -3,8 +3,9 @@
 ghost use Rattle.std.specs.Prelude.{◌≡◌, ℕ, Some, true, false, IfOk, OnOk, MatchOption, slice_get};
 ghost use Rattle.trace_laws.specs.declared.event.Call.{Call};
 ghost use Rattle.trace_watch.specs.States.{config_of};
-ghost use Rattle.trace_watch.specs.Lowered.{AreLowered, AreLoweredGlimpses, IsBounded, IsLowered};
-ghost use Rattle.trace_watch.specs.Lowered.{IsNewerFinder, IsNewestFinder, MayFind, NotesGlimpse};
+ghost use Rattle.trace_watch.specs.Lowered.{AreLowered, AreLoweredGlimpses, IsBounded, IsLowered, MayFind};
+ghost use Rattle.trace_watch.specs.Lowered.{NotesGlimpse};
+ghost use Rattle.trace_watch.specs.Matchings.{IsNewestOf};
 
 use crate::glimpses::has_glimpse;
 use crate::matching::{newer, newest_of};

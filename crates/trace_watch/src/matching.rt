@@ -3,7 +3,8 @@
 ghost use Rattle.std.specs.Prelude.{◌≡◌, ◌<◌, ◌≤◌, ℕ, Some, true, false, IfOk, MatchOption, slice_get, length};
 ghost use Rattle.trace_laws.specs.declared.event.Call.{Call};
 ghost use Rattle.trace_laws.specs.Configs.{IsIn};
-ghost use Rattle.trace_watch.specs.Matchings.{AreDistinctPartners, FitsPartner, HasAsNew, HasNewest, IsNewer, IsNewestOf, MayBe};
+ghost use Rattle.trace_watch.specs.Matchings.{AreDistinctPartners, ArePartners, FitsPartner, HasAsNew, HasNewest};
+ghost use Rattle.trace_watch.specs.Matchings.{IsNewer, IsNewestOf, MayBe, MayTake};
 
 use crate::state::Effect;
 use std::alloc::{AllocError, Allocator};
@@ -46,7 +47,7 @@ fn may_take(taken: &[u64], effect: Effect, call: Call) -> bool
     ensures yes { result ≡ true → MayTake taken.now effect call }
     ensures no { result ≡ false → MayTake taken.now effect call → ⊥ }
 {
-    may_be(effect, call) && !is_taken(taken, call.id)
+    call.id <= effect.newest && !is_taken(taken, call.id) && call.operation.op == effect.op
 }
 
 /// Of some operations but for those of these numbers the newest one that an effect may be of.
@@ -105,8 +106,10 @@ pub(crate) fn fits<A: Allocator>(
     ensures no { IfOk result (λ yes. yes ≡ false → AreDistinctPartners calls.now
         → FitsPartner (IsIn calls.now) effects.now → ⊥) }
 {
-    let taken = partners(alloc, calls, effects)?;
-    Ok(taken.is_some())
+    let Some(_taken) = partners(alloc, calls, effects)? else {
+        return Ok(false);
+    };
+    Ok(true)
 }
 
 /// Whether one of some operations asks the same as this one, and is as new.

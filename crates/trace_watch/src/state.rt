@@ -3,7 +3,7 @@
 ghost use Rattle.std.specs.Prelude.{◌≡◌, ◌<◌, ◌≤◌, ◌++◌, ◌∷◌, [], ℕ, List, Some, true, false, IfOk, length, slice_get};
 ghost use Rattle.std.specs.List.{insert, remove};
 ghost use Rattle.packet.specs.Memory.{new_word};
-ghost use Rattle.trace_watch.specs.States.{AreCovered, Covers, changed, config_of, is_idle, less_one, taken};
+ghost use Rattle.trace_watch.specs.States.{AreCovered, Covers, changed, config_of, effect_of, is_idle, less_one, taken};
 ghost use Rattle.trace_watch.specs.States.{first_value, is_before, rank, second_value, spot, told_word};
 
 use crate::glimpses::{are_seen, seen_by};
