@@ -1,5 +1,5 @@
 -- The loops over effects and the operations that they take.
-use Rattle.std.proofs.Common.{◌≡◌, ◌≢◌, ◌⊎◌, inl, inr, ⊎_elim, ℕ, suc, ◌+◌, ◌<◌, ◌≤◌, List, [], ◌∷◌, ◌++◌, length, Option, Some, None, refl, sym, ◌∙◌, ap, subst, arith, slice_get}
+use Rattle.std.proofs.Common.{◌≡◌, ◌≢◌, ◌⊎◌, inl, inr, ⊎_elim, ℕ, suc, ◌+◌, ◌≤◌, List, [], ◌∷◌, ◌++◌, length, Option, Some, None, refl, sym, ◌∙◌, ap, subst, arith, slice_get}
 use Rattle.std.proofs.Common.{append-nil}
 use Rattle.std.specs.List.{insert}
 use Rattle.std.specs.Prelude.{MatchOption, Vec, drop}
@@ -8,7 +8,7 @@ use Rattle.trace_laws.specs.declared.event.Call.{Call}
 use Rattle.trace_laws.proofs.Lists.{get_append_left, get_push, get_push_cases, get_within}
 use Rattle.trace_laws.specs.Configs.{IsIn}
 use Rattle.trace_watch.specs.declared.state.Effect.{Effect}
-use Rattle.trace_watch.specs.Matchings.{AreDistinctPartners, ArePartners, FitsPartner, HasAsNew, HasNewest, IsLeft, IsNewestOf, Matches, MayBe, MayTake, Other}
+use Rattle.trace_watch.specs.Matchings.{AreDistinctPartners, ArePartners, FitsPartner, HasAsNew, HasNewest, IsLeft, IsNewestOf, Matches, MayTake, Other}
 use Rattle.trace_watch.proofs.Matched.{fits_weaken, insert_middle, match_insert, match_take, newest_back, newest_first, weaken}
 use Rattle.trace_watch.proofs.Sifting.{drop_at, drop_end}
 

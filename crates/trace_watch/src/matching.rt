@@ -15,7 +15,7 @@ pub(crate) fn may_be(effect: Effect, call: Call) -> bool
     ensures yes { result ≡ true → MayBe effect call }
     ensures no { result ≡ false → MayBe effect call → ⊥ }
 {
-    call.operation.op == effect.op && call.id <= effect.newest
+    call.id <= effect.newest && call.operation.op == effect.op
 }
 
 /// The newer one of an operation and the newest so far.
@@ -47,7 +47,7 @@ fn may_take(taken: &[u64], effect: Effect, call: Call) -> bool
     ensures yes { result ≡ true → MayTake taken.now effect call }
     ensures no { result ≡ false → MayTake taken.now effect call → ⊥ }
 {
-    call.id <= effect.newest && !is_taken(taken, call.id) && call.operation.op == effect.op
+    !is_taken(taken, call.id) && may_be(effect, call)
 }
 
 /// Of some operations but for those of these numbers the newest one that an effect may be of.

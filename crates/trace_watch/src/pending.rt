@@ -28,10 +28,8 @@ pub(crate) fn with_call<A: Allocator>(
 ) -> Result<Vec<Call, A>, AllocError>
     ensures { IfOk result (λ v. v.items ≡ calls.now ++ call ∷ []) }
 {
-    let mut more = Vec::new(alloc);
-    for i in 0..calls.len() {
-        more.push(calls[i])?;
-    }
+    let mut more = Vec::with_capacity(alloc, calls.len() + 1)?;
+    more.extend_from_slice(calls)?;
     more.push(call)?;
     Ok(more)
 }
