@@ -20,7 +20,7 @@ use Rattle.trace_watch.proofs.Idle.{IsTightened}
 -- a lowered bound is no higher
 bounded_low : (calls : List Call) (e : Effect) (n : ℕ) → IsBounded calls e n → n ≤ e.newest
 bounded_low calls e n b = ⊎_elim {C = n ≤ e.newest}
-    (λ (c : (call : Call) × IsNewestOf calls e call × (n ≡ call.id)).
+    (λ (c : (call : Call) × IsNewestOf calls (MayBe e) call × (n ≡ call.id)).
     let l = c.1.may.early in let s = c.2 in omega (arith, l, s))
     (λ (u : ((call : Call) → IsIn calls call → MayBe e call → ⊥) × (n ≡ e.newest)). let s = u.1 in omega (arith, s))
     b
@@ -38,7 +38,7 @@ bounded_may : (calls : List Call) (e f : Effect) (c : Call) → f.op ≡ e.op �
 bounded_may calls e f c asks b on may = record {
   asks = may.asks ∙ sym asks;
   early = ⊎_elim {C = c.id ≤ f.newest}
-      (λ (x : (call : Call) × IsNewestOf calls e call × (f.newest ≡ call.id)).
+      (λ (x : (call : Call) × IsNewestOf calls (MayBe e) call × (f.newest ≡ call.id)).
       let l = x.1.newest on.0 c on.1 may in let s = x.2 in omega (arith, l, s))
       (λ (u : ((call : Call) → IsIn calls call → MayBe e call → ⊥) × (f.newest ≡ e.newest)). absurd (u.0 c on may))
       b;

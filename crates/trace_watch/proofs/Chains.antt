@@ -6,7 +6,7 @@ use Rattle.trace_laws.proofs.Lists.{get_push_cases, get_append_left, get_push, g
 use Rattle.trace_watch.specs.declared.index.Index.{Index}
 use Rattle.trace_watch.specs.States.{Config, Covers, IsAmong, config_of, configs_of}
 use Rattle.trace_watch.specs.Crowds.{AreUnlike, IsOpenCrowd}
-use Rattle.trace_watch.specs.Chains.{IsMask, IsChain, AreChained, IsIndexed, place_of}
+use Rattle.trace_watch.specs.Chains.{IsMask, IsChain, IsPlaceOf, AreChained, IsIndexed, place_of}
 use Rattle.trace_watch.specs.declared.state.State.{State}
 use Rattle.trace_watch.proofs.Grown.{goes_back, goes_push, configs_push, long_configs}
 use Rattle.trace_watch.proofs.Loops.{config_at}
@@ -35,7 +35,7 @@ chain_on links at l i (j ∷ way) there ne h =
     (way, subst (λ (n : ℕ). IsChain links n i way) one h.3)
 
 -- one configuration more is put into its chain
-pub chained_more : (heads links : List ℕ) (found : List Config) (word mask head : ℕ) (c : Config) (later more : List ℕ)
+chained_more : (heads links : List ℕ) (found : List Config) (word mask head : ℕ) (c : Config) (later more : List ℕ)
     → 0 < length heads → c.word ≡ word → IsMask c.effects mask
     → slice_get heads (place_of (length heads) word mask) ≡ Some head
     → more ≡ links ++ head ∷ [] → later ≡ set heads (place_of (length heads) word mask) (length links + 1)
@@ -112,6 +112,18 @@ chained_more heads links found word mask head c later more some is masked there 
         ([], omega (arith, f, same)))
         (λ (ne : i ≢ length links). old i d m h (omega (arith, l, long)) on is_mask e)
         (cases_eq i (length links))
+
+-- at the place that was found for it
+pub chained_there : (heads links : List ℕ) (found : List Config) (c : Config) (place n head : ℕ) (more : List ℕ)
+    → place < length heads → IsPlaceOf (length heads) c place → slice_get heads place ≡ Some head
+    → more ≡ links ++ head ∷ [] → n ≡ length more → slice_get found (length links) ≡ Some c
+    → AreChained heads links found → AreChained (set heads place n) more found
+chained_there heads links found c place n head more low p there pushed all here are =
+    let newest : n ≡ length links + 1 =
+    all ∙ (ap (λ (xs : List ℕ). length xs) pushed ∙ length-append links (head ∷ [])) in
+    chained_more heads links found c.word p.0 head c (set heads place n) more (omega arith) refl p.1
+    (ap (λ (k : ℕ). slice_get heads k) (sym p.2) ∙ there) pushed
+    (ap (λ (k : ℕ). set heads k n) p.2 ∙ ap (λ (m : ℕ). set heads (place_of (length heads) c.word p.0) m) newest) here are
 
 -- longer lists of configurations
 chained_longer : (heads links : List ℕ) (found more : List Config) → length links ≡ length found

@@ -1,177 +1,173 @@
--- The loop that looks for an operation of its own for each effect.
-use Rattle.std.proofs.Common.{◌≡◌, ◌≢◌, ◌⊎◌, ◌↔◌, inl, inr, ⊎_elim, ℕ, suc, ◌+◌, ◌<◌, ◌≤◌, List, [], ◌∷◌, ◌++◌, length, Option, Some, None, refl, sym, ◌∙◌, ap, subst, arith, slice_get}
-use Rattle.std.specs.Prelude.{MatchOption, drop}
+-- The loops over effects and the operations that they take.
+use Rattle.std.proofs.Common.{◌≡◌, ◌≢◌, ◌⊎◌, inl, inr, ⊎_elim, ℕ, suc, ◌+◌, ◌≤◌, List, [], ◌∷◌, ◌++◌, length, Option, Some, None, refl, sym, ◌∙◌, ap, subst, arith, slice_get}
+use Rattle.std.proofs.Common.{append-nil}
+use Rattle.std.specs.List.{insert}
+use Rattle.std.specs.Prelude.{MatchOption, Vec, drop}
 use Rattle.std.proofs.lemmas.Bool.{cases_eq}
 use Rattle.trace_laws.specs.declared.event.Call.{Call}
 use Rattle.trace_laws.proofs.Lists.{get_append_left, get_push, get_push_cases, get_within}
 use Rattle.trace_laws.specs.Configs.{IsIn}
 use Rattle.trace_watch.specs.declared.state.Effect.{Effect}
-use Rattle.trace_watch.specs.Matchings.{AreDistinctPartners, FitsPartner, HasAsNew, HasNewest, IsNewer, IsNewestOf, IsPart, MayBe, Other}
-use Rattle.trace_watch.proofs.Matched.{fits_weaken, newest_back, newest_first}
+use Rattle.trace_watch.specs.Matchings.{AreDistinctPartners, ArePartners, FitsPartner, HasAsNew, HasNewest, IsLeft, IsNewestOf, Matches, MayTake, Other}
+use Rattle.trace_watch.proofs.Matched.{fits_weaken, insert_middle, match_insert, match_take, newest_back, newest_first, weaken}
 use Rattle.trace_watch.proofs.Sifting.{drop_at, drop_end}
 
--- what is left for the effects from place i on
-pub record Fitting (calls : List Call) (effects : List Effect) (i : ℕ) (left : List Call) : Type 0 where
-  pub part : IsPart left calls
-  pub up : FitsPartner (IsIn left) (drop i effects) → FitsPartner (IsIn calls) effects
-  pub down : AreDistinctPartners calls → FitsPartner (IsIn calls) effects → FitsPartner (IsIn left) (drop i effects)
+-- what is left for the effects from place i on, and others
+pub record Fitting (calls : List Call) (effects : List Effect) (i : ℕ) (taken : List ℕ) : Type 0 where
+  pub up : (more : List Effect) → FitsPartner (IsLeft calls taken) (drop i effects ++ more)
+      → FitsPartner (IsIn calls) (effects ++ more)
+  pub down : AreDistinctPartners calls → (more : List Effect) → FitsPartner (IsIn calls) (effects ++ more)
+      → FitsPartner (IsLeft calls taken) (drop i effects ++ more)
 
-pub fitting_none : (calls left : List Call) (effects : List Effect) → left ≡ calls → Fitting calls effects 0 left
-fitting_none calls left effects same = record {
-  part = λ c on. subst (λ (cs : List Call). IsIn cs c) same on;
-  up = λ fit. subst (λ (cs : List Call). FitsPartner (IsIn cs) effects) same fit;
-  down = λ apart fit. subst (λ (cs : List Call). FitsPartner (IsIn cs) effects) (sym same) fit;
-}
+pub nothing_taken : (n : ℕ) → IsIn [] n → ⊥
+nothing_taken n on = let e : None ≡ Some n = on.1 in cc
+
+pub fitting_none : (calls : List Call) (effects : List Effect) (taken : List ℕ) → taken ≡ []
+    → Fitting calls effects 0 taken
+fitting_none calls effects taken none = subst (λ (ns : List ℕ). Fitting calls effects 0 ns) (sym none) (record {
+  up = λ more fit. fits_weaken (IsLeft calls []) (IsIn calls) (λ c left. left.0) (effects ++ more) fit;
+  down = λ apart more fit.
+      fits_weaken (IsIn calls) (IsLeft calls []) (λ c on. (on, nothing_taken c.id)) (effects ++ more) fit;
+})
+
+-- what is left when one more is taken
+left_less : (calls : List Call) (taken : List ℕ) (p c : Call) → IsLeft calls (taken ++ p.id ∷ []) c
+    → Other (IsLeft calls taken) p.id c
+left_less calls taken p c left = (
+  (left.0, λ on. left.1 (on.0, get_append_left taken (p.id ∷ []) on.0 c.id on.1)),
+  λ same. left.1 (length taken, get_push taken p.id ∙ ap (λ (n : ℕ). Some n) (sym same)),
+)
+
+left_more : (calls : List Call) (taken : List ℕ) (p c : Call) → Other (IsLeft calls taken) p.id c
+    → IsLeft calls (taken ++ p.id ∷ []) c
+left_more calls taken p c other = (
+  other.0.0,
+  λ on. ⊎_elim {C = ⊥}
+      (λ (old : slice_get taken on.0 ≡ Some c.id). other.0.1 (on.0, old))
+      (λ (new : (on.0 ≡ length taken) × (p.id ≡ c.id)). other.1 (sym new.1))
+      (get_push_cases taken p.id on.0 c.id on.1),
+)
 
 -- the newest operation is taken
-pub fitting_more : (calls : List Call) (effects : List Effect) (i : ℕ) (left later : List Call) (e : Effect) (p : Call)
-    → slice_get effects i ≡ Some e → IsNewestOf left e p
-    → ((c : Call) → IsIn later c ↔ (IsIn left c × (c.id ≡ p.id → ⊥)))
-    → Fitting calls effects i left → Fitting calls effects (i + 1) later
-fitting_more calls effects i left later e p here best less was = record {
-  part = λ c on. was.part c ((less c).0 on).0;
-  up = λ fit. was.up (subst (λ (es : List Effect). FitsPartner (IsIn left) es) (sym split)
-      (newest_back (IsIn left) e (drop (i + 1) effects) p best.on best.may
-      (fits_weaken (IsIn later) (Other (IsIn left) p.id) (λ c on. (less c).0 on) (drop (i + 1) effects) fit)));
-  down = λ apart fit.
-      let all = subst (λ (es : List Effect). FitsPartner (IsIn left) es) split (was.down apart fit) in
-      fits_weaken (Other (IsIn left) p.id) (IsIn later) (λ c o. (less c).1 o) (drop (i + 1) effects)
-      (newest_first (IsIn left) e (drop (i + 1) effects) p
-      (λ c d in_c in_d same. apart c d (was.part c in_c) (was.part d in_d) same) best.on best.may
-      (λ c on may. best.newest on.0 c on.1 may) all);
-}
+pub fitting_more : (calls : List Call) (effects : List Effect) (i : ℕ) (taken read later : List ℕ) (e : Effect) (p : Call)
+    → slice_get effects i ≡ Some e → read ≡ taken → IsNewestOf calls (MayTake read e) p → later ≡ taken ++ p.id ∷ []
+    → Fitting calls effects i taken → Fitting calls effects (i + 1) later
+fitting_more calls effects i taken read later e p here same found pushed was =
+    subst (λ (ns : List ℕ). Fitting calls effects (i + 1) ns) (sym pushed) (record {
+      up = λ more fit. was.up more (subst (λ (es : List Effect). FitsPartner (IsLeft calls taken) es) (sym (split more))
+          (newest_back (IsLeft calls taken) e (drop (i + 1) effects ++ more) p on best.may.may
+          (fits_weaken (IsLeft calls (taken ++ p.id ∷ [])) (Other (IsLeft calls taken) p.id) (left_less calls taken p)
+          (drop (i + 1) effects ++ more) fit)));
+      down = λ apart more fit.
+          fits_weaken (Other (IsLeft calls taken) p.id) (IsLeft calls (taken ++ p.id ∷ [])) (left_more calls taken p)
+          (drop (i + 1) effects ++ more)
+          (newest_first (IsLeft calls taken) e (drop (i + 1) effects ++ more) p
+          (λ c d in_c in_d one. apart c d in_c.0 in_d.0 one) on best.may.may
+          (λ c left may. best.newest left.0.0 c left.0.1 (record { may = may; left = left.1 }))
+          (subst (λ (es : List Effect). FitsPartner (IsLeft calls taken) es) (split more) (was.down apart more fit)));
+    })
   where
+    best : IsNewestOf calls (MayTake taken e) p
+    best = subst (λ (ns : List ℕ). IsNewestOf calls (MayTake ns e) p) same found
+
+    on : IsLeft calls taken p
+    on = (best.on, best.may.left)
+
     one : suc i ≡ i + 1
     one = omega arith
 
-    split : drop i effects ≡ e ∷ drop (i + 1) effects
-    split = drop_at effects i e here ∙ ap (λ (n : ℕ). e ∷ drop n effects) one
-
--- as the code reads what is left
-pub fitting_taken : (calls : List Call) (effects : List Effect) (i : ℕ) (left later first then : List Call) (e : Effect)
-    (p : Call) → slice_get effects i ≡ Some e → first ≡ left → then ≡ left → IsNewestOf first e p
-    → ((c : Call) → IsIn later c ↔ (IsIn then c × (c.id ≡ p.id → ⊥)))
-    → Fitting calls effects i left → Fitting calls effects (i + 1) later
-fitting_taken calls effects i left later first then e p here read also best less was =
-    fitting_more calls effects i left later e p here (subst (λ (cs : List Call). IsNewestOf cs e p) read best)
-    (subst (λ (cs : List Call). (c : Call) → IsIn later c ↔ (IsIn cs c × (c.id ≡ p.id → ⊥))) also less) was
+    split : (more : List Effect) → drop i effects ++ more ≡ e ∷ (drop (i + 1) effects ++ more)
+    split more = ap (λ (es : List Effect). es ++ more) (drop_at effects i e here)
+        ∙ ap (λ (n : ℕ). e ∷ (drop n effects ++ more)) one
 
 -- there is none
-pub fitting_stuck : (calls : List Call) (effects : List Effect) (i : ℕ) (left : List Call) (e : Effect)
-    → slice_get effects i ≡ Some e
-    → ((k : ℕ) (c : Call) → slice_get left k ≡ Some c → MayBe e c → ⊥) → Fitting calls effects i left
+pub fitting_stuck : (calls : List Call) (effects : List Effect) (i : ℕ) (taken read : List ℕ) (e : Effect)
+    → slice_get effects i ≡ Some e → read ≡ taken
+    → ((k : ℕ) (c : Call) → slice_get calls k ≡ Some c → MayTake read e c → ⊥) → Fitting calls effects i taken
     → AreDistinctPartners calls → FitsPartner (IsIn calls) effects → ⊥
-fitting_stuck calls effects i left e here none was apart fit =
-    stuck (subst (λ (es : List Effect). FitsPartner (IsIn left) es) (drop_at effects i e here) (was.down apart fit))
+fitting_stuck calls effects i taken read e here same none was apart fit =
+    stuck (subst (λ (es : List Effect). FitsPartner (IsLeft calls taken) (es ++ [])) (drop_at effects i e here)
+    (was.down apart [] (subst (λ (es : List Effect). FitsPartner (IsIn calls) es) (sym (append-nil effects)) fit)))
   where
-    stuck : FitsPartner (IsIn left) (e ∷ drop (suc i) effects) → ⊥
+    stuck : FitsPartner (IsLeft calls taken) (e ∷ (drop (suc i) effects ++ [])) → ⊥
     stuck ([], m) = m
-    stuck (c ∷ cs, m) = none m.0.0 c m.0.1 m.1
+    stuck (c ∷ cs, m) = none m.0.0.0 c m.0.0.1
+        (subst (λ (ns : List ℕ). MayTake ns e c) (sym same) (record { may = m.1; left = m.0.1 }))
 
-pub fitting_all : (calls : List Call) (effects : List Effect) (i : ℕ) (left : List Call) → length effects ≤ i
-    → Fitting calls effects i left → FitsPartner (IsIn calls) effects
-fitting_all calls effects i left all was =
-    was.up (subst (λ (es : List Effect). FitsPartner (IsIn left) es) (sym (drop_end effects i all)) ([], tt))
-
--- the newest of the operations before place i that an effect may be of
-pub record IsNewestBelow (calls : List Call) (e : Effect) (i : ℕ) (call : Call) : Type 0 where
-  pub on : IsIn calls call
-  pub may : MayBe e call
-  pub newest : (k : ℕ) (c : Call) → k < i → slice_get calls k ≡ Some c → MayBe e c → c.id ≤ call.id
-
-abbrev pub NewestBelow : List Call → Effect → ℕ → Option Call → Type 0
-NewestBelow calls e i newest = MatchOption newest
-    ((k : ℕ) (c : Call) → k < i → slice_get calls k ≡ Some c → MayBe e c → ⊥)
-    (λ c. IsNewestBelow calls e i c)
-
-pub below_none : (calls : List Call) (e : Effect) → NewestBelow calls e 0 None
-below_none calls e = λ k c l h may. (omega arith)
-
--- the call at a place, or one before it
-at_or_below : (calls : List Call) (i k : ℕ) (call c : Call) → slice_get calls i ≡ Some call → k < i + 1
-    → slice_get calls k ≡ Some c → (call ≡ c) ⊎ (k < i)
-at_or_below calls i k call c here l h = ⊎_elim {C = (call ≡ c) ⊎ (k < i)}
-    (λ (e : k ≡ i).
-    let there : slice_get calls i ≡ Some c = ap (λ (n : ℕ). slice_get calls n) (sym e) ∙ h in inl cc)
-    (λ (ne : k ≢ i). inr (omega arith))
-    (cases_eq k i)
-
--- one more operation, which an effect may not be of
-below_same : (calls : List Call) (e : Effect) (i : ℕ) (last : Option Call) (call : Call)
-    → slice_get calls i ≡ Some call → (MayBe e call → ⊥) → NewestBelow calls e i last → NewestBelow calls e (i + 1) last
-below_same calls e i None call here not was = λ k c l h may. ⊎_elim {C = ⊥}
-    (λ (s : call ≡ c). not (subst (λ (d : Call). MayBe e d) (sym s) may))
-    (λ (m : k < i). was k c m h may)
-    (at_or_below calls i k call c here l h)
-below_same calls e i (Some d) call here not was = record {
-  on = was.on;
-  may = was.may;
-  newest = λ k c l h may. ⊎_elim {C = c.id ≤ d.id}
-      (λ (s : call ≡ c). absurd (not (subst (λ (x : Call). MayBe e x) (sym s) may)))
-      (λ (m : k < i). was.newest k c m h may)
-      (at_or_below calls i k call c here l h);
+pub fitting_all : (calls : List Call) (effects : List Effect) (i : ℕ) (taken : List ℕ) → length effects ≤ i
+    → Fitting calls effects i taken → ArePartners calls effects taken
+fitting_all calls effects i taken all was = record {
+  enough = λ more fit. was.up more (subst (λ (es : List Effect). FitsPartner (IsLeft calls taken) (es ++ more)) (sym end) fit);
+  least = λ apart more fit.
+      subst (λ (es : List Effect). FitsPartner (IsLeft calls taken) (es ++ more)) end (was.down apart more fit);
 }
+  where
+    end : drop i effects ≡ []
+    end = drop_end effects i all
 
--- or which isn't newer
-below_older : (calls : List Call) (e : Effect) (i : ℕ) (d call : Call) → slice_get calls i ≡ Some call
-    → call.id ≤ d.id → NewestBelow calls e i (Some d) → NewestBelow calls e (i + 1) (Some d)
-below_older calls e i d call here low was = record {
-  on = was.on;
-  may = was.may;
-  newest = λ k c l h may. ⊎_elim {C = c.id ≤ d.id}
-      (λ (s : call ≡ c). let n = ap (λ (x : Call). x.id) s in omega arith)
-      (λ (m : k < i). was.newest k c m h may)
-      (at_or_below calls i k call c here l h);
-}
+-- what is said of partners that are there, and where there are none
+pub partners_there : {A : Type 0} (calls : List Call) (effects : List Effect) (found : Option (Vec ℕ A)) (v : Vec ℕ A)
+    → found ≡ Some v
+    → MatchOption found (AreDistinctPartners calls → FitsPartner (IsIn calls) effects → ⊥)
+    (λ v. ArePartners calls effects v.items)
+    → ArePartners calls effects v.items
+partners_there {A} calls effects found v is told =
+    subst (λ (o : Option (Vec ℕ A)). MatchOption o (AreDistinctPartners calls → FitsPartner (IsIn calls) effects → ⊥)
+    (λ v. ArePartners calls effects v.items)) is told
 
--- or which is
-below_newer : (calls : List Call) (e : Effect) (i : ℕ) (last : Option Call) (call : Call)
-    → slice_get calls i ≡ Some call → MayBe e call → ((d : Call) → last ≡ Some d → d.id ≤ call.id)
-    → NewestBelow calls e i last → IsNewestBelow calls e (i + 1) call
-below_newer calls e i None call here may low was = record {
-  on = (i, here);
-  may = may;
-  newest = λ k c l h also. ⊎_elim {C = c.id ≤ call.id}
-      (λ (s : call ≡ c). let n = ap (λ (x : Call). x.id) s in omega arith)
-      (λ (m : k < i). absurd (was k c m h also))
-      (at_or_below calls i k call c here l h);
-}
-below_newer calls e i (Some d) call here may low was = record {
-  on = (i, here);
-  may = may;
-  newest = λ k c l h also. ⊎_elim {C = c.id ≤ call.id}
-      (λ (s : call ≡ c). let n = ap (λ (x : Call). x.id) s in omega arith)
-      (λ (m : k < i). let a = was.newest k c m h also in let b = low d refl in omega arith)
-      (at_or_below calls i k call c here l h);
-}
+pub partners_none : {A : Type 0} (calls : List Call) (effects : List Effect) (found : Option (Vec ℕ A)) → found ≡ None
+    → MatchOption found (AreDistinctPartners calls → FitsPartner (IsIn calls) effects → ⊥)
+    (λ v. ArePartners calls effects v.items)
+    → AreDistinctPartners calls → FitsPartner (IsIn calls) effects → ⊥
+partners_none {A} calls effects found is told =
+    subst (λ (o : Option (Vec ℕ A)). MatchOption o (AreDistinctPartners calls → FitsPartner (IsIn calls) effects → ⊥)
+    (λ v. ArePartners calls effects v.items)) is told
 
-pub below_more : (calls : List Call) (e : Effect) (i : ℕ) (last next : Option Call) (call : Call)
-    → slice_get calls i ≡ Some call → IsNewer e last call next → NewestBelow calls e i last
-    → NewestBelow calls e (i + 1) next
-below_more calls e i last next call here newer was = ⊎_elim {C = NewestBelow calls e (i + 1) next}
-    (λ (old : (next ≡ last) × ((MayBe e call → ⊥) ⊎ ((d : Call) × (last ≡ Some d) × (call.id ≤ d.id)))).
-    subst (λ (o : Option Call). NewestBelow calls e (i + 1) o) (sym old.0)
-    (⊎_elim {C = NewestBelow calls e (i + 1) last}
-    (λ (not : MayBe e call → ⊥). below_same calls e i last call here not was)
-    (λ (some : (d : Call) × (last ≡ Some d) × (call.id ≤ d.id)).
-    subst (λ (o : Option Call). NewestBelow calls e (i + 1) o) (sym some.1)
-    (below_older calls e i some.0 call here some.2
-    (subst (λ (o : Option Call). NewestBelow calls e i o) some.1 was)))
-    old.1))
-    (λ (new : (next ≡ Some call) × MayBe e call × ((d : Call) → last ≡ Some d → d.id ≤ call.id)).
-    subst (λ (o : Option Call). NewestBelow calls e (i + 1) o) (sym new.0)
-    (below_newer calls e i last call here new.1 new.2 was))
-    newer
+-- no effect more
+pub partners_fit : (calls : List Call) (effects : List Effect) (taken : List ℕ) → ArePartners calls effects taken
+    → FitsPartner (IsIn calls) effects
+partners_fit calls effects taken are =
+    subst (λ (es : List Effect). FitsPartner (IsIn calls) es) (append-nil effects) (are.enough [] ([], tt))
 
-pub below_all : (calls : List Call) (e : Effect) (i : ℕ) (newest : Option Call) → length calls ≤ i
-    → NewestBelow calls e i newest
-    → MatchOption newest ((k : ℕ) (c : Call) → slice_get calls k ≡ Some c → MayBe e c → ⊥) (λ c. IsNewestOf calls e c)
-below_all calls e i None all was = λ k c h may. was k c (let l = get_within calls k c h in omega arith) h may
-below_all calls e i (Some d) all was = record {
-  on = was.on;
-  may = was.may;
-  newest = λ k c h may. was.newest k c (let l = get_within calls k c h in omega arith) h may;
-}
+-- one effect more, at whatever place
+moved_there : (P : Call → Type 0) (es : List Effect) (k : ℕ) (e : Effect) → FitsPartner P (es ++ e ∷ [])
+    → FitsPartner P (insert es k e)
+moved_there P es k e fit =
+    let at : insert es (length es) e ≡ es ++ e ∷ [] =
+    ap (λ (xs : List Effect). insert xs (length es) e) (sym (append-nil es)) ∙ insert_middle es [] e in
+    let r = match_take P es (length es) e fit.0 (subst (λ (xs : List Effect). Matches P xs fit.0) (sym at) fit.1) in
+    (insert r.1 k r.0, match_insert P es r.1 k e r.0 r.3 r.4 r.5)
+
+moved_back : (P : Call → Type 0) (es : List Effect) (k : ℕ) (e : Effect) → FitsPartner P (insert es k e)
+    → FitsPartner P (es ++ e ∷ [])
+moved_back P es k e fit =
+    let at : insert es (length es) e ≡ es ++ e ∷ [] =
+    ap (λ (xs : List Effect). insert xs (length es) e) (sym (append-nil es)) ∙ insert_middle es [] e in
+    let r = match_take P es k e fit.0 fit.1 in (
+      insert r.1 (length es) r.0,
+      subst (λ (xs : List Effect). Matches P xs (insert r.1 (length es) r.0)) at
+          (match_insert P es r.1 (length es) e r.0 r.3 r.4 r.5),
+    )
+
+pub partners_more : (calls : List Call) (es : List Effect) (taken : List ℕ) (k : ℕ) (e : Effect) (c : Call)
+    → ArePartners calls es taken → IsIn calls c → MayTake taken e c → FitsPartner (IsIn calls) (insert es k e)
+partners_more calls es taken k e c are on may =
+    moved_there (IsIn calls) es k e (are.enough (e ∷ []) (c ∷ [], ((on, may.left), may.may, tt)))
+
+pub partners_end : (calls : List Call) (es : List Effect) (taken : List ℕ) (k : ℕ) (e : Effect)
+    → ArePartners calls es taken → ((c : Call) → IsIn calls c → MayTake taken e c → ⊥) → AreDistinctPartners calls
+    → FitsPartner (IsIn calls) (insert es k e) → ⊥
+partners_end calls es taken k e are none apart fit = stuck (are.least apart (e ∷ []) (moved_back (IsIn calls) es k e fit))
+  where
+    stuck : FitsPartner (IsLeft calls taken) (e ∷ []) → ⊥
+    stuck ([], m) = m
+    stuck (c ∷ cs, m) = none c m.0.0 (record { may = m.1; left = m.0.1 })
+
+-- fewer effects are of fewer operations
+pub fits_fewer : (P : Call → Type 0) (es : List Effect) (k : ℕ) (e : Effect) → FitsPartner P (insert es k e)
+    → FitsPartner P es
+fits_fewer P es k e fit =
+    let r = match_take P es k e fit.0 fit.1 in (r.1, weaken (Other P r.0.id) P (λ c o. o.0) es r.1 r.5)
 
 -- of the last i operations that ask the same the newest
 pub record Newest (calls : List Call) (i : ℕ) (newest : List Call) : Type 0 where

@@ -14,6 +14,7 @@ use Rattle.trace_watch.specs.Matchings.{AreDistinctPartners, FitsPartner, IsPart
 use Rattle.trace_watch.specs.Known.{HasIssued, IsExplainedWatch, IsOpenOn, ArePendingOn, StaysExplained}
 use Rattle.trace_watch.specs.Closed.{IsOneMore, IsExpandedState, Expands, CatchesUp, Closes}
 use Rattle.trace_watch.proofs.Matched.{fits_weaken, insert_from}
+use Rattle.trace_watch.proofs.Fitting.{fits_fewer}
 use Rattle.trace_watch.proofs.Covering.{covers_self}
 use Rattle.trace_watch.proofs.Idle.{ExplainsAll, glimpse_all, glimpse_issued, insert_append, newest_issued, put_all}
 use Rattle.trace_watch.proofs.Grown.{goes_same, goes_more, goes_at, goes_among, goes_back, more_goes, more_among, more_from}
@@ -78,6 +79,17 @@ after_changed calls c call moves = ap (λ (b : Bool). cond b c (changed calls c 
 pub after_idle : (calls : List Call) (c : Config) (call : Call) → is_idle call.operation.op c.word ≡ true
     → after calls c call ≡ c
 after_idle calls c call idle = ap (λ (b : Bool). cond b c (changed calls c call)) idle
+
+-- the operations that are enough after one more effect are so before it
+pub after_fits : (calls : List Call) (c : Config) (call : Call) → FitsPartner (IsIn calls) (after calls c call).effects
+    → FitsPartner (IsIn calls) c.effects
+after_fits calls c call fit = ⊎_elim {C = FitsPartner (IsIn calls) c.effects}
+    (λ (t : is_idle call.operation.op c.word ≡ true).
+    subst (λ (d : Config). FitsPartner (IsIn calls) d.effects) (after_idle calls c call t) fit)
+    (λ (f : is_idle call.operation.op c.word ≡ false).
+    fits_fewer (IsIn calls) c.effects (spot c.effects (effect_of c call)) (effect_of c call)
+    (subst (λ (d : Config). FitsPartner (IsIn calls) d.effects) (after_changed calls c call f) fit))
+    (cases_Bool (is_idle call.operation.op c.word))
 
 -- it leaves the word as it is
 pub expands_idle : (at : ℕ) (calls : List Call) (call : Call) (old : List Config) (c : Config)

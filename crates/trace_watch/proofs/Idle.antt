@@ -15,7 +15,7 @@ use Rattle.trace_watch.specs.Matchings.{FitsPartner, Matches, Other}
 use Rattle.trace_watch.specs.Named.{NamedEffect, named}
 use Rattle.trace_watch.specs.Known.{AreIdleIn, Explains, HasIssued, IsExplainedWatch, IsOpenOn}
 use Rattle.trace_watch.proofs.Events.{issue_up}
-use Rattle.trace_watch.proofs.Matched.{match_take, weaken}
+use Rattle.trace_watch.proofs.Matched.{insert_middle, match_take, weaken}
 use Rattle.trace_watch.proofs.Covering.{other_from}
 use Rattle.trace_watch.proofs.Steps.{left_out, put_explains}
 
@@ -31,13 +31,6 @@ pub insert_append : {A : Type 0} (xs ys : List A) (k : ℕ) (x : A) → k ≤ le
 insert_append xs ys zero x l = refl
 insert_append [] ys (suc k) x l = absurd (omega arith)
 insert_append {A} (z ∷ xs) ys (suc k) x l = ap (λ (zs : List A). z ∷ zs) (insert_append xs ys k x (omega arith))
-
-insert_end : {A : Type 0} (xs ys : List A) (x : A) → insert (xs ++ ys) (length xs) x ≡ xs ++ x ∷ ys
-insert_end [] ys x = refl
-insert_end {A} (z ∷ xs) ys x = ap (λ (zs : List A). z ∷ zs) (insert_end xs ys x)
-
-pub insert_middle : {A : Type 0} (xs ys : List A) (x : A) → insert (xs ++ ys) (length xs) x ≡ xs ++ x ∷ ys
-insert_middle xs ys x = insert_end xs ys x
 
 pub get_middle : {A : Type 0} (xs ys : List A) (x : A) → slice_get (xs ++ x ∷ ys) (length xs) ≡ Some x
 get_middle [] ys x = refl
@@ -58,7 +51,7 @@ pub insert_between : {A : Type 0} (xs ys zs : List A) (x : A)
     → insert (xs ++ (ys ++ zs)) (length (xs ++ ys)) x ≡ xs ++ (ys ++ x ∷ zs)
 insert_between {A} xs ys zs x =
     ap (λ (ws : List A). insert ws (length (xs ++ ys)) x) (sym (append_assoc xs ys zs))
-    ∙ (insert_end (xs ++ ys) zs x ∙ append_assoc xs ys (x ∷ zs))
+    ∙ (insert_middle (xs ++ ys) zs x ∙ append_assoc xs ys (x ∷ zs))
 
 -- a place of the first list or of the second one
 pub place_cases : {A : Type 0} (xs ys : List A) (k : ℕ) (x : A) → slice_get (xs ++ ys) k ≡ Some x

@@ -17,6 +17,7 @@ pub mod Grown
 pub mod Growth
 pub mod Gathering
 pub mod Fitting
+pub mod Newest
 pub mod Loops
 pub mod Beginning
 pub mod Watching

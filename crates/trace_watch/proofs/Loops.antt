@@ -5,11 +5,12 @@ use Rattle.trace_laws.specs.declared.event.Call.{Call}
 use Rattle.trace_laws.specs.Configs.{IsIn, GoesOn}
 use Rattle.trace_watch.specs.declared.state.Effect.{Effect}
 use Rattle.trace_watch.specs.declared.state.State.{State}
-use Rattle.trace_watch.specs.States.{Config, changed, config_of, configs_of, is_idle}
-use Rattle.trace_watch.specs.Matchings.{AreDistinctPartners, FitsPartner}
+use Rattle.trace_watch.specs.States.{Config, after, changed, config_of, configs_of, effect_of, is_idle, spot}
+use Rattle.trace_watch.specs.Matchings.{AreDistinctPartners, ArePartners, FitsPartner, IsNewestOf, MayTake}
 use Rattle.trace_watch.specs.Closed.{CatchesUp, Closes, Expands, IsOneMore}
-use Rattle.trace_watch.proofs.Grown.{get_config, long_configs}
-use Rattle.trace_watch.proofs.Growth.{goes_longer, expands_idle, expands_nothing, expands_one, Catching, catching_more, catching_all, Closing, closing_more, closing_all}
+use Rattle.trace_watch.proofs.Fitting.{partners_end, partners_more}
+use Rattle.trace_watch.proofs.Grown.{get_config, goes_back, goes_same, long_configs}
+use Rattle.trace_watch.proofs.Growth.{after_fits, goes_longer, expands_idle, expands_nothing, expands_one, Catching, catching_more, catching_all, Closing, closing_more, closing_all}
 
 -- what stands at a place, as the code reads it
 pub index_there : {A : Type 0} (xs : List A) (k : ℕ) (x : A) → k < length xs → x ≡ get_or xs k x
@@ -40,26 +41,59 @@ pub attempt_idle : {A : Type 0} (at : ℕ) (calls : List Call) (call : Call) (fo
 attempt_idle at calls call found s there idle =
     expands_idle at calls call (configs_of found) (config_of s) (get_config found at s there) (sym idle)
 
-pub attempt_none : {A : Type 0} (at : ℕ) (calls read : List Call) (call : Call) (found : List (State A)) (s next : State A)
-    (es : List Effect) → slice_get found at ≡ Some s → false ≡ is_idle call.operation.op s.word → read ≡ calls
-    → config_of next ≡ changed read (config_of s) call → es ≡ next.effects.items
-    → (AreDistinctPartners calls → FitsPartner (IsIn calls) es → ⊥)
+-- no operation is left for the effect
+pub attempt_none : {A : Type 0} (at : ℕ) (calls : List Call) (call : Call) (taken : List ℕ) (found : List (State A))
+    (s : State A) (e : Effect) → slice_get found at ≡ Some s → false ≡ is_idle call.operation.op s.word
+    → e ≡ effect_of (config_of s) call → ArePartners calls s.effects.items taken
+    → ((k : ℕ) (c : Call) → slice_get calls k ≡ Some c → MayTake taken e c → ⊥)
     → Expands at calls (call ∷ []) (configs_of found) (configs_of found)
-attempt_none at calls read call found s next es there moves same is effects never =
+attempt_none at calls call taken found s e there moves made are none =
     expands_nothing at calls call (configs_of found) (config_of s) (get_config found at s there) (sym moves)
-    (λ apart fit. never apart (fits_back calls (config_of next) (changed calls (config_of s) call) es effects
-    (is ∙ ap (λ (cs : List Call). changed cs (config_of s) call) same) fit))
+    (λ apart fit. partners_end calls s.effects.items taken (spot s.effects.items (effect_of (config_of s) call))
+    (effect_of (config_of s) call) are
+    (λ c on may. none on.0 c on.1 (subst (λ (f : Effect). MayTake taken f c) (sym made) may)) apart fit)
 
-pub attempt_new : {A : Type 0} (at : ℕ) (calls read : List Call) (call : Call) (found later : List (State A))
-    (s next : State A) (es : List Effect) → slice_get found at ≡ Some s → false ≡ is_idle call.operation.op s.word
-    → read ≡ calls → config_of next ≡ changed read (config_of s) call → es ≡ next.effects.items
-    → FitsPartner (IsIn calls) es → IsOneMore (configs_of found) (config_of next) (configs_of later)
+-- one is
+pub attempt_new : {A : Type 0} (at : ℕ) (calls read : List Call) (call p : Call) (taken : List ℕ)
+    (found later : List (State A)) (s next : State A) (e : Effect) → slice_get found at ≡ Some s
+    → false ≡ is_idle call.operation.op s.word → e ≡ effect_of (config_of s) call
+    → ArePartners calls s.effects.items taken → IsNewestOf calls (MayTake taken e) p → read ≡ calls
+    → config_of next ≡ changed read (config_of s) call
+    → IsOneMore (configs_of found) (config_of next) (configs_of later)
     → Expands at calls (call ∷ []) (configs_of found) (configs_of later)
-attempt_new at calls read call found later s next es there moves same is effects fit more =
-    let made = is ∙ ap (λ (cs : List Call). changed cs (config_of s) call) same in
+attempt_new at calls read call p taken found later s next e there moves made are best same is more =
     expands_one at calls call (configs_of found) (configs_of later) (config_of s) (get_config found at s there) (sym moves)
-    (fits_read calls (config_of next) (changed calls (config_of s) call) es effects made fit)
-    (subst (λ (c : Config). IsOneMore (configs_of found) c (configs_of later)) made more)
+    (partners_more calls s.effects.items taken (spot s.effects.items (effect_of (config_of s) call))
+    (effect_of (config_of s) call) p are best.on (subst (λ (f : Effect). MayTake taken f p) made best.may))
+    (subst (λ (c : Config). IsOneMore (configs_of found) c (configs_of later))
+    (is ∙ ap (λ (cs : List Call). changed cs (config_of s) call) same) more)
+
+-- the operations that these take
+pub partners_read : {A : Type 0} (calls : List Call) (taken : List ℕ) (old new : List (State A)) (at : ℕ) (s : State A)
+    (es : List Effect) → at < length old → slice_get old at ≡ Some s → es ≡ s.effects.items
+    → ArePartners calls es taken → GoesOn (configs_of old) (configs_of new)
+    → (c : Config) → slice_get (configs_of new) at ≡ Some c → ArePartners calls c.effects taken
+partners_read calls taken old new at s es low there read are on c here =
+    let e = long_configs old in
+    let is : config_of s ≡ c =
+    config_at old at s c there (goes_back (configs_of old) (configs_of new) at c on (omega arith) here) in
+    subst (λ (d : Config). ArePartners calls d.effects taken) is
+    (subst (λ (fs : List Effect). ArePartners calls fs taken) read are)
+
+-- the operations are not enough for the effects
+pub expand_stuck : {A : Type 0} (at : ℕ) (calls newest : List Call) (found : List (State A)) (s : State A)
+    (es : List Effect) → slice_get found at ≡ Some s → es ≡ s.effects.items
+    → (AreDistinctPartners calls → FitsPartner (IsIn calls) es → ⊥)
+    → Expands at calls newest (configs_of found) (configs_of found)
+expand_stuck at calls newest found s es there read never = record {
+  expanded = λ d h apart call on fit.
+      let is : config_of s ≡ d = config_at found at s d there h in
+      absurd (never apart (subst (λ (fs : List Effect). FitsPartner (IsIn calls) fs) (sym read)
+      (after_fits calls (config_of s) call
+      (subst (λ (c : Config). FitsPartner (IsIn calls) (after calls c call).effects) (sym is) fit))));
+  grows = goes_same (configs_of found);
+  sound = λ all among also opening trace w inside pending explained. explained;
+}
 
 pub at_inside : {A : Type 0} (old new : List (State A)) (at : ℕ) → at < length old
     → GoesOn (configs_of old) (configs_of new) → at < length new

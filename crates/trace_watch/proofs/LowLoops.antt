@@ -1,7 +1,7 @@
 -- The loops that lower bounds.
-use Rattle.std.proofs.Common.{◌≡◌, ◌≢◌, ◌⊎◌, inl, inr, ⊎_elim, ℕ, suc, ◌+◌, ◌<◌, ◌≤◌, List, [], ◌∷◌, ◌++◌, length, Option, Some, None, refl, sym, ◌∙◌, ap, subst, arith}
+use Rattle.std.proofs.Common.{◌≡◌, ◌≢◌, ◌⊎◌, inl, inr, ⊎_elim, ℕ, suc, ◌+◌, ◌<◌, ◌≤◌, List, [], ◌∷◌, ◌++◌, length, Some, None, refl, sym, ◌∙◌, ap, subst, arith}
 use Rattle.std.proofs.Common.{slice_get, take, append_assoc, max, cond, Bool, false}
-use Rattle.std.specs.Prelude.{MatchOption, drop, ◌==◌}
+use Rattle.std.specs.Prelude.{drop, ◌==◌}
 use Rattle.std.proofs.lemmas.Bool.{cases_eq, eqb-true, false_from_ne_true}
 use Rattle.std.proofs.lemmas.List.{take_all}
 use Rattle.trace_laws.specs.declared.event.Call.{Call}
@@ -10,108 +10,9 @@ use Rattle.trace_laws.specs.Configs.{IsIn}
 use Rattle.trace_watch.specs.declared.state.Effect.{Effect}
 use Rattle.trace_watch.specs.declared.state.Glimpse.{Glimpse}
 use Rattle.trace_watch.specs.States.{IsGlimpsed, newest_number, other_words}
-use Rattle.trace_watch.specs.Lowered.{AreLowered, AreLoweredGlimpses, IsBounded, IsNewerFinder, IsNewestFinder, MayFind, NotesGlimpse}
+use Rattle.trace_watch.specs.Lowered.{AreLowered, AreLoweredGlimpses, IsBounded, MayFind, NotesGlimpse}
+use Rattle.trace_watch.specs.Matchings.{IsNewestOf}
 use Rattle.trace_watch.proofs.Sifting.{drop_at, drop_end}
-
--- the newest of the operations before place i that may have found the word of a glimpse
-pub record IsFinderBelow (calls : List Call) (g : Glimpse) (i : ℕ) (call : Call) : Type 0 where
-  pub on : IsIn calls call
-  pub may : MayFind g call
-  pub newest : (k : ℕ) (c : Call) → k < i → slice_get calls k ≡ Some c → MayFind g c → c.id ≤ call.id
-
-abbrev pub FinderBelow : List Call → Glimpse → ℕ → Option Call → Type 0
-FinderBelow calls g i newest = MatchOption newest
-    ((k : ℕ) (c : Call) → k < i → slice_get calls k ≡ Some c → MayFind g c → ⊥)
-    (λ c. IsFinderBelow calls g i c)
-
-pub finder_none : (calls : List Call) (g : Glimpse) → FinderBelow calls g 0 None
-finder_none calls g = λ k c l h may. (omega arith)
-
--- the call at a place, or one before it
-at_or_before : (calls : List Call) (i k : ℕ) (call c : Call) → slice_get calls i ≡ Some call → k < i + 1
-    → slice_get calls k ≡ Some c → (call ≡ c) ⊎ (k < i)
-at_or_before calls i k call c here l h = ⊎_elim {C = (call ≡ c) ⊎ (k < i)}
-    (λ (e : k ≡ i).
-    let there : slice_get calls i ≡ Some c = ap (λ (n : ℕ). slice_get calls n) (sym e) ∙ h in inl cc)
-    (λ (ne : k ≢ i). inr (omega arith))
-    (cases_eq k i)
-
--- one more operation, which may not have found it
-finder_same : (calls : List Call) (g : Glimpse) (i : ℕ) (last : Option Call) (call : Call)
-    → slice_get calls i ≡ Some call → (MayFind g call → ⊥) → FinderBelow calls g i last → FinderBelow calls g (i + 1) last
-finder_same calls g i None call here not was = λ k c l h may. ⊎_elim {C = ⊥}
-    (λ (s : call ≡ c). not (subst (λ (d : Call). MayFind g d) (sym s) may))
-    (λ (m : k < i). was k c m h may)
-    (at_or_before calls i k call c here l h)
-finder_same calls g i (Some d) call here not was = record {
-  on = was.on;
-  may = was.may;
-  newest = λ k c l h may. ⊎_elim {C = c.id ≤ d.id}
-      (λ (s : call ≡ c). absurd (not (subst (λ (x : Call). MayFind g x) (sym s) may)))
-      (λ (m : k < i). was.newest k c m h may)
-      (at_or_before calls i k call c here l h);
-}
-
--- or which isn't newer
-finder_older : (calls : List Call) (g : Glimpse) (i : ℕ) (d call : Call) → slice_get calls i ≡ Some call
-    → call.id ≤ d.id → FinderBelow calls g i (Some d) → FinderBelow calls g (i + 1) (Some d)
-finder_older calls g i d call here low was = record {
-  on = was.on;
-  may = was.may;
-  newest = λ k c l h may. ⊎_elim {C = c.id ≤ d.id}
-      (λ (s : call ≡ c). let n = ap (λ (x : Call). x.id) s in omega arith)
-      (λ (m : k < i). was.newest k c m h may)
-      (at_or_before calls i k call c here l h);
-}
-
--- or which is
-finder_newer : (calls : List Call) (g : Glimpse) (i : ℕ) (last : Option Call) (call : Call)
-    → slice_get calls i ≡ Some call → MayFind g call → ((d : Call) → last ≡ Some d → d.id ≤ call.id)
-    → FinderBelow calls g i last → IsFinderBelow calls g (i + 1) call
-finder_newer calls g i None call here may low was = record {
-  on = (i, here);
-  may = may;
-  newest = λ k c l h also. ⊎_elim {C = c.id ≤ call.id}
-      (λ (s : call ≡ c). let n = ap (λ (x : Call). x.id) s in omega arith)
-      (λ (m : k < i). absurd (was k c m h also))
-      (at_or_before calls i k call c here l h);
-}
-finder_newer calls g i (Some d) call here may low was = record {
-  on = (i, here);
-  may = may;
-  newest = λ k c l h also. ⊎_elim {C = c.id ≤ call.id}
-      (λ (s : call ≡ c). let n = ap (λ (x : Call). x.id) s in omega arith)
-      (λ (m : k < i). let a = was.newest k c m h also in let b = low d refl in omega arith)
-      (at_or_before calls i k call c here l h);
-}
-
-pub finder_more : (calls : List Call) (g : Glimpse) (i : ℕ) (last next : Option Call) (call : Call)
-    → slice_get calls i ≡ Some call → IsNewerFinder g last call next → FinderBelow calls g i last
-    → FinderBelow calls g (i + 1) next
-finder_more calls g i last next call here newer was = ⊎_elim {C = FinderBelow calls g (i + 1) next}
-    (λ (old : (next ≡ last) × ((MayFind g call → ⊥) ⊎ ((d : Call) × (last ≡ Some d) × (call.id ≤ d.id)))).
-    subst (λ (o : Option Call). FinderBelow calls g (i + 1) o) (sym old.0)
-    (⊎_elim {C = FinderBelow calls g (i + 1) last}
-    (λ (not : MayFind g call → ⊥). finder_same calls g i last call here not was)
-    (λ (some : (d : Call) × (last ≡ Some d) × (call.id ≤ d.id)).
-    subst (λ (o : Option Call). FinderBelow calls g (i + 1) o) (sym some.1)
-    (finder_older calls g i some.0 call here some.2
-    (subst (λ (o : Option Call). FinderBelow calls g i o) some.1 was)))
-    old.1))
-    (λ (new : (next ≡ Some call) × MayFind g call × ((d : Call) → last ≡ Some d → d.id ≤ call.id)).
-    subst (λ (o : Option Call). FinderBelow calls g (i + 1) o) (sym new.0)
-    (finder_newer calls g i last call here new.1 new.2 was))
-    newer
-
-pub finder_all : (calls : List Call) (g : Glimpse) (i : ℕ) (newest : Option Call) → length calls ≤ i
-    → FinderBelow calls g i newest
-    → MatchOption newest ((k : ℕ) (c : Call) → slice_get calls k ≡ Some c → MayFind g c → ⊥) (λ c. IsNewestFinder calls g c)
-finder_all calls g i None all was = λ k c h may. was k c (let l = get_within calls k c h in omega arith) h may
-finder_all calls g i (Some d) all was = record {
-  on = was.on;
-  may = was.may;
-  newest = λ k c h may. was.newest k c (let l = get_within calls k c h in omega arith) h may;
-}
 
 -- effects up to place i are lowered
 pub lowered_push : (calls : List Call) (es fs : List Effect) (e f : Effect) → AreLowered calls es fs → f.op ≡ e.op
@@ -197,7 +98,7 @@ notes_nothing calls h old none = record {
 
 -- it is there already
 pub notes_again : (calls : List Call) (h : Glimpse) (old read : List Glimpse) (call : Call) → read ≡ old
-    → IsNewestFinder calls h call → IsGlimpsed read (record { word = h.word; newest = call.id })
+    → IsNewestOf calls (MayFind h) call → IsGlimpsed read (record { word = h.word; newest = call.id })
     → NotesGlimpse calls h old old
 notes_again calls h old read call same newest there = record {
   kept = λ g on. on;
@@ -209,7 +110,7 @@ notes_again calls h old read call same newest there = record {
 }
 
 -- it is not
-pub notes_new : (calls : List Call) (h : Glimpse) (old new : List Glimpse) (call : Call) → IsNewestFinder calls h call
+pub notes_new : (calls : List Call) (h : Glimpse) (old new : List Glimpse) (call : Call) → IsNewestOf calls (MayFind h) call
     → new ≡ old ++ record { word = h.word; newest = call.id } ∷ [] → NotesGlimpse calls h old new
 notes_new calls h old new call newest pushed = subst (λ (gs : List Glimpse). NotesGlimpse calls h old gs) (sym pushed) (record {
   kept = λ g on. (on.0, get_append_left old (n ∷ []) on.0 g on.1);

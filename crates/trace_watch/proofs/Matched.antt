@@ -1,5 +1,5 @@
 -- Effects and the operations that they may be of.
-use Rattle.std.proofs.Common.{◌≡◌, ◌≢◌, ◌⊎◌, inl, inr, ⊎_elim, ℕ, zero, suc, ◌≤◌, List, [], ◌∷◌, Some, None, refl, sym, ◌∙◌, ap, arith, slice_get}
+use Rattle.std.proofs.Common.{◌≡◌, ◌≢◌, ◌⊎◌, inl, inr, ⊎_elim, ℕ, zero, suc, ◌≤◌, List, [], ◌∷◌, ◌++◌, length, Some, None, refl, sym, ◌∙◌, ap, arith, slice_get}
 use Rattle.std.specs.List.{insert, remove}
 use Rattle.std.proofs.lemmas.Bool.{cases_eq}
 use Rattle.trace_laws.specs.declared.event.Call.{Call}
@@ -73,6 +73,11 @@ named_insert P (f ∷ es) [] (suc k) e b m = absurd m
 named_insert P (f ∷ es) (c ∷ cs) (suc k) e b m =
     let name : NamedEffect = record { id = c.id; reply = f.reply } in
     ap (λ (xs : List NamedEffect). name ∷ xs) (named_insert (Other P c.id) es cs k e b m.2)
+
+-- one more between two lists
+pub insert_middle : {A : Type 0} (xs ys : List A) (x : A) → insert (xs ++ ys) (length xs) x ≡ xs ++ x ∷ ys
+insert_middle [] ys x = refl
+insert_middle {A} (z ∷ xs) ys x = ap (λ (zs : List A). z ∷ zs) (insert_middle xs ys x)
 
 shifted : {A : Type 0} (z : A) (xs : List A) (x y : A) → IsIn xs y ⊎ (x ≡ y) → IsIn (z ∷ xs) y ⊎ (x ≡ y)
 shifted z xs x y c = ⊎_elim {C = IsIn (z ∷ xs) y ⊎ (x ≡ y)}

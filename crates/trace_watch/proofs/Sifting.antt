@@ -30,7 +30,7 @@ filtered_skip keeps xs i ys y at never was = record {
       (cases_eq k i);
 }
 
-pub filtered_push : {A : Type 0} (keeps : A → Type 0) (xs : List A) (i : ℕ) (ys : List A) (y : A)
+filtered_push : {A : Type 0} (keeps : A → Type 0) (xs : List A) (i : ℕ) (ys : List A) (y : A)
     → slice_get xs i ≡ Some y → keeps y → Filtered keeps xs i ys → Filtered keeps xs (i + 1) (ys ++ y ∷ [])
 filtered_push {A} keeps xs i ys y at good was = record {
   from = λ x on. ⊎_elim {C = IsIn xs x × keeps x}
@@ -46,6 +46,11 @@ filtered_push {A} keeps xs i ys y at good was = record {
       (λ (ne : k ≢ i). let r = was.has k x (omega arith) h p in (r.0, get_append_left ys (y ∷ []) r.0 x r.1))
       (cases_eq k i);
 }
+
+pub filtered_pushed : {A : Type 0} (keeps : A → Type 0) (xs : List A) (i : ℕ) (ys zs : List A) (y : A)
+    → slice_get xs i ≡ Some y → keeps y → zs ≡ ys ++ y ∷ [] → Filtered keeps xs i ys → Filtered keeps xs (i + 1) zs
+filtered_pushed {A} keeps xs i ys zs y at good pushed was =
+    subst (λ (ws : List A). Filtered keeps xs (i + 1) ws) (sym pushed) (filtered_push keeps xs i ys y at good was)
 
 pub filtered_all : {A : Type 0} (keeps : A → Type 0) (xs : List A) (i : ℕ) (ys : List A) → length xs ≤ i
     → Filtered keeps xs i ys → (x : A) → IsIn ys x ↔ (IsIn xs x × keeps x)

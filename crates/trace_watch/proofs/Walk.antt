@@ -23,10 +23,10 @@ use Rattle.trace_watch.specs.Known.{Explains, IsExplainedWatch, IsOpenOn, Knows,
 use Rattle.trace_watch.specs.Closed.{Closes, FromOne, IsAmongLowered, IsAnsweredBy, IsTakenConfig, LoweredFrom, MayClaim}
 use Rattle.trace_watch.proofs.Events.{issue_up}
 use Rattle.trace_watch.proofs.Quiet.{order_back}
-use Rattle.trace_watch.proofs.Matched.{match_insert, match_others, weaken}
+use Rattle.trace_watch.proofs.Matched.{insert_middle, match_insert, match_others, weaken}
 use Rattle.trace_watch.proofs.Covering.{covered_append, covered_match, covers_idle, covers_named}
 use Rattle.trace_watch.proofs.Growth.{after_changed, spot_low}
-use Rattle.trace_watch.proofs.Idle.{insert_append, insert_middle, matches_front, newest_above}
+use Rattle.trace_watch.proofs.Idle.{insert_append, matches_front, newest_above}
 use Rattle.trace_watch.proofs.Bounds.{idle_seen}
 use Rattle.trace_watch.proofs.Steps.{match_ids, put_explains, taken_explains}
 use Rattle.trace_watch.proofs.Answered.{IsAnswer, distinct, effect_cases, more, now, one_open, open_other, other_later, other_open}

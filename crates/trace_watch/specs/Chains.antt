@@ -4,12 +4,12 @@ use Rattle.std.specs.Int.{bit_at}
 use Rattle.trace_laws.specs.Configs.{IsIn}
 use Rattle.trace_watch.specs.declared.state.Effect.{Effect}
 use Rattle.trace_watch.specs.declared.index.Index.{Index}
-use Rattle.trace_watch.specs.States.{Config, rank, told_word}
+use Rattle.trace_watch.specs.States.{Config, first_value, rank, told_word}
 use Rattle.trace_watch.specs.Crowds.{AreUnlike}
 
 -- the bit of an effect
 abbrev pub spot_of : Effect → ℕ
-spot_of e = (rank e.op + told_word e.reply % 64 * 11) % 64
+spot_of e = (rank e.op + told_word e.reply % 64 * 11 + first_value e.op % 64 * 23) % 64
 
 -- a number whose bits are those of effects
 pub record IsMask (effects : List Effect) (mask : ℕ) : Type 0 where
@@ -19,7 +19,11 @@ pub record IsMask (effects : List Effect) (mask : ℕ) : Type 0 where
 
 -- of so many places the one of a word and a mask
 abbrev pub place_of : ℕ → ℕ → ℕ → ℕ
-place_of count word mask = (word % count + mask % count) % 2 ^ 64 % count
+place_of count word mask = (word + mask) % 2 ^ 64 % count
+
+-- of so many places the one of a configuration
+abbrev pub IsPlaceOf : ℕ → Config → ℕ → Type 0
+IsPlaceOf count c place = (mask : ℕ) × IsMask c.effects mask × (place ≡ place_of count c.word mask)
 
 -- the links lead from a number to configuration i: a number is one more than that of a
 -- configuration, and 0 ends a chain

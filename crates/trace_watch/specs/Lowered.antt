@@ -1,5 +1,5 @@
 -- Configurations whose bounds are lowered to the newest open operations.
-use Rattle.std.specs.Prelude.{◌≡◌, ◌≤◌, ◌⊎◌, ℕ, true, List, [], ◌∷◌, Option, Some, slice_get}
+use Rattle.std.specs.Prelude.{◌≡◌, ◌≤◌, ◌⊎◌, ℕ, true, List, [], ◌∷◌}
 use Rattle.trace_laws.specs.declared.event.Call.{Call}
 use Rattle.trace_laws.specs.Configs.{IsIn}
 use Rattle.trace_watch.specs.declared.state.Effect.{Effect}
@@ -11,18 +11,6 @@ use Rattle.trace_watch.specs.Matchings.{IsNewestOf, MayBe}
 pub record MayFind (g : Glimpse) (call : Call) : Type 0 where
   pub idle : is_idle call.operation.op g.word ≡ true
   pub early : call.id ≤ g.newest
-
--- the newest of these operations that may
-pub record IsNewestFinder (calls : List Call) (g : Glimpse) (call : Call) : Type 0 where
-  pub on : IsIn calls call
-  pub may : MayFind g call
-  pub newest : (k : ℕ) (c : Call) → slice_get calls k ≡ Some c → MayFind g c → c.id ≤ call.id
-
--- the newer one of an operation and the newest so far, of those that may
-abbrev pub IsNewerFinder : Glimpse → Option Call → Call → Option Call → Type 0
-IsNewerFinder g last call next =
-    ((next ≡ last) × ((MayFind g call → ⊥) ⊎ ((d : Call) × (last ≡ Some d) × (call.id ≤ d.id))))
-    ⊎ ((next ≡ Some call) × MayFind g call × ((d : Call) → last ≡ Some d → d.id ≤ call.id))
 
 -- a glimpse is kept beside others, where an operation may have found its word
 pub record NotesGlimpse (calls : List Call) (h : Glimpse) (old new : List Glimpse) : Type 0
@@ -36,7 +24,7 @@ pub record NotesGlimpse (calls : List Call) (h : Glimpse) (old new : List Glimps
 
 -- the bound is the number of the newest operation that the effect may be of, if there is one
 abbrev pub IsBounded : List Call → Effect → ℕ → Type 0
-IsBounded calls e n = ((call : Call) × IsNewestOf calls e call × (n ≡ call.id))
+IsBounded calls e n = ((call : Call) × IsNewestOf calls (MayBe e) call × (n ≡ call.id))
     ⊎ (((call : Call) → IsIn calls call → MayBe e call → ⊥) × (n ≡ e.newest))
 
 -- effects as these, each with such a bound

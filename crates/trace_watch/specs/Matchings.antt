@@ -1,5 +1,5 @@
 -- Which open operations effects may be of.
-use Rattle.std.specs.Prelude.{◌≡◌, ◌⊎◌, ◌≤◌, ℕ, List, [], ◌∷◌, Option, Some, slice_get}
+use Rattle.std.specs.Prelude.{◌≡◌, ◌⊎◌, ◌≤◌, ℕ, List, [], ◌∷◌, ◌++◌, Option, Some, slice_get}
 use Rattle.trace_laws.specs.declared.event.Call.{Call}
 use Rattle.trace_laws.specs.Configs.{IsIn}
 use Rattle.trace_watch.specs.declared.state.Effect.{Effect}
@@ -28,17 +28,33 @@ FitsPartner P es = (calls : List Call) × Matches P es calls
 abbrev pub AreDistinctPartners : List Call → Type 0
 AreDistinctPartners calls = (c d : Call) → IsIn calls c → IsIn calls d → c.id ≡ d.id → c ≡ d
 
--- the newest of these that an effect may be of
-pub record IsNewestOf (calls : List Call) (e : Effect) (call : Call) : Type 0 where
+-- the newest of these operations that may
+pub record IsNewestOf (calls : List Call) (May : Call → Type 0) (call : Call) : Type 0 where
   pub on : IsIn calls call
-  pub may : MayBe e call
-  pub newest : (k : ℕ) (c : Call) → slice_get calls k ≡ Some c → MayBe e c → c.id ≤ call.id
+  pub may : May call
+  pub newest : (k : ℕ) (c : Call) → slice_get calls k ≡ Some c → May c → c.id ≤ call.id
 
--- the newer one of an operation and the newest so far, of those that an effect may be of
-abbrev pub IsNewer : Effect → Option Call → Call → Option Call → Type 0
-IsNewer e last call next =
-    ((next ≡ last) × ((MayBe e call → ⊥) ⊎ ((d : Call) × (last ≡ Some d) × (call.id ≤ d.id))))
-    ⊎ ((next ≡ Some call) × MayBe e call × ((d : Call) → last ≡ Some d → d.id ≤ call.id))
+-- the newer one of an operation and the newest so far
+abbrev pub IsNewer : Option Call → Call → Option Call → Type 0
+IsNewer last call next = ((next ≡ last) × ((d : Call) × (last ≡ Some d) × (call.id ≤ d.id)))
+    ⊎ ((next ≡ Some call) × ((d : Call) → last ≡ Some d → d.id ≤ call.id))
+
+-- an effect may be of an operation, which is none of those of these numbers
+pub record MayTake (taken : List ℕ) (e : Effect) (call : Call) : Type 0 where
+  pub may : MayBe e call
+  pub left : IsIn taken call.id → ⊥
+
+-- one of these operations, and none of those of these numbers
+abbrev pub IsLeft : List Call → List ℕ → Call → Type 0
+IsLeft calls taken call = IsIn calls call × (IsIn taken call.id → ⊥)
+
+-- the operations are enough for these effects and more, where those but for these numbers are for the
+-- others
+pub record ArePartners (calls : List Call) (effects : List Effect) (taken : List ℕ) : Type 0 where
+  pub enough : (more : List Effect) → FitsPartner (IsLeft calls taken) more
+      → FitsPartner (IsIn calls) (effects ++ more)
+  pub least : AreDistinctPartners calls → (more : List Effect)
+      → FitsPartner (IsIn calls) (effects ++ more) → FitsPartner (IsLeft calls taken) more
 
 -- one of these asks the same and is as new
 abbrev pub HasAsNew : List Call → Call → Type 0

@@ -1,18 +1,18 @@
 //! Lets open operations take effect.
 
-ghost use Rattle.std.specs.Prelude.{◌≡◌, ◌<◌, ◌≤◌, ℕ, List, [], ◌∷◌, ◌++◌, IfErr, IfOk, OnOk};
-ghost use Rattle.std.specs.Prelude.{length, max};
+ghost use Rattle.std.specs.Prelude.{◌≡◌, ◌<◌, ◌≤◌, ℕ, List, [], ◌∷◌, ◌++◌, IfErr, IfOk, OnOk, Some};
+ghost use Rattle.std.specs.Prelude.{length, max, slice_get};
 ghost use Rattle.trace_laws.specs.declared.event.Call.{Call};
 ghost use Rattle.trace_watch.specs.States.{Config, config_of, configs_of};
 ghost use Rattle.trace_watch.specs.declared.watch.Full.TheVariants.{Configurations};
 ghost use Rattle.trace_watch.specs.Chains.{IsIndexed};
 ghost use Rattle.trace_watch.specs.Crowds.{GivesUp, IsOpenCrowd, IsOverfullCrowd};
-ghost use Rattle.trace_watch.specs.Matchings.{IsPart};
+ghost use Rattle.trace_watch.specs.Matchings.{ArePartners, IsPart};
 ghost use Rattle.trace_watch.specs.Closed.{CatchesUp, Closes, Expands, IsOneMore};
 
 use crate::index::{Index, widen};
-use crate::matching::fits;
-use crate::state::{State, changed, copy_of, is_idle};
+use crate::matching::{newest_left, partners};
+use crate::state::{State, changed, copy_of, effect_of, is_idle};
 use crate::watch::Full;
 use std::alloc::{AllocError, Allocator};
 use trace_laws::Call;
@@ -36,10 +36,11 @@ pub(crate) fn add<A: Allocator + Copy>(
         (IsOneMore (configs_of found.old.items) (config_of state) (configs_of found.new.items)) }
     ensures indexed { OnOk result (IsIndexed index.new (configs_of found.new.items)) }
 {
-    if index.is_there(found, &state) {
+    let place = index.place(&state);
+    if index.is_there(found, &state, place) {
         return Ok(());
     }
-    index.note(&state)?;
+    index.note(place)?;
     push(found, state)?;
     Ok(())
 }
@@ -75,11 +76,14 @@ fn attempt<A: Allocator + Copy>(
     index: &mut Index<A>,
     at: usize,
     calls: &[Call],
+    taken: &[u64],
     call: Call,
     bound: usize,
 ) -> Result<(), Full>
     requires inside { at < length found.old.items }
     requires indexed { IsIndexed index.old (configs_of found.old.items) }
+    requires partners { (c : Config) → slice_get (configs_of found.old.items) at ≡ Some c
+        → ArePartners calls.now c.effects taken.now }
     ensures expands { OnOk result (Expands at calls.now (call ∷ [])
         (configs_of found.old.items) (configs_of found.new.items)) }
     ensures full { IfErr result (λ full. full ≡ Configurations → GivesUp calls.now (call ∷ []) bound
@@ -91,11 +95,10 @@ fn attempt<A: Allocator + Copy>(
     if is_idle(call.operation.op, state.word) {
         return Ok(());
     }
-    let next = changed(alloc, state, calls, call)?;
-    let enough = fits(alloc, calls, &next.effects)?;
-    if !enough {
+    let Some(_) = newest_left(calls, taken, effect_of(state, call)) else {
         return Ok(());
-    }
+    };
+    let next = changed(alloc, state, calls, call)?;
     add_within(found, index, next, bound)?;
     Ok(())
 }
@@ -119,8 +122,11 @@ fn expand<A: Allocator + Copy>(
     ensures few { OnOk result (length found.new.items ≤ max bound (length found.old.items)) }
     ensures indexed { OnOk result (IsIndexed index.new (configs_of found.new.items)) }
 {
+    let Some(taken) = partners(alloc, calls, &found[at].effects)? else {
+        return Ok(());
+    };
     for i in 0..newest.len() {
-        attempt(alloc, found, index, at, calls, newest[i], bound)?;
+        attempt(alloc, found, index, at, calls, &taken, newest[i], bound)?;
     }
     Ok(())
 }

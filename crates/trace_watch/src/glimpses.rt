@@ -34,20 +34,6 @@ pub(crate) fn are_seen(seen: &[Glimpse], others: &[Glimpse]) -> bool
     true
 }
 
-/// A copy of some glimpses.
-pub(crate) fn copied_seen<A: Allocator>(
-    alloc: A,
-    seen: &[Glimpse],
-) -> Result<Vec<Glimpse, A>, AllocError>
-    ensures { IfOk result (λ v. v.items ≡ seen.now) }
-{
-    let mut copies = Vec::new(alloc);
-    for i in 0..seen.len() {
-        copies.push(seen[i])?;
-    }
-    Ok(copies)
-}
-
 /// The highest number of some operations, or 0.
 fn newest_number(calls: &[Call]) -> u64
     ensures { result ≡ newest_number calls.now }
@@ -69,7 +55,7 @@ fn other_words<A: Allocator>(
 ) -> Result<Vec<Glimpse, A>, AllocError>
     ensures { IfOk result (λ v. v.items ≡ other_words word seen.now) }
 {
-    let mut others = Vec::new(alloc);
+    let mut others = Vec::with_capacity(alloc, seen.len() + 1)?;
     for i in 0..seen.len() {
         let glimpse = seen[i];
         if glimpse.word != word {

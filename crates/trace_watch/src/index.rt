@@ -2,10 +2,10 @@
 
 ghost use Rattle.std.specs.Prelude.{◌≡◌, ◌<◌, ◌+◌, ◌*◌, ◌%◌, ◌^◌, ℕ, List, [], Some, true, false, length, slice_get};
 ghost use Rattle.std.specs.Prelude.{IfOk, OnOk, bit_or};
-ghost use Rattle.trace_watch.specs.Chains.{AreChained, IsIndexed, IsMask, place_of, spot_of};
+ghost use Rattle.trace_watch.specs.Chains.{AreChained, IsIndexed, IsMask, IsPlaceOf, spot_of};
 ghost use Rattle.trace_watch.specs.States.{Config, IsAmong, config_of, configs_of};
 
-use crate::state::{Effect, State, is_covered, rank, told};
+use crate::state::{Effect, State, first_value, is_covered, rank, told};
 use std::alloc::{AllocError, Allocator};
 
 /// How many places there are at first: an odd number, as later on, so that each bit of a mask counts.
@@ -46,7 +46,8 @@ pub(crate) fn empty_index<A: Allocator + Copy>(alloc: A) -> Result<Index<A>, All
 fn marked(mask: u64, effect: Effect) -> u64
     ensures { result ≡ bit_or mask (1 * 2 ^ spot_of effect % 2 ^ 64) }
 {
-    let spot = (rank(effect.op) + told(effect.reply) % 64 * 11) % 64;
+    let spot = (rank(effect.op) + told(effect.reply) % 64 * 11 + first_value(effect.op) % 64 * 23)
+        % 64;
     mask | (1 << spot)
 }
 
@@ -62,25 +63,34 @@ fn mask_of(effects: &[Effect]) -> u64
 }
 
 /// Of so many places the one of a state, in whatever order its operations took effect.
-fn place<A: Allocator>(state: &State<A>, count: usize) -> usize
+fn place_among<A: Allocator>(state: &State<A>, count: usize) -> usize
     requires { 0 < count }
     ensures low { result < count }
-    ensures place { (mask : ℕ) × IsMask state.now.effects.items mask
-        × (result ≡ place_of count state.now.word mask) }
+    ensures place { IsPlaceOf count (config_of state.now) result }
 {
     let mask = mask_of(&state.effects);
-    let count = count as u64;
-    ((state.word % count).wrapping_add(mask % count) % count) as usize
+    (state.word.wrapping_add(mask) % count as u64) as usize
 }
 
 impl<A: Allocator + Copy> Index<A> {
+    /// The place of a state.
+    pub(crate) fn place(&self, state: &State<A>) -> usize
+        requires { 0 < length self.now.heads.items }
+        ensures low { result < length self.now.heads.items }
+        ensures place { IsPlaceOf (length self.now.heads.items) (config_of state.now) result }
+    {
+        place_among(state, self.heads.len())
+    }
+
     /// Whether one of the states tells of whatever this one does.
-    pub(crate) fn is_there(&self, found: &[State<A>], state: &State<A>) -> bool
-        requires { IsIndexed self.now (configs_of found.now) }
+    pub(crate) fn is_there(&self, found: &[State<A>], state: &State<A>, place: usize) -> bool
+        requires indexed { IsIndexed self.now (configs_of found.now) }
+        requires inside { place < length self.now.heads.items }
+        requires place { IsPlaceOf (length self.now.heads.items) (config_of state.now) place }
         ensures yes { result ≡ true → IsAmong (configs_of found.now) (config_of state.now) }
         ensures no { result ≡ false → IsAmong (configs_of found.now) (config_of state.now) → ⊥ }
     {
-        let mut next = self.heads[place(state, self.heads.len())];
+        let mut next = self.heads[place];
         while next > 0 {
             let at = next - 1;
             if is_covered(&found[at], state) {
@@ -91,18 +101,18 @@ impl<A: Allocator + Copy> Index<A> {
         false
     }
 
-    /// Puts the next state into its chain.
-    pub(crate) fn note(&mut self, state: &State<A>) -> Result<(), AllocError>
-        requires { 0 < length self.old.heads.items }
+    /// Puts the next state into the chain of its place.
+    pub(crate) fn note(&mut self, place: usize) -> Result<(), AllocError>
+        requires { place < length self.old.heads.items }
         ensures places { OnOk result (length self.new.heads.items ≡ length self.old.heads.items) }
         ensures long { OnOk result
             (length self.new.links.items ≡ length self.old.links.items + 1) }
-        ensures chained { OnOk result ((found : List Config)
+        ensures chained { OnOk result ((found : List Config) (c : Config)
+            → IsPlaceOf (length self.old.heads.items) c place
             → AreChained self.old.heads.items self.old.links.items found
-            → slice_get found (length self.old.links.items) ≡ Some (config_of state.now)
+            → slice_get found (length self.old.links.items) ≡ Some c
             → AreChained self.new.heads.items self.new.links.items found) }
     {
-        let place = place(state, self.heads.len());
         self.links.push(self.heads[place])?;
         self.heads[place] = self.links.len();
         Ok(())
@@ -122,7 +132,8 @@ fn index_with<A: Allocator + Copy>(
 {
     let mut index = index_of(alloc, count)?;
     for at in 0..found.len() {
-        index.note(&found[at])?;
+        let place = index.place(&found[at]);
+        index.note(place)?;
     }
     Ok(index)
 }

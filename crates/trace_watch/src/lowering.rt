@@ -3,11 +3,12 @@
 ghost use Rattle.std.specs.Prelude.{◌≡◌, ℕ, Some, true, false, IfOk, OnOk, MatchOption, slice_get};
 ghost use Rattle.trace_laws.specs.declared.event.Call.{Call};
 ghost use Rattle.trace_watch.specs.States.{config_of};
-ghost use Rattle.trace_watch.specs.Lowered.{AreLowered, AreLoweredGlimpses, IsBounded, IsLowered};
-ghost use Rattle.trace_watch.specs.Lowered.{IsNewerFinder, IsNewestFinder, MayFind, NotesGlimpse};
+ghost use Rattle.trace_watch.specs.Lowered.{AreLowered, AreLoweredGlimpses, IsBounded, IsLowered, MayFind};
+ghost use Rattle.trace_watch.specs.Lowered.{NotesGlimpse};
+ghost use Rattle.trace_watch.specs.Matchings.{IsNewestOf};
 
 use crate::glimpses::has_glimpse;
-use crate::matching::newest_of;
+use crate::matching::{newer, newest_of};
 use crate::state::{Effect, Glimpse, State, is_idle};
 use std::alloc::{AllocError, Allocator};
 use trace_laws::Call;
@@ -37,7 +38,7 @@ fn lowered_effects<A: Allocator>(
 ) -> Result<Vec<Effect, A>, AllocError>
     ensures { IfOk result (λ v. AreLowered calls.now effects.now v.items) }
 {
-    let mut lowered = Vec::new(alloc);
+    let mut lowered = Vec::with_capacity(alloc, effects.len())?;
     for i in 0..effects.len() {
         lowered.push(lowered_effect(calls, effects[i]))?;
     }
@@ -52,29 +53,18 @@ pub(crate) fn may_find(glimpse: Glimpse, call: Call) -> bool
     is_idle(call.operation.op, glimpse.word) && call.id <= glimpse.newest
 }
 
-/// The newer one of an operation and the newest so far, of those that may have found the word of a glimpse.
-fn newer_finder(glimpse: Glimpse, newest: Option<Call>, call: Call) -> Option<Call>
-    ensures { IsNewerFinder glimpse newest call result }
-{
-    if !may_find(glimpse, call) {
-        return newest;
-    }
-    match newest {
-        None => Some(call),
-        Some(other) if call.id <= other.id => newest,
-        Some(_) => Some(call),
-    }
-}
-
 /// Of some operations the newest one that may have found the word of a glimpse.
 fn newest_finder(calls: &[Call], glimpse: Glimpse) -> Option<Call>
     ensures { MatchOption result
         ((k : ℕ) (c : Call) → slice_get calls.now k ≡ Some c → MayFind glimpse c → ⊥)
-        (λ c. IsNewestFinder calls.now glimpse c) }
+        (λ c. IsNewestOf calls.now (MayFind glimpse) c) }
 {
     let mut newest = None;
     for i in 0..calls.len() {
-        newest = newer_finder(glimpse, newest, calls[i]);
+        let call = calls[i];
+        if may_find(glimpse, call) {
+            newest = newer(newest, call);
+        }
     }
     newest
 }
@@ -109,7 +99,7 @@ fn lowered_seen<A: Allocator>(
 ) -> Result<Vec<Glimpse, A>, AllocError>
     ensures { IfOk result (λ v. AreLoweredGlimpses calls.now seen.now v.items) }
 {
-    let mut lowered = Vec::new(alloc);
+    let mut lowered = Vec::with_capacity(alloc, seen.len())?;
     for i in 0..seen.len() {
         note_glimpse(&mut lowered, calls, seen[i])?;
     }

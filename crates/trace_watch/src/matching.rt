@@ -3,9 +3,9 @@
 ghost use Rattle.std.specs.Prelude.{◌≡◌, ◌<◌, ◌≤◌, ℕ, Some, true, false, IfOk, MatchOption, slice_get, length};
 ghost use Rattle.trace_laws.specs.declared.event.Call.{Call};
 ghost use Rattle.trace_laws.specs.Configs.{IsIn};
-ghost use Rattle.trace_watch.specs.Matchings.{AreDistinctPartners, FitsPartner, HasAsNew, HasNewest, IsNewer, IsNewestOf, MayBe};
+ghost use Rattle.trace_watch.specs.Matchings.{AreDistinctPartners, ArePartners, FitsPartner, HasAsNew, HasNewest};
+ghost use Rattle.trace_watch.specs.Matchings.{IsNewer, IsNewestOf, MayBe, MayTake};
 
-use crate::pending::{same_calls, without_call};
 use crate::state::Effect;
 use std::alloc::{AllocError, Allocator};
 use trace_laws::Call;
@@ -15,16 +15,13 @@ pub(crate) fn may_be(effect: Effect, call: Call) -> bool
     ensures yes { result ≡ true → MayBe effect call }
     ensures no { result ≡ false → MayBe effect call → ⊥ }
 {
-    call.operation.op == effect.op && call.id <= effect.newest
+    call.id <= effect.newest && call.operation.op == effect.op
 }
 
-/// The newer one of an operation and the newest so far, of those that an effect may be of.
-fn newer(effect: Effect, newest: Option<Call>, call: Call) -> Option<Call>
-    ensures { IsNewer effect newest call result }
+/// The newer one of an operation and the newest so far.
+pub(crate) fn newer(newest: Option<Call>, call: Call) -> Option<Call>
+    ensures { IsNewer newest call result }
 {
-    if !may_be(effect, call) {
-        return newest;
-    }
     match newest {
         None => Some(call),
         Some(other) if call.id <= other.id => newest,
@@ -32,22 +29,75 @@ fn newer(effect: Effect, newest: Option<Call>, call: Call) -> Option<Call>
     }
 }
 
-/// Of some operations the newest one that an effect may be of.
-pub(crate) fn newest_of(calls: &[Call], effect: Effect) -> Option<Call>
+/// Whether a number is one of these.
+fn is_taken(taken: &[u64], id: u64) -> bool
+    ensures yes { result ≡ true → IsIn taken.now id }
+    ensures no { result ≡ false → IsIn taken.now id → ⊥ }
+{
+    for i in 0..taken.len() {
+        if taken[i] == id {
+            return true;
+        }
+    }
+    false
+}
+
+/// Whether an operation is none of those of these numbers, and an effect may be of it.
+fn may_take(taken: &[u64], effect: Effect, call: Call) -> bool
+    ensures yes { result ≡ true → MayTake taken.now effect call }
+    ensures no { result ≡ false → MayTake taken.now effect call → ⊥ }
+{
+    !is_taken(taken, call.id) && may_be(effect, call)
+}
+
+/// Of some operations but for those of these numbers the newest one that an effect may be of.
+pub(crate) fn newest_left(calls: &[Call], taken: &[u64], effect: Effect) -> Option<Call>
     ensures { MatchOption result
-        ((k : ℕ) (c : Call) → slice_get calls.now k ≡ Some c → MayBe effect c → ⊥)
-        (λ c. IsNewestOf calls.now effect c) }
+        ((k : ℕ) (c : Call) → slice_get calls.now k ≡ Some c → MayTake taken.now effect c → ⊥)
+        (λ c. IsNewestOf calls.now (MayTake taken.now effect) c) }
 {
     let mut newest = None;
     for i in 0..calls.len() {
-        newest = newer(effect, newest, calls[i]);
+        let call = calls[i];
+        if may_take(taken, effect, call) {
+            newest = newer(newest, call);
+        }
     }
     newest
 }
 
-/// Whether effects may each be of an operation of its own: each takes the newest one that is left for
-/// it, which serves the others least.
-pub(crate) fn fits<A: Allocator + Copy>(
+/// Of some operations the newest one that an effect may be of.
+pub(crate) fn newest_of(calls: &[Call], effect: Effect) -> Option<Call>
+    ensures { MatchOption result
+        ((k : ℕ) (c : Call) → slice_get calls.now k ≡ Some c → MayBe effect c → ⊥)
+        (λ c. IsNewestOf calls.now (MayBe effect) c) }
+{
+    newest_left(calls, &[], effect)
+}
+
+/// The numbers of the operations that effects take, each of its own: the newest one that is left for it, which
+/// serves the others least.
+pub(crate) fn partners<A: Allocator>(
+    alloc: A,
+    calls: &[Call],
+    effects: &[Effect],
+) -> Result<Option<Vec<u64, A>>, AllocError>
+    ensures { IfOk result (λ taken. MatchOption taken
+        (AreDistinctPartners calls.now → FitsPartner (IsIn calls.now) effects.now → ⊥)
+        (λ v. ArePartners calls.now effects.now v.items)) }
+{
+    let mut taken = Vec::with_capacity(alloc, effects.len())?;
+    for i in 0..effects.len() {
+        let Some(call) = newest_left(calls, &taken, effects[i]) else {
+            return Ok(None);
+        };
+        taken.push(call.id)?;
+    }
+    Ok(Some(taken))
+}
+
+/// Whether effects may each be of an operation of its own.
+pub(crate) fn fits<A: Allocator>(
     alloc: A,
     calls: &[Call],
     effects: &[Effect],
@@ -56,13 +106,9 @@ pub(crate) fn fits<A: Allocator + Copy>(
     ensures no { IfOk result (λ yes. yes ≡ false → AreDistinctPartners calls.now
         → FitsPartner (IsIn calls.now) effects.now → ⊥) }
 {
-    let mut left = same_calls(alloc, calls)?;
-    for i in 0..effects.len() {
-        let Some(call) = newest_of(&left, effects[i]) else {
-            return Ok(false);
-        };
-        left = without_call(alloc, &left, call.id)?;
-    }
+    let Some(_taken) = partners(alloc, calls, effects)? else {
+        return Ok(false);
+    };
     Ok(true)
 }
 

@@ -20,17 +20,6 @@ pub(crate) fn call_of(calls: &[Call], id: u64) -> Option<Call>
     None
 }
 
-/// A copy of these operations.
-pub(crate) fn same_calls<A: Allocator>(alloc: A, calls: &[Call]) -> Result<Vec<Call, A>, AllocError>
-    ensures { IfOk result (λ v. v.items ≡ calls.now) }
-{
-    let mut same = Vec::new(alloc);
-    for i in 0..calls.len() {
-        same.push(calls[i])?;
-    }
-    Ok(same)
-}
-
 /// A copy of these operations, with one more at the end.
 pub(crate) fn with_call<A: Allocator>(
     alloc: A,
@@ -39,10 +28,8 @@ pub(crate) fn with_call<A: Allocator>(
 ) -> Result<Vec<Call, A>, AllocError>
     ensures { IfOk result (λ v. v.items ≡ calls.now ++ call ∷ []) }
 {
-    let mut more = Vec::new(alloc);
-    for i in 0..calls.len() {
-        more.push(calls[i])?;
-    }
+    let mut more = Vec::with_capacity(alloc, calls.len() + 1)?;
+    more.extend_from_slice(calls)?;
     more.push(call)?;
     Ok(more)
 }

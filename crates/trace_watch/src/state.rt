@@ -3,10 +3,10 @@
 ghost use Rattle.std.specs.Prelude.{◌≡◌, ◌<◌, ◌≤◌, ◌++◌, ◌∷◌, [], ℕ, List, Some, true, false, IfOk, length, slice_get};
 ghost use Rattle.std.specs.List.{insert, remove};
 ghost use Rattle.packet.specs.Memory.{new_word};
-ghost use Rattle.trace_watch.specs.States.{AreCovered, Covers, changed, config_of, is_idle, less_one, taken};
+ghost use Rattle.trace_watch.specs.States.{AreCovered, Covers, changed, config_of, effect_of, is_idle, less_one, taken};
 ghost use Rattle.trace_watch.specs.States.{first_value, is_before, rank, second_value, spot, told_word};
 
-use crate::glimpses::{are_seen, copied_seen, seen_by};
+use crate::glimpses::{are_seen, seen_by};
 use packet::{Op, Reply, apply};
 use std::alloc::{AllocError, Allocator};
 use trace_laws::Call;
@@ -65,7 +65,7 @@ pub(crate) fn rank(op: Op) -> u64
 }
 
 /// The first value that an operation brings, or 0.
-fn first_value(op: Op) -> u64
+pub(crate) fn first_value(op: Op) -> u64
     ensures { result ≡ first_value op }
 {
     match op {
@@ -160,17 +160,6 @@ pub(crate) fn is_covered<A: Allocator>(one: &State<A>, other: &State<A>) -> bool
         && are_seen(&one.seen, &other.seen)
 }
 
-/// A copy of some effects.
-fn copied<A: Allocator>(alloc: A, effects: &[Effect]) -> Result<Vec<Effect, A>, AllocError>
-    ensures { IfOk result (λ v. v.items ≡ effects.now) }
-{
-    let mut copies = Vec::new(alloc);
-    for i in 0..effects.len() {
-        copies.push(effects[i])?;
-    }
-    Ok(copies)
-}
-
 /// A copy of some effects and one more, at its place.
 fn effects_with<A: Allocator>(
     alloc: A,
@@ -179,9 +168,9 @@ fn effects_with<A: Allocator>(
 ) -> Result<Vec<Effect, A>, AllocError>
     ensures { IfOk result (λ v. v.items ≡ insert effects.now (spot effects.now effect) effect) }
 {
-    let mut more = copied(alloc, effects)?;
-    let at = spot(&more, effect);
-    more.insert(at, effect)?;
+    let mut more = Vec::with_capacity(alloc, effects.len() + 1)?;
+    more.extend_from_slice(effects)?;
+    more.insert(spot(effects, effect), effect)?;
     Ok(more)
 }
 
@@ -194,8 +183,8 @@ pub(crate) fn copy_of<A: Allocator + Copy>(
 {
     Ok(State {
         word: state.word,
-        effects: copied(alloc, &state.effects)?,
-        seen: copied_seen(alloc, &state.seen)?,
+        effects: Vec::from_slice(alloc, &state.effects)?,
+        seen: Vec::from_slice(alloc, &state.seen)?,
     })
 }
 
@@ -207,6 +196,19 @@ pub(crate) fn is_idle(op: Op, word: u64) -> bool
     next == word
 }
 
+/// What an operation takes effect with in a state.
+pub(crate) fn effect_of<A: Allocator>(state: &State<A>, call: Call) -> Effect
+    ensures { result ≡ effect_of (config_of state.now) call }
+{
+    let op = call.operation.op;
+    let (_, reply) = apply(op, state.word);
+    Effect {
+        op,
+        reply,
+        newest: call.id,
+    }
+}
+
 /// The state after an operation took effect that changes its word, while these are open.
 pub(crate) fn changed<A: Allocator + Copy>(
     alloc: A,
@@ -216,12 +218,11 @@ pub(crate) fn changed<A: Allocator + Copy>(
 ) -> Result<State<A>, AllocError>
     ensures { IfOk result (λ s. config_of s ≡ changed calls.now (config_of state.now) call) }
 {
-    let op = call.operation.op;
-    let (word, reply) = apply(op, state.word);
-    let newest = call.id;
+    let (word, _) = apply(call.operation.op, state.word);
+    let effect = effect_of(state, call);
     Ok(State {
         word,
-        effects: effects_with(alloc, &state.effects, Effect { op, reply, newest })?,
+        effects: effects_with(alloc, &state.effects, effect)?,
         seen: seen_by(alloc, calls, state, word)?,
     })
 }
@@ -238,7 +239,7 @@ pub(crate) fn taken<A: Allocator + Copy>(
 {
     Ok(State {
         word,
-        effects: copied(alloc, &state.effects)?,
+        effects: Vec::from_slice(alloc, &state.effects)?,
         seen: seen_by(alloc, calls, state, word)?,
     })
 }
@@ -252,11 +253,11 @@ pub(crate) fn without<A: Allocator + Copy>(
     requires { at < length state.now.effects.items }
     ensures { IfOk result (λ s. config_of s ≡ less_one (config_of state.now) at) }
 {
-    let mut effects = copied(alloc, &state.effects)?;
+    let mut effects = Vec::from_slice(alloc, &state.effects)?;
     effects.remove(at);
     Ok(State {
         word: state.word,
         effects,
-        seen: copied_seen(alloc, &state.seen)?,
+        seen: Vec::from_slice(alloc, &state.seen)?,
     })
 }

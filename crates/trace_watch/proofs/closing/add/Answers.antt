@@ -6,8 +6,8 @@ use Rattle.trace_watch.proofs.Grown.{one_more_push}
 use Rattle.trace_watch.proofs.Chains.{push_indexed}
 use Rattle.trace_watch.proofs.closing.add.Goals as goal
 
-pub is_there-requires : goal.is_there-requires
-is_there-requires g c =
+pub is_there-requires-clause-indexed : goal.is_there-requires-clause-indexed
+is_there-requires-clause-indexed g c =
     subst (λ (ss : List (State _)). IsIndexed c.args.index.now (configs_of ss)) (sym c.deref.ensures.value) c.requires
 
 pub returns-then-is_there-clause-added : goal.returns-then-is_there-clause-added
@@ -24,4 +24,5 @@ pub returns-clause-indexed : goal.returns-clause-indexed
 returns-clause-indexed g c =
     push_indexed c.args.index.now c.note.new.self c.args.found.now.items c.push.new.found.items c.deref.result.now
     c.args.state c.deref.ensures.value (c.if-is_there.ensures.no refl) c.in_ok-note.ensures.places
-    c.in_ok-note.ensures.long c.in_ok-note.ensures.chained c.in_ok-push.ensures c.requires
+    c.in_ok-note.ensures.long
+    (λ found. c.in_ok-note.ensures.chained found (config_of c.args.state) c.place-place.ensures.place) c.in_ok-push.ensures c.requires

@@ -4,7 +4,7 @@ use Rattle.trace_watch.proofs.LowLoops.{seen_lowered, seen_none, seen_noted}
 use Rattle.trace_watch.proofs.lowering.lowered_seen.Goals as goal
 
 pub loop-i-init : goal.loop-i-init
-loop-i-init g c = seen_none c.args.calls.now c.args.seen.now c.new-lowered.result.items c.new-lowered.ensures.items
+loop-i-init g c = seen_none c.args.calls.now c.args.seen.now c.in_ok-lowered.lowered.items c.in_ok-lowered.ensures.items
 
 pub loop-i-preserved : goal.loop-i-preserved
 loop-i-preserved g c =

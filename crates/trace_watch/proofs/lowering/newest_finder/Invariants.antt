@@ -1,5 +1,6 @@
-use Rattle.trace_watch.proofs.LowLoops.{FinderBelow}
+use Rattle.trace_watch.specs.Lowered.{MayFind}
+use Rattle.trace_watch.proofs.Newest.{NewestBelow}
 use Rattle.trace_watch.proofs.lowering.newest_finder.Given as goal
 
 abbrev pub invariant-loop-i : goal.invariant-loop-i
-invariant-loop-i l = FinderBelow l.calls l.glimpse l.i l.newest
+invariant-loop-i l = NewestBelow l.calls (MayFind l.glimpse) l.i l.newest

@@ -1,7 +1,7 @@
-use Rattle.std.proofs.Common.{◌≡◌, ◌<◌, ◌+◌, List, length, sym, subst, arith}
+use Rattle.std.proofs.Common.{◌≡◌, ◌<◌, List, length, sym, subst, arith}
 use Rattle.std.proofs.lemmas.Option.{slice_get-get_or}
 use Rattle.trace_laws.specs.declared.event.Call.{Call}
-use Rattle.trace_watch.proofs.Sifting.{Filtered, filtered_none, filtered_skip, filtered_push, filtered_all}
+use Rattle.trace_watch.proofs.Sifting.{Filtered, filtered_none, filtered_skip, filtered_pushed, filtered_all}
 use Rattle.trace_watch.proofs.pending.calls_on.Goals as goal
 use Rattle.trace_watch.proofs.pending.calls_on.Goals.{then-call-address+in_ok-push, else-call-address}
 
@@ -14,10 +14,8 @@ loop-i-preserved g c =
     let l : c.loop-i.i < length c.args.calls.now = omega arith in
     elim c.if-call-address.branch [
       | then-call-address+in_ok-push w ↦ rw w.here-is
-          (subst (λ (ys : List Call). Filtered (λ (x : Call). x.operation.address ≡ c.args.address) c.args.calls.now (c.loop-i.i + 1) ys)
-          (sym w.in_ok-push.ensures.items)
-          (filtered_push (λ (x : Call). x.operation.address ≡ c.args.address) c.args.calls.now c.loop-i.i c.loop-i.here.items _
-          (slice_get-get_or c.args.calls.now c.loop-i.i _ l) w.if-call-address.true c.loop-i.invariant))
+          (filtered_pushed (λ (x : Call). x.operation.address ≡ c.args.address) c.args.calls.now c.loop-i.i c.loop-i.here.items _ _
+          (slice_get-get_or c.args.calls.now c.loop-i.i _ l) w.if-call-address.true w.in_ok-push.ensures.items c.loop-i.invariant)
       | else-call-address w ↦ rw w.here-is
           (filtered_skip (λ (x : Call). x.operation.address ≡ c.args.address) c.args.calls.now c.loop-i.i c.loop-i.here.items _
           (slice_get-get_or c.args.calls.now c.loop-i.i _ l) w.if-call-address.false c.loop-i.invariant)

@@ -8,21 +8,17 @@ use Rattle.trace_watch.proofs.index.Index.is_there.Goals as goal
 
 pub loop-next-init : goal.loop-next-init
 loop-next-init g c =
-    let sized = c.args.self.now.heads.ok.0 in
-    let told = c.len.ensures in
-    let long : c.len.result ≡ length c.args.self.now.heads.items = omega arith in
-    let low = c.place.ensures.low in
-    let there : slice_get c.args.self.now.heads.items c.place.result ≡ Some c.index-next.result.now =
-    slice_get_read c.args.self.now.heads.items (length c.args.self.now.heads.items) c.place.result c.index-next.result.now
-    refl (omega arith) c.index-next.ensures in
-    let e = c.requires.long in
+    let there : slice_get c.args.self.now.heads.items c.args.place ≡ Some c.index-next.result.now =
+    slice_get_read c.args.self.now.heads.items (length c.args.self.now.heads.items) c.args.place c.index-next.result.now
+    refl c.requires.inside c.index-next.ensures in
+    let e = c.requires.indexed.long in
     let f = long_configs c.args.found.now in
-    let m = c.requires.chained.inside c.place.result c.index-next.result.now there in
+    let m = c.requires.indexed.chained.inside c.args.place c.index-next.result.now there in
     record {
       inside = omega arith;
       left = chain_begun c.args.self.now.heads.items c.args.self.now.links.items (configs_of c.args.found.now)
-          (config_of c.args.state.now) c.len.result c.place.result c.index-next.result.now long c.place.ensures.place there
-          c.requires.long c.requires.chained;
+          (config_of c.args.state.now) (length c.args.self.now.heads.items) c.args.place c.index-next.result.now refl
+          c.requires.place there c.requires.indexed.long c.requires.indexed.chained;
     }
 
 pub returns-then-is_covered-clause-yes : goal.returns-then-is_covered-clause-yes
@@ -43,9 +39,9 @@ pub loop-next-smaller : goal.loop-next-smaller
 loop-next-smaller g c =
     let some = c.loop-next-test.true in
     let inside = c.loop-next.invariant.inside in
-    let e = c.requires.long in
+    let e = c.requires.indexed.long in
     let f = long_configs c.args.found.now in
-    let m = c.requires.chained.lower (c.loop-next.next - 1) c.index-next-in-loop-next.result.now
+    let m = c.requires.indexed.chained.lower (c.loop-next.next - 1) c.index-next-in-loop-next.result.now
     (slice_get_read c.args.self.now.links.items (length c.args.self.now.links.items) (c.loop-next.next - 1)
     c.index-next-in-loop-next.result.now refl (omega arith) c.index-next-in-loop-next.ensures) in
     omega arith
@@ -54,13 +50,13 @@ pub loop-next-preserved : goal.loop-next-preserved
 loop-next-preserved g c =
     let some = c.loop-next-test.true in
     let inside = c.loop-next.invariant.inside in
-    let e = c.requires.long in
+    let e = c.requires.indexed.long in
     let f = long_configs c.args.found.now in
     let l : c.loop-next.next - 1 < length c.args.found.now = omega arith in
     let linked : slice_get c.args.self.now.links.items (c.loop-next.next - 1) ≡ Some c.index-next-in-loop-next.result.now =
     slice_get_read c.args.self.now.links.items (length c.args.self.now.links.items) (c.loop-next.next - 1)
     c.index-next-in-loop-next.result.now refl (omega arith) c.index-next-in-loop-next.ensures in
-    let m = c.requires.chained.lower (c.loop-next.next - 1) c.index-next-in-loop-next.result.now linked in
+    let m = c.requires.indexed.chained.lower (c.loop-next.next - 1) c.index-next-in-loop-next.result.now linked in
     record {
       inside = omega arith;
       left = chain_skip c.args.self.now.links.items c.args.found.now (config_of c.args.state.now) c.index-found-at.result

@@ -1,0 +1,25 @@
+use Rattle.std.proofs.Common.{◌<◌, length, arith}
+use Rattle.std.proofs.lemmas.Option.{slice_get-get_or}
+use Rattle.trace_watch.proofs.Fitting.{fitting_none, fitting_more, fitting_stuck, fitting_all}
+use Rattle.trace_watch.proofs.matching.partners.Goals as goal
+
+pub loop-i-init : goal.loop-i-init
+loop-i-init g c =
+    fitting_none c.args.calls.now c.args.effects.now c.in_ok-taken.taken.items c.in_ok-taken.ensures.items
+
+pub loop-i-preserved : goal.loop-i-preserved
+loop-i-preserved g c =
+    let l : c.loop-i.i < length c.args.effects.now = omega arith in
+    fitting_more c.args.calls.now c.args.effects.now c.loop-i.i c.loop-i.taken.items c.deref.result.now
+    c.push.new.self.items _ c.in-Some.call (slice_get-get_or c.args.effects.now c.loop-i.i _ l) c.deref.ensures.value
+    c.in-Some.ensures c.in_ok-push.ensures.items c.loop-i.invariant
+
+pub returns-in_default : goal.returns-in_default
+returns-in_default g c =
+    let l : c.loop-i.i < length c.args.effects.now = omega arith in
+    fitting_stuck c.args.calls.now c.args.effects.now c.loop-i.i c.loop-i.taken.items c.deref.result.now _
+    (slice_get-get_or c.args.effects.now c.loop-i.i _ l) c.deref.ensures.value c.in_default.ensures c.loop-i.invariant
+
+pub returns : goal.returns
+returns g c =
+    fitting_all c.args.calls.now c.args.effects.now c.loop-i.i c.loop-i.taken.items (omega arith) c.loop-i.invariant
