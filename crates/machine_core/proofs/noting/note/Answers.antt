@@ -21,6 +21,27 @@ answers g c = c.requires.room.answer c.index-tiles-tile.result
     (looked_up c.index-tiles-tile.result.place.processor.state.operations.answers c.answers.result.now c.args.before.answers c.in-Some.answer.now
     c.answers.ensures c.in-Some.ensures.lookup.0 c.in-Some.ensures.lookup.1)
 
+pub bounds-tiles-tile : goal.bounds-tiles-tile
+bounds-tiles-tile g c = c.requires.tile
+
+pub offset_bounds-tiles-tile : goal.offset_bounds-tiles-tile
+offset_bounds-tiles-tile g c = let h = c.requires.tiles in omega (arith, h, c.requires.tile)
+
+pub overflow_cast-tile : goal.overflow_cast-tile
+overflow_cast-tile g c = omega (arith, c.requires.tiles)
+
+pub overflow_cast-tile-in-Some-get : goal.overflow_cast-tile-in-Some-get
+overflow_cast-tile-in-Some-get g c = omega (arith, c.requires.tiles)
+
+pub returns-then-before-issued-clause-room : goal.returns-then-before-issued-clause-room
+returns-then-before-issued-clause-room g c = c.note_issue.ensures.room
+
+pub returns-in-Some-clause-room : goal.returns-in-Some-clause-room
+returns-in-Some-clause-room g c = c.note_answer.ensures.room
+
+pub returns-in-Some-get-clause-room : goal.returns-in-Some-get-clause-room
+returns-in-Some-get-clause-room g c = c.note_service.ensures.room
+
 pub note_issue-requires-clause-processor : goal.note_issue-requires-clause-processor
 note_issue-requires-clause-processor g c = (issues g c).processor
 

@@ -1,5 +1,6 @@
 use Rattle.std.proofs.Common.{◌≡◌, ◌≤◌, ℕ, replicate, List, length, slice_index, sym, ◌∙◌, ap, arith}
 use Rattle.std.proofs.Math.Nat.{mul-le-mul}
+use Rattle.std.proofs.lemmas.List.{length-map}
 use Rattle.torus.specs.Shape.{tiles_of}
 use Rattle.script_lines.specs.declared.lists.LineList.{LineList}
 use Rattle.script_lines.specs.declared.line.Line.{Line}
@@ -80,6 +81,17 @@ most_moves-left-requires g c =
     let all : c.all_room-rows.result ≡ total_count (lists_of c.args.lists.items) = c.all_room-rows.ensures ∙ ap total_count lists_3 in
     let total = c.requires.scripts.total in
     omega (arith, all, total)
+
+pub processor_rooms-issues-requires-clause-scripts : goal.processor_rooms-issues-requires-clause-scripts
+processor_rooms-issues-requires-clause-scripts g c =
+    let lists = ap (λ (xs : List (LineList _)). length xs) c.as_slice.ensures.value in
+    omega (arith, lists, length-map c.args.lists.items (λ list. list.lines.items), c.requires.scripts.tiles)
+
+pub new-requires-clause-issues : goal.new-requires-clause-issues
+new-requires-clause-issues g c =
+    part_small c.tiles-tiles.result c.processor_rooms-issues.result
+    (λ p low. let few = (c.requires.scripts.each p).count in
+    omega (arith, c.processor_rooms-issues.ensures p, ap (λ (xs : List (LineList _)). operation_count (script_of (lists_of xs) p)) c.as_slice.ensures.value, few))
 
 pub new-requires-clause-positions : goal.new-requires-clause-positions
 new-requires-clause-positions g c =

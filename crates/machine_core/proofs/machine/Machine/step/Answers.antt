@@ -1,4 +1,5 @@
 use Rattle.std.proofs.Common.{sym, ◌∙◌, arith}
+use Rattle.std.proofs.lemmas.Grind.{common_steps}
 use Rattle.machine_core.specs.Inside.{core_of}
 use Rattle.machine_core.proofs.Fields.{follows, stays}
 use Rattle.machine_core.proofs.Standing.{none_past}
@@ -40,3 +41,12 @@ returns-in-Bank-clause-step g c = as_attempt _ _ _ c.args.step (agent_number c.a
 
 pub returns-in-Bank-clause-runs_on : goal.returns-in-Bank-clause-runs_on
 returns-in-Bank-clause-runs_on g c = follows _ _ _ _ (returns-in-Bank-clause-step g c)
+
+pub step_processor_by-requires : goal.step_processor_by-requires
+step_processor_by-requires g c = grind (arith, common_steps)
+
+pub step_router_by-requires : goal.step_router_by-requires
+step_router_by-requires g c = grind (arith, common_steps)
+
+pub step_bank_by-requires : goal.step_bank_by-requires
+step_bank_by-requires g c = grind (arith, common_steps)

@@ -1,4 +1,5 @@
 use Rattle.std.proofs.Common.{◌≡◌, ◌+◌, ◌-◌, ◌*◌, List, length, Some, refl, sym, ◌∙◌, ap, subst, arith, slice_get, slice_set, slice_index}
+use Rattle.std.proofs.lemmas.Grind.{common_steps}
 use Rattle.std.specs.Vec.{with_item}
 use Rattle.std.proofs.lemmas.List.{length-set}
 use Rattle.std.proofs.lemmas.Option.{same_Some}
@@ -149,3 +150,15 @@ moved-requires g c =
     let long = c.self.inside.tiles.ok.0 in
     let low = tile_within c.self.inside c.self.invariant c.args.self.now c.self.view_is c.args.tile c.requires in
     omega (arith, few, long, low)
+
+pub index-requires : goal.index-requires
+index-requires g c = grind (arith, common_steps)
+
+pub index-requires-2 : goal.index-requires-2
+index-requires-2 g c = grind (arith, common_steps)
+
+pub index_mut-requires : goal.index_mut-requires
+index_mut-requires g c = grind (arith, common_steps)
+
+pub attempt_bank-requires-clause-entries : goal.attempt_bank-requires-clause-entries
+attempt_bank-requires-clause-entries g c = grind (arith, common_steps)

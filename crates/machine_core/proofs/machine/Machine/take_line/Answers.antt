@@ -9,7 +9,7 @@ use Rattle.machine_parts.specs.Placed.{PlacedTile}
 use Rattle.machine_parts.specs.Appended.{changed_at}
 use Rattle.machine_parts.specs.Grown.{tile_given, tile_wider, tiles_given, AreAsReported}
 use Rattle.machine_parts.proofs.Items.{seen_at, changed_long}
-use Rattle.machine_core.proofs.Standing.{few_tiles}
+use Rattle.machine_core.proofs.Standing.{few_tiles, tiles_counted}
 use Rattle.machine_core.proofs.Handing as handing
 use Rattle.machine_core.proofs.HandedMachines as machines
 use Rattle.machine_core.proofs.machine.Machine.take_line.Given.{Over}
@@ -30,6 +30,58 @@ room_small g c =
     let more = c.operations-more.ensures in
     let room = c.room.ensures in
     omega (arith, few, more, room)
+
+-- what the line asks for is small, and its processor and its bank are there
+pub overflow_add-room : goal.overflow_add-room
+overflow_add-room g c =
+    let own = handing.own_read c.self.inside c.self.invariant c.args.self.now c.self.view_is c.args.processor c.args.line c.requires c.brings_words.ensures
+    c.index.result.now c.index.ensures in
+    let few = handing.own_few c.self.inside c.self.invariant c.args.self.now c.self.view_is c.args.processor c.args.line c.requires c.brings_words.ensures in
+    omega (arith, own, few, c.operations-more.ensures)
+
+pub sum_of-requires : goal.sum_of-requires
+sum_of-requires g c =
+    let few = handing.all_few c.self.inside c.self.invariant c.args.self.now c.self.view_is c.args.processor c.args.line c.requires c.brings_words.ensures in
+    omega (arith, few, ap (λ (ns : List ℕ). sum ns) c.as_slice.ensures.value)
+
+pub overflow_add-all : goal.overflow_add-all
+overflow_add-all g c =
+    let few = handing.all_few c.self.inside c.self.invariant c.args.self.now c.self.view_is c.args.processor c.args.line c.requires c.brings_words.ensures in
+    omega (arith, few, ap (λ (ns : List ℕ). sum ns) c.as_slice.ensures.value, c.sum_of.ensures, c.operations-more.ensures)
+
+pub home_of-home-requires : goal.home_of-home-requires
+home_of-home-requires g c =
+    let there = handing.tile_there c.self.inside c.self.invariant c.args.self.now c.self.view_is c.args.processor c.args.line c.requires c.brings_words.ensures in
+    let many = tiles_counted c.self.inside c.self.invariant in
+    let shape = handing.home_shape c.self.inside c.self.invariant c.tiles.result c.tiles.ensures.value in
+    omega (arith, there, many, shape)
+
+pub index-requires-2 : goal.index-requires-2
+index-requires-2 g c =
+    let there = handing.home_there c.self.inside c.self.invariant c.tiles.result c.home_of-home.result c.tiles.ensures.value c.home_of-home.ensures.tile in
+    let counted = c.self.inside.tiles.ok.0 in
+    omega (arith, there, counted)
+
+pub put_line-requires-clause-own_tile : goal.put_line-requires-clause-own_tile
+put_line-requires-clause-own_tile g c =
+    handing.tile_there c.self.inside c.self.invariant c.args.self.now c.self.view_is c.args.processor c.args.line c.requires c.brings_words.ensures
+
+pub put_line-requires-clause-home_tile : goal.put_line-requires-clause-home_tile
+put_line-requires-clause-home_tile g c =
+    handing.home_there c.self.inside c.self.invariant c.tiles.result c.home_of-home.result c.tiles.ensures.value c.home_of-home.ensures.tile
+
+pub put_line-requires-clause-few : goal.put_line-requires-clause-few
+put_line-requires-clause-few g c =
+    let own = handing.own_read c.self.inside c.self.invariant c.args.self.now c.self.view_is c.args.processor c.args.line c.requires c.brings_words.ensures
+    c.index.result.now c.index.ensures in
+    let few = handing.own_few c.self.inside c.self.invariant c.args.self.now c.self.view_is c.args.processor c.args.line c.requires c.brings_words.ensures in
+    omega (arith, own, few, c.operations-more.ensures)
+
+pub rouse-requires : goal.rouse-requires
+rouse-requires g c =
+    let there = handing.tile_there c.self.inside c.self.invariant c.args.self.now c.self.view_is c.args.processor c.args.line c.requires c.brings_words.ensures in
+    let few = few_tiles c.self.inside c.self.invariant in
+    omega (arith, there, few)
 
 pub overflow_add-entries : goal.overflow_add-entries
 overflow_add-entries g c = let small = room_small g c in omega (arith, small)

@@ -1,4 +1,5 @@
-use Rattle.std.proofs.Common.{refl, sym, ◌∙◌, ap}
+use Rattle.std.proofs.Common.{arith, refl, sym, ◌∙◌, ap}
+use Rattle.std.proofs.lemmas.Grind.{common_steps}
 use Rattle.torus.specs.declared.step.Choice.{Choice}
 use Rattle.torus.specs.declared.step.Choice.TheVariants.{TakeFrom, Put, CreditOf}
 use Rattle.core_laws.specs.Routers.{ports_woken, router_moved}
@@ -34,3 +35,13 @@ returns-in_default g c =
           ∙ others c.args.tile (ports_woken c.args.self.now.design c.args.op (flags_of c.args.self.now)) c.args.choice c.in_default.not-TakeFrom
           c.in_default.not-Put c.in_default.not-CreditOf;
     }
+
+-- only where all were awake, and then they are
+pub invariant_of-self : goal.invariant_of-self
+invariant_of-self g c = grind (arith, common_steps)
+
+pub invariant_of-self-in-Put : goal.invariant_of-self-in-Put
+invariant_of-self-in-Put g c = grind (arith, common_steps)
+
+pub invariant_of-self-in-CreditOf : goal.invariant_of-self-in-CreditOf
+invariant_of-self-in-CreditOf g c = grind (arith, common_steps)
