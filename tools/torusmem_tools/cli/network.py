@@ -59,7 +59,8 @@
                channels), or hot-spot (a quarter to the first receiver, the others uniform). Where the network has no
                such pair, the sender asks for nothing
   simulate FILE TRAFFIC  sends packets through a network whose routers don't choose, in clocked rounds: what may happen
-               when a round begins is attempted once, so that a flit goes one stage a round. A line of the traffic is
+               when a round begins is attempted once, so that a flit goes one stage a round. Of the heads that ask for
+               a channel one is, and the inputs go round; with `--arbiter turn` all are. A line of the traffic is
                `at ROUND send FROM TO LENGTH`. Each sender begins its packets in this order, none before its round.
                Prints for each packet the rounds in which it is begun and delivered, and its latency; for each channel
                how many flits left it, and for how many rounds one waited behind it in vain; and last `empty after round

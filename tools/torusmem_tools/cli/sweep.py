@@ -115,7 +115,9 @@ def row_of(point: Point, found: list[offered_load.Found]) -> dict[str, Any]:
 
 def table(rows: list[dict[str, Any]]) -> str:
     """What the loads came to, as text."""
-    heads = [next(iter(rows[0])), "traffic", "offered", "accepted", "latency", "p95", "longest", "of one sender", "without load", ""]
+    first = next(iter(rows[0]))
+    one = "of one sender" if first == "network" else "of one tile"
+    heads = [first, "traffic", "offered", "accepted", "latency", "p95", "longest", one, "without load", ""]
     cells = [heads]
     for it in rows:
         zero = "-" if it["zero_load"] is None else f"{it['zero_load']:.2f}"

@@ -134,7 +134,7 @@ def found_of(point: Point, machine: replay.Machine, asks: list[list[int]]) -> Fo
     """What a run came to. A time counts the cycle in which an operation is asked for and that in which it is answered."""
     within: Callable[[int], bool] = lambda now: point.warm_up < now <= point.warm_up + point.window
     ends = [[cycles.cycle_if(it.answered, point.cycle) for it in processor.operations] for processor in machine.processors]
-    of_one = [sum(it is not None and within(it) for it in row) / point.window for row in ends]
+    of_one = [sum(it is not None and within(it) for it in row) for row in ends]
     times, is_drained = [], True
     for row, asked_in in zip(ends, asks):
         for at, now in enumerate(asked_in):
@@ -146,8 +146,9 @@ def found_of(point: Point, machine: replay.Machine, asks: list[list[int]]) -> Fo
     if not times:
         raise command.Refusal("no operation is measured: --window is too short for this load")
     rising = sorted(times)
-    accepted = sum(of_one) / len(of_one)
-    return Found(accepted, sum(rising) / len(rising), percentile(rising, 95), len(rising), is_drained, min(of_one), max(of_one), rising[-1])
+    accepted = sum(of_one) / (point.window * len(of_one))
+    shares = min(of_one) / point.window, max(of_one) / point.window
+    return Found(accepted, sum(rising) / len(rising), percentile(rising, 95), len(rising), is_drained, *shares, rising[-1])
 
 
 def zero_load(point: Point) -> float | None:

@@ -113,10 +113,10 @@ def found_of(point: Point, report: traffic_report.Delivered, senders: List[int])
     times = sorted(end - begin + 1 for begin, end in due if end is not None)
     if not times:
         raise command.Refusal("no packet is measured: --window is too short for this load")
-    accepted = Counter(it.packet.start for it, end in zip(report.sent, last) if end is not None and point.is_measured(end))
-    of_one = [accepted[it] / point.window for it in senders]
-    return Found(sum(of_one) / len(of_one), sum(times) / len(times), percentile(times, 95), len(times), len(times) == len(due),
-                 min(of_one), max(of_one), times[-1])
+    arrived = Counter(it.packet.start for it, end in zip(report.sent, last) if end is not None and point.is_measured(end))
+    of_one = [arrived[it] for it in senders]
+    accepted, shares = sum(of_one) / (point.window * len(senders)), (min(of_one) / point.window, max(of_one) / point.window)
+    return Found(accepted, sum(times) / len(times), percentile(times, 95), len(times), len(times) == len(due), *shares, times[-1])
 
 
 def zero_load(point: Point) -> Optional[float]:
