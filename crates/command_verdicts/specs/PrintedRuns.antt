@@ -18,7 +18,7 @@ use Rattle.program_fault.specs.Done.{Does, Output}
 use Rattle.command_verdicts.specs.Printed.{IsNetworkFault}
 
 -- a text is that of a run by which the network of a text, given as the list of its lines,
--- deadlocks, only if there is one, and else that of its verdict; and whether the verdict's numbers
+-- deadlocks, where it has a cycle, and else that of its verdict; and whether the verdict's numbers
 -- rise
 pub record IsLockUpText (A : Type 0) (lines : List (List ℕ)) (depth : ℕ) (rising : Bool)
     (text : List ℕ) : Type 0 where
