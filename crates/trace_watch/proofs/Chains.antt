@@ -6,7 +6,7 @@ use Rattle.trace_laws.proofs.Lists.{get_push_cases, get_append_left, get_push, g
 use Rattle.trace_watch.specs.declared.index.Index.{Index}
 use Rattle.trace_watch.specs.States.{Config, Covers, IsAmong, config_of, configs_of}
 use Rattle.trace_watch.specs.Crowds.{AreUnlike, IsOpenCrowd}
-use Rattle.trace_watch.specs.Chains.{IsMask, IsChain, IsPlaceOf, AreChained, IsIndexed, place_of}
+use Rattle.trace_watch.specs.Chains.{IsMask, IsChain, HasPlace, AreChained, IsIndexed, place_of}
 use Rattle.trace_watch.specs.declared.state.State.{State}
 use Rattle.trace_watch.proofs.Grown.{goes_back, goes_push, configs_push, long_configs}
 use Rattle.trace_watch.proofs.Loops.{config_at}
@@ -115,7 +115,7 @@ chained_more heads links found word mask head c later more some is masked there 
 
 -- at the place that was found for it
 pub chained_there : (heads links : List ℕ) (found : List Config) (c : Config) (place n head : ℕ) (more : List ℕ)
-    → place < length heads → IsPlaceOf (length heads) c place → slice_get heads place ≡ Some head
+    → place < length heads → HasPlace (length heads) c place → slice_get heads place ≡ Some head
     → more ≡ links ++ head ∷ [] → n ≡ length more → slice_get found (length links) ≡ Some c
     → AreChained heads links found → AreChained (set heads place n) more found
 chained_there heads links found c place n head more low p there pushed all here are =

@@ -8,16 +8,16 @@ use Rattle.trace_laws.specs.declared.event.Call.{Call}
 use Rattle.trace_laws.proofs.Lists.{get_append_left, get_push, get_push_cases, get_within}
 use Rattle.trace_laws.specs.Configs.{IsIn}
 use Rattle.trace_watch.specs.declared.state.Effect.{Effect}
-use Rattle.trace_watch.specs.Matchings.{AreDistinctPartners, ArePartners, FitsPartner, HasAsNew, HasNewest, IsLeft, IsNewestOf, Matches, MayTake, Other}
+use Rattle.trace_watch.specs.Matchings.{AreDistinctPartners, ArePartners, FitsPartner, HasAsNew, HasNewest, IsUntaken, IsNewestOf, Matches, MayStillBe, Other}
 use Rattle.trace_watch.proofs.Matched.{fits_weaken, insert_middle, match_insert, match_take, newest_back, newest_first, weaken}
 use Rattle.trace_watch.proofs.Sifting.{drop_at, drop_end}
 
 -- what is left for the effects from place i on, and others
 pub record Fitting (calls : List Call) (effects : List Effect) (i : ℕ) (taken : List ℕ) : Type 0 where
-  pub up : (more : List Effect) → FitsPartner (IsLeft calls taken) (drop i effects ++ more)
+  pub up : (more : List Effect) → FitsPartner (IsUntaken calls taken) (drop i effects ++ more)
       → FitsPartner (IsIn calls) (effects ++ more)
   pub down : AreDistinctPartners calls → (more : List Effect) → FitsPartner (IsIn calls) (effects ++ more)
-      → FitsPartner (IsLeft calls taken) (drop i effects ++ more)
+      → FitsPartner (IsUntaken calls taken) (drop i effects ++ more)
 
 pub nothing_taken : (n : ℕ) → IsIn [] n → ⊥
 nothing_taken n on = let e : None ≡ Some n = on.1 in cc
@@ -25,21 +25,21 @@ nothing_taken n on = let e : None ≡ Some n = on.1 in cc
 pub fitting_none : (calls : List Call) (effects : List Effect) (taken : List ℕ) → taken ≡ []
     → Fitting calls effects 0 taken
 fitting_none calls effects taken none = subst (λ (ns : List ℕ). Fitting calls effects 0 ns) (sym none) (record {
-  up = λ more fit. fits_weaken (IsLeft calls []) (IsIn calls) (λ c left. left.0) (effects ++ more) fit;
+  up = λ more fit. fits_weaken (IsUntaken calls []) (IsIn calls) (λ c left. left.0) (effects ++ more) fit;
   down = λ apart more fit.
-      fits_weaken (IsIn calls) (IsLeft calls []) (λ c on. (on, nothing_taken c.id)) (effects ++ more) fit;
+      fits_weaken (IsIn calls) (IsUntaken calls []) (λ c on. (on, nothing_taken c.id)) (effects ++ more) fit;
 })
 
 -- what is left when one more is taken
-left_less : (calls : List Call) (taken : List ℕ) (p c : Call) → IsLeft calls (taken ++ p.id ∷ []) c
-    → Other (IsLeft calls taken) p.id c
+left_less : (calls : List Call) (taken : List ℕ) (p c : Call) → IsUntaken calls (taken ++ p.id ∷ []) c
+    → Other (IsUntaken calls taken) p.id c
 left_less calls taken p c left = (
   (left.0, λ on. left.1 (on.0, get_append_left taken (p.id ∷ []) on.0 c.id on.1)),
   λ same. left.1 (length taken, get_push taken p.id ∙ ap (λ (n : ℕ). Some n) (sym same)),
 )
 
-left_more : (calls : List Call) (taken : List ℕ) (p c : Call) → Other (IsLeft calls taken) p.id c
-    → IsLeft calls (taken ++ p.id ∷ []) c
+left_more : (calls : List Call) (taken : List ℕ) (p c : Call) → Other (IsUntaken calls taken) p.id c
+    → IsUntaken calls (taken ++ p.id ∷ []) c
 left_more calls taken p c other = (
   other.0.0,
   λ on. ⊎_elim {C = ⊥}
@@ -50,27 +50,27 @@ left_more calls taken p c other = (
 
 -- the newest operation is taken
 pub fitting_more : (calls : List Call) (effects : List Effect) (i : ℕ) (taken read later : List ℕ) (e : Effect) (p : Call)
-    → slice_get effects i ≡ Some e → read ≡ taken → IsNewestOf calls (MayTake read e) p → later ≡ taken ++ p.id ∷ []
+    → slice_get effects i ≡ Some e → read ≡ taken → IsNewestOf calls (MayStillBe read e) p → later ≡ taken ++ p.id ∷ []
     → Fitting calls effects i taken → Fitting calls effects (i + 1) later
 fitting_more calls effects i taken read later e p here same found pushed was =
     subst (λ (ns : List ℕ). Fitting calls effects (i + 1) ns) (sym pushed) (record {
-      up = λ more fit. was.up more (subst (λ (es : List Effect). FitsPartner (IsLeft calls taken) es) (sym (split more))
-          (newest_back (IsLeft calls taken) e (drop (i + 1) effects ++ more) p on best.may.may
-          (fits_weaken (IsLeft calls (taken ++ p.id ∷ [])) (Other (IsLeft calls taken) p.id) (left_less calls taken p)
+      up = λ more fit. was.up more (subst (λ (es : List Effect). FitsPartner (IsUntaken calls taken) es) (sym (split more))
+          (newest_back (IsUntaken calls taken) e (drop (i + 1) effects ++ more) p on best.may.may
+          (fits_weaken (IsUntaken calls (taken ++ p.id ∷ [])) (Other (IsUntaken calls taken) p.id) (left_less calls taken p)
           (drop (i + 1) effects ++ more) fit)));
       down = λ apart more fit.
-          fits_weaken (Other (IsLeft calls taken) p.id) (IsLeft calls (taken ++ p.id ∷ [])) (left_more calls taken p)
+          fits_weaken (Other (IsUntaken calls taken) p.id) (IsUntaken calls (taken ++ p.id ∷ [])) (left_more calls taken p)
           (drop (i + 1) effects ++ more)
-          (newest_first (IsLeft calls taken) e (drop (i + 1) effects ++ more) p
+          (newest_first (IsUntaken calls taken) e (drop (i + 1) effects ++ more) p
           (λ c d in_c in_d one. apart c d in_c.0 in_d.0 one) on best.may.may
           (λ c left may. best.newest left.0.0 c left.0.1 (record { may = may; left = left.1 }))
-          (subst (λ (es : List Effect). FitsPartner (IsLeft calls taken) es) (split more) (was.down apart more fit)));
+          (subst (λ (es : List Effect). FitsPartner (IsUntaken calls taken) es) (split more) (was.down apart more fit)));
     })
   where
-    best : IsNewestOf calls (MayTake taken e) p
-    best = subst (λ (ns : List ℕ). IsNewestOf calls (MayTake ns e) p) same found
+    best : IsNewestOf calls (MayStillBe taken e) p
+    best = subst (λ (ns : List ℕ). IsNewestOf calls (MayStillBe ns e) p) same found
 
-    on : IsLeft calls taken p
+    on : IsUntaken calls taken p
     on = (best.on, best.may.left)
 
     one : suc i ≡ i + 1
@@ -83,23 +83,23 @@ fitting_more calls effects i taken read later e p here same found pushed was =
 -- there is none
 pub fitting_stuck : (calls : List Call) (effects : List Effect) (i : ℕ) (taken read : List ℕ) (e : Effect)
     → slice_get effects i ≡ Some e → read ≡ taken
-    → ((k : ℕ) (c : Call) → slice_get calls k ≡ Some c → MayTake read e c → ⊥) → Fitting calls effects i taken
+    → ((k : ℕ) (c : Call) → slice_get calls k ≡ Some c → MayStillBe read e c → ⊥) → Fitting calls effects i taken
     → AreDistinctPartners calls → FitsPartner (IsIn calls) effects → ⊥
 fitting_stuck calls effects i taken read e here same none was apart fit =
-    stuck (subst (λ (es : List Effect). FitsPartner (IsLeft calls taken) (es ++ [])) (drop_at effects i e here)
+    stuck (subst (λ (es : List Effect). FitsPartner (IsUntaken calls taken) (es ++ [])) (drop_at effects i e here)
     (was.down apart [] (subst (λ (es : List Effect). FitsPartner (IsIn calls) es) (sym (append-nil effects)) fit)))
   where
-    stuck : FitsPartner (IsLeft calls taken) (e ∷ (drop (suc i) effects ++ [])) → ⊥
+    stuck : FitsPartner (IsUntaken calls taken) (e ∷ (drop (suc i) effects ++ [])) → ⊥
     stuck ([], m) = m
     stuck (c ∷ cs, m) = none m.0.0.0 c m.0.0.1
-        (subst (λ (ns : List ℕ). MayTake ns e c) (sym same) (record { may = m.1; left = m.0.1 }))
+        (subst (λ (ns : List ℕ). MayStillBe ns e c) (sym same) (record { may = m.1; left = m.0.1 }))
 
 pub fitting_all : (calls : List Call) (effects : List Effect) (i : ℕ) (taken : List ℕ) → length effects ≤ i
     → Fitting calls effects i taken → ArePartners calls effects taken
 fitting_all calls effects i taken all was = record {
-  enough = λ more fit. was.up more (subst (λ (es : List Effect). FitsPartner (IsLeft calls taken) (es ++ more)) (sym end) fit);
+  enough = λ more fit. was.up more (subst (λ (es : List Effect). FitsPartner (IsUntaken calls taken) (es ++ more)) (sym end) fit);
   least = λ apart more fit.
-      subst (λ (es : List Effect). FitsPartner (IsLeft calls taken) (es ++ more)) end (was.down apart more fit);
+      subst (λ (es : List Effect). FitsPartner (IsUntaken calls taken) (es ++ more)) end (was.down apart more fit);
 }
   where
     end : drop i effects ≡ []
@@ -150,16 +150,16 @@ moved_back P es k e fit =
     )
 
 pub partners_more : (calls : List Call) (es : List Effect) (taken : List ℕ) (k : ℕ) (e : Effect) (c : Call)
-    → ArePartners calls es taken → IsIn calls c → MayTake taken e c → FitsPartner (IsIn calls) (insert es k e)
+    → ArePartners calls es taken → IsIn calls c → MayStillBe taken e c → FitsPartner (IsIn calls) (insert es k e)
 partners_more calls es taken k e c are on may =
     moved_there (IsIn calls) es k e (are.enough (e ∷ []) (c ∷ [], ((on, may.left), may.may, tt)))
 
 pub partners_end : (calls : List Call) (es : List Effect) (taken : List ℕ) (k : ℕ) (e : Effect)
-    → ArePartners calls es taken → ((c : Call) → IsIn calls c → MayTake taken e c → ⊥) → AreDistinctPartners calls
+    → ArePartners calls es taken → ((c : Call) → IsIn calls c → MayStillBe taken e c → ⊥) → AreDistinctPartners calls
     → FitsPartner (IsIn calls) (insert es k e) → ⊥
 partners_end calls es taken k e are none apart fit = stuck (are.least apart (e ∷ []) (moved_back (IsIn calls) es k e fit))
   where
-    stuck : FitsPartner (IsLeft calls taken) (e ∷ []) → ⊥
+    stuck : FitsPartner (IsUntaken calls taken) (e ∷ []) → ⊥
     stuck ([], m) = m
     stuck (c ∷ cs, m) = none c m.0.0 (record { may = m.1; left = m.0.1 })
 

@@ -6,7 +6,7 @@ use Rattle.trace_laws.specs.declared.event.Call.{Call}
 use Rattle.trace_laws.proofs.Lists.{get_within}
 use Rattle.trace_laws.specs.Configs.{IsIn}
 use Rattle.trace_watch.specs.declared.state.Effect.{Effect}
-use Rattle.trace_watch.specs.Matchings.{IsNewer, IsNewestOf, MayBe, MayTake}
+use Rattle.trace_watch.specs.Matchings.{IsNewer, IsNewestOf, MayBe, MayStillBe}
 use Rattle.trace_watch.proofs.Fitting.{nothing_taken}
 
 -- the newest of the operations before place i that may
@@ -106,8 +106,8 @@ below_all calls May i (Some d) all was = record {
 
 -- where no number is taken
 pub newest_untaken : (calls : List Call) (e : Effect) (newest : Option Call)
-    → MatchOption newest ((k : ℕ) (c : Call) → slice_get calls k ≡ Some c → MayTake [] e c → ⊥)
-    (λ c. IsNewestOf calls (MayTake [] e) c)
+    → MatchOption newest ((k : ℕ) (c : Call) → slice_get calls k ≡ Some c → MayStillBe [] e c → ⊥)
+    (λ c. IsNewestOf calls (MayStillBe [] e) c)
     → MatchOption newest ((k : ℕ) (c : Call) → slice_get calls k ≡ Some c → MayBe e c → ⊥)
     (λ c. IsNewestOf calls (MayBe e) c)
 newest_untaken calls e None was = λ k c h may. was k c h (record { may = may; left = nothing_taken c.id })

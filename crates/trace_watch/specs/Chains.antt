@@ -22,8 +22,8 @@ abbrev pub place_of : ℕ → ℕ → ℕ → ℕ
 place_of count word mask = (word + mask) % 2 ^ 64 % count
 
 -- of so many places the one of a configuration
-abbrev pub IsPlaceOf : ℕ → Config → ℕ → Type 0
-IsPlaceOf count c place = (mask : ℕ) × IsMask c.effects mask × (place ≡ place_of count c.word mask)
+abbrev pub HasPlace : ℕ → Config → ℕ → Type 0
+HasPlace count c place = (mask : ℕ) × IsMask c.effects mask × (place ≡ place_of count c.word mask)
 
 -- the links lead from a number to configuration i: a number is one more than that of a
 -- configuration, and 0 ends a chain

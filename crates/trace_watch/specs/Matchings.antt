@@ -40,21 +40,21 @@ IsNewer last call next = ((next ≡ last) × ((d : Call) × (last ≡ Some d) ×
     ⊎ ((next ≡ Some call) × ((d : Call) → last ≡ Some d → d.id ≤ call.id))
 
 -- an effect may be of an operation, which is none of those of these numbers
-pub record MayTake (taken : List ℕ) (e : Effect) (call : Call) : Type 0 where
+pub record MayStillBe (taken : List ℕ) (e : Effect) (call : Call) : Type 0 where
   pub may : MayBe e call
   pub left : IsIn taken call.id → ⊥
 
 -- one of these operations, and none of those of these numbers
-abbrev pub IsLeft : List Call → List ℕ → Call → Type 0
-IsLeft calls taken call = IsIn calls call × (IsIn taken call.id → ⊥)
+abbrev pub IsUntaken : List Call → List ℕ → Call → Type 0
+IsUntaken calls taken call = IsIn calls call × (IsIn taken call.id → ⊥)
 
 -- the operations are enough for these effects and more, where those but for these numbers are for the
 -- others
 pub record ArePartners (calls : List Call) (effects : List Effect) (taken : List ℕ) : Type 0 where
-  pub enough : (more : List Effect) → FitsPartner (IsLeft calls taken) more
+  pub enough : (more : List Effect) → FitsPartner (IsUntaken calls taken) more
       → FitsPartner (IsIn calls) (effects ++ more)
   pub least : AreDistinctPartners calls → (more : List Effect)
-      → FitsPartner (IsIn calls) (effects ++ more) → FitsPartner (IsLeft calls taken) more
+      → FitsPartner (IsIn calls) (effects ++ more) → FitsPartner (IsUntaken calls taken) more
 
 -- one of these asks the same and is as new
 abbrev pub HasAsNew : List Call → Call → Type 0

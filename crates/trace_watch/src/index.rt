@@ -2,7 +2,7 @@
 
 ghost use Rattle.std.specs.Prelude.{◌≡◌, ◌<◌, ◌+◌, ◌*◌, ◌%◌, ◌^◌, ℕ, List, [], Some, true, false, length, slice_get};
 ghost use Rattle.std.specs.Prelude.{IfOk, OnOk, bit_or};
-ghost use Rattle.trace_watch.specs.Chains.{AreChained, IsIndexed, IsMask, IsPlaceOf, spot_of};
+ghost use Rattle.trace_watch.specs.Chains.{AreChained, IsIndexed, IsMask, HasPlace, spot_of};
 ghost use Rattle.trace_watch.specs.States.{Config, IsAmong, config_of, configs_of};
 
 use crate::state::{Effect, State, first_value, is_covered, rank, told};
@@ -66,7 +66,7 @@ fn mask_of(effects: &[Effect]) -> u64
 fn place_among<A: Allocator>(state: &State<A>, count: usize) -> usize
     requires { 0 < count }
     ensures low { result < count }
-    ensures place { IsPlaceOf count (config_of state.now) result }
+    ensures place { HasPlace count (config_of state.now) result }
 {
     let mask = mask_of(&state.effects);
     (state.word.wrapping_add(mask) % count as u64) as usize
@@ -77,7 +77,7 @@ impl<A: Allocator + Copy> Index<A> {
     pub(crate) fn place(&self, state: &State<A>) -> usize
         requires { 0 < length self.now.heads.items }
         ensures low { result < length self.now.heads.items }
-        ensures place { IsPlaceOf (length self.now.heads.items) (config_of state.now) result }
+        ensures place { HasPlace (length self.now.heads.items) (config_of state.now) result }
     {
         place_among(state, self.heads.len())
     }
@@ -86,7 +86,7 @@ impl<A: Allocator + Copy> Index<A> {
     pub(crate) fn is_there(&self, found: &[State<A>], state: &State<A>, place: usize) -> bool
         requires indexed { IsIndexed self.now (configs_of found.now) }
         requires inside { place < length self.now.heads.items }
-        requires place { IsPlaceOf (length self.now.heads.items) (config_of state.now) place }
+        requires place { HasPlace (length self.now.heads.items) (config_of state.now) place }
         ensures yes { result ≡ true → IsAmong (configs_of found.now) (config_of state.now) }
         ensures no { result ≡ false → IsAmong (configs_of found.now) (config_of state.now) → ⊥ }
     {
@@ -108,7 +108,7 @@ impl<A: Allocator + Copy> Index<A> {
         ensures long { OnOk result
             (length self.new.links.items ≡ length self.old.links.items + 1) }
         ensures chained { OnOk result ((found : List Config) (c : Config)
-            → IsPlaceOf (length self.old.heads.items) c place
+            → HasPlace (length self.old.heads.items) c place
             → AreChained self.old.heads.items self.old.links.items found
             → slice_get found (length self.old.links.items) ≡ Some c
             → AreChained self.new.heads.items self.new.links.items found) }

@@ -4,7 +4,7 @@ ghost use Rattle.std.specs.Prelude.{◌≡◌, ◌<◌, ◌≤◌, ℕ, Some, tr
 ghost use Rattle.trace_laws.specs.declared.event.Call.{Call};
 ghost use Rattle.trace_laws.specs.Configs.{IsIn};
 ghost use Rattle.trace_watch.specs.Matchings.{AreDistinctPartners, ArePartners, FitsPartner, HasAsNew, HasNewest};
-ghost use Rattle.trace_watch.specs.Matchings.{IsNewer, IsNewestOf, MayBe, MayTake};
+ghost use Rattle.trace_watch.specs.Matchings.{IsNewer, IsNewestOf, MayBe, MayStillBe};
 
 use crate::state::Effect;
 use std::alloc::{AllocError, Allocator};
@@ -43,9 +43,9 @@ fn is_taken(taken: &[u64], id: u64) -> bool
 }
 
 /// Whether an operation is none of those of these numbers, and an effect may be of it.
-fn may_take(taken: &[u64], effect: Effect, call: Call) -> bool
-    ensures yes { result ≡ true → MayTake taken.now effect call }
-    ensures no { result ≡ false → MayTake taken.now effect call → ⊥ }
+fn may_still_be(taken: &[u64], effect: Effect, call: Call) -> bool
+    ensures yes { result ≡ true → MayStillBe taken.now effect call }
+    ensures no { result ≡ false → MayStillBe taken.now effect call → ⊥ }
 {
     !is_taken(taken, call.id) && may_be(effect, call)
 }
@@ -53,13 +53,13 @@ fn may_take(taken: &[u64], effect: Effect, call: Call) -> bool
 /// Of some operations but for those of these numbers the newest one that an effect may be of.
 pub(crate) fn newest_left(calls: &[Call], taken: &[u64], effect: Effect) -> Option<Call>
     ensures { MatchOption result
-        ((k : ℕ) (c : Call) → slice_get calls.now k ≡ Some c → MayTake taken.now effect c → ⊥)
-        (λ c. IsNewestOf calls.now (MayTake taken.now effect) c) }
+        ((k : ℕ) (c : Call) → slice_get calls.now k ≡ Some c → MayStillBe taken.now effect c → ⊥)
+        (λ c. IsNewestOf calls.now (MayStillBe taken.now effect) c) }
 {
     let mut newest = None;
     for i in 0..calls.len() {
         let call = calls[i];
-        if may_take(taken, effect, call) {
+        if may_still_be(taken, effect, call) {
             newest = newer(newest, call);
         }
     }
