@@ -10,3 +10,4 @@ pub mod Valued
 pub mod Watched
 pub mod Hints
 pub mod Json
+pub mod WatchedTable

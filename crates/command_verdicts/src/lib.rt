@@ -15,12 +15,14 @@ pub mod table;
 pub mod told;
 pub mod values;
 pub mod watched;
+pub mod watched_table;
 
 pub use command::{Judged, linearize_text};
 pub use explaining::{
     explain_lock_up, explain_models, explain_network, explain_no_order, explain_other_run,
     explain_replay, explain_run_models, explain_simulation, explain_trace, explain_values,
 };
+pub use hints::begins_table;
 pub use json::{Verdict, json_object, verdict_of_status};
 pub use model::{Modelled, is_report, judged_models_text, model_text, report_models_text};
 pub use network::network_text;
@@ -32,3 +34,4 @@ pub use told::{judged_verdict, model_status, model_verdict, status, verdict_text
 pub use trace_answer::LineText;
 pub use values::{Decided, decided_status, values_text};
 pub use watched::watched_verdict;
+pub use watched_table::watch_table;

@@ -21,7 +21,7 @@ use std::alloc::Allocator;
 use trace_table::{TableTrace, read_table};
 
 /// A verdict on the trace text of a table, with the lines of the table.
-fn verdict_in_table<A: Allocator>(trace: &TableTrace<A>, verdict: Judged) -> Judged
+pub(crate) fn verdict_in_table<A: Allocator>(trace: &TableTrace<A>, verdict: Judged) -> Judged
     ensures { result ≡ verdict_in_table trace.now.lines.items verdict }
 {
     match verdict {
@@ -40,7 +40,10 @@ fn verdict_in_table<A: Allocator>(trace: &TableTrace<A>, verdict: Judged) -> Jud
 }
 
 /// A fault of the trace text of a table, at the line of the table.
-fn fault_in_table<A: Allocator>(trace: &TableTrace<A>, fault: ProgramFault) -> ProgramFault
+pub(crate) fn fault_in_table<A: Allocator>(
+    trace: &TableTrace<A>,
+    fault: ProgramFault,
+) -> ProgramFault
     ensures { result ≡ fault_in_table trace.now.lines.items fault }
 {
     match fault {
@@ -68,7 +71,10 @@ fn answer_in_table<A: Allocator>(
 /// The trace text of a table.
 ///
 /// Errors: the first fault of the table, or out of memory at line 0.
-fn traced<A: Allocator + Copy>(alloc: A, table: &[u8]) -> Result<TableTrace<A>, LineFault>
+pub(crate) fn traced<A: Allocator + Copy>(
+    alloc: A,
+    table: &[u8],
+) -> Result<TableTrace<A>, LineFault>
     ensures trace { IfOk result
         (λ t. IsTraceOfTable (lines table.now) t.text.items t.lines.items) }
     ensures fault { IfErr result

@@ -1,3 +1,4 @@
 pub mod Stream
 pub mod Views
 pub mod Watching
+pub mod Whole

@@ -1,25 +1,20 @@
--- What each line makes of what the lines before it gave, where a trace is read while it comes: of the
--- operations those are kept that aren't answered (this project's own format).
-use Rattle.std.specs.Prelude.{ℕ, ◌+◌, ◌^◌, ◌&&◌, ◌==◌, Bool, not, nat_le, nat_lt, List, [], ◌∷◌, ◌++◌}
-use Rattle.std.specs.Prelude.{Option, Some, None, Result, Ok, Err, if◌then◌else◌, codes, ok_or}
+-- What each line makes of what the lines before it gave, where a trace is read while it comes: of
+-- the operations those are kept that aren't answered (this project's own format).
+use Rattle.std.specs.Prelude.{ℕ, ◌+◌, ◌^◌, ◌&&◌, ◌==◌, Bool, not, nat_lt, List, [], ◌∷◌, ◌++◌}
+use Rattle.std.specs.Prelude.{Option, Some, None, Result, Ok, Err, if◌then◌else◌, ok_or}
 use Rattle.std.specs.Prelude.{option_map, replicate, slice_get, slice_set}
 use Rattle.std.specs.List.{position, remove, slice_index_or}
-use Rattle.std.specs.Str.{bytes_eq}
 use Rattle.packet.specs.declared.kinds.Operation.{Operation}
 use Rattle.packet.specs.Kinds.{code_of}
 use Rattle.lexer.specs.Outcome.{◌>>=◌}
-use Rattle.lexer.specs.Words.{begins_comment}
 use Rattle.trace_laws.specs.declared.event.Event.{Event}
 use Rattle.trace_laws.specs.declared.event.Event.TheVariants as event
-use Rattle.trace_lines.specs.declared.form.Form.{Form}
-use Rattle.trace_lines.specs.declared.reason.LineReason.{LineReason}
-use Rattle.trace_lines.specs.declared.reason.LineReason.TheVariants as line
-use Rattle.trace_lines.specs.Form.{number_at, spelled_form, form_operation, told_of, reply_read}
-use Rattle.trace_lines.specs.Form.{unwanted_reply}
-use Rattle.trace_lines.specs.Head.{HeadSpec, no_head, after_title, after_init_line, after_words_line}
-use Rattle.trace_lines.specs.Head.{processor_read}
+use Rattle.trace_lines.specs.Form.{reply_read, unwanted_reply}
+use Rattle.trace_lines.specs.Head.{HeadSpec, no_head}
 use Rattle.trace_lines.specs.Reasons.{map_err, unless_refused}
-use Rattle.trace_text.specs.declared.reason.Keyword.TheVariants as key
+use Rattle.trace_text.specs.declared.line.TraceLine.{TraceLine}
+use Rattle.trace_text.specs.declared.line.TraceLine.TheVariants as line
+use Rattle.trace_text.specs.Lines.{line_given}
 use Rattle.trace_text.specs.declared.reason.TraceReason.{TraceReason}
 use Rattle.trace_text.specs.declared.reason.TraceReason.TheVariants as reason
 use Rattle.command_watch.specs.declared.open_issue.OpenIssue.{OpenIssue}
@@ -51,15 +46,6 @@ nothing_streamed = record {
   given = Nothing;
 }
 
--- what a line of the head makes of it
-abbrev pub with_stream_head : StreamSpec → Result HeadSpec LineReason → Result StreamSpec TraceReason
-with_stream_head r made = map_err reason.Line made >>= λ head. Ok (record r { head = head })
-
--- the number of words is that of a trace, at most 2^20
-abbrev pub words_in_stream : HeadSpec → List (List ℕ) → Result HeadSpec LineReason
-words_in_stream h values = after_words_line h values >>= λ next.
-    if nat_lt (2 ^ 20) next.words then Err line.WordsLimits else Ok next
-
 -- the next operation of a processor, whose number is how many were issued before
 abbrev pub next_issue : StreamSpec → ℕ → ℕ → Operation → OpenIssue
 next_issue r number p o = record {
@@ -85,25 +71,12 @@ with_pending_issue r number p o =
     else (if not (nat_lt (slice_index_or r.counts p 0) (2 ^ 62)) then Err reason.OperationsLimits
     else Ok (with_open_issue r (next_issue r number p o)))
 
--- an issue: the number of words is given, the processor is below 4096, and the address and the
--- values are in their ranges
-abbrev pub issue_of_form : StreamSpec → ℕ → ℕ → Form → Result StreamSpec TraceReason
-issue_of_form r number p form =
-    map_err reason.Line (processor_read r.head p) >>= λ p.
-    map_err reason.Line (form_operation r.head.words form) >>= with_pending_issue r number p
-
-abbrev pub issue_in_stream : StreamSpec → ℕ → List (List ℕ) → Result StreamSpec TraceReason
-issue_in_stream r number (processor ∷ word ∷ operands) =
-    map_err reason.Line (number_at 1 processor) >>= λ p.
-    map_err reason.Line (spelled_form word operands) >>= issue_of_form r number p
-issue_in_stream r number [] = Err (reason.WordCount key.Issue)
-issue_in_stream r number (processor ∷ []) = Err (reason.WordCount key.Issue)
-
 -- an operation is that of a processor and an index
 abbrev pub is_issue_of : ℕ → ℕ → OpenIssue → Bool
 is_issue_of p index issue = (issue.processor == p) && (issue.index == index)
 
--- why an operation of a processor isn't open: it is answered, or the processor hasn't issued as many
+-- why an operation of a processor isn't open: it is answered, or the processor hasn't issued as
+-- many
 abbrev pub why_not_pending : StreamSpec → ℕ → ℕ → TraceReason
 why_not_pending r p index =
     if nat_lt index (slice_index_or r.counts p 0) then reason.AnsweredTwice
@@ -126,35 +99,15 @@ answer_of_pending r p index told =
     ok_or (slice_get r.pending place) (why_not_pending r p index) >>= λ issue.
     closed_issue r place issue told
 
-abbrev pub answer_in_stream : StreamSpec → List (List ℕ) → Result StreamSpec TraceReason
-answer_in_stream r (processor ∷ index ∷ reply ∷ []) =
-    map_err reason.Line (number_at 1 processor) >>= λ p.
-    map_err reason.Line (number_at 2 index) >>= λ k.
-    map_err reason.Line (told_of reply) >>= λ told.
-    map_err reason.Line (processor_read r.head p) >>= λ p. answer_of_pending r p k told
-answer_in_stream r [] = Err (reason.WordCount key.Answer)
-answer_in_stream r (processor ∷ []) = Err (reason.WordCount key.Answer)
-answer_in_stream r (processor ∷ index ∷ []) = Err (reason.WordCount key.Answer)
-answer_in_stream r (processor ∷ index ∷ reply ∷ other ∷ more) =
-    Err (reason.WordCount key.Answer)
+-- what a line that gives this makes of it
+abbrev pub given_in_stream : StreamSpec → ℕ → TraceLine → Result StreamSpec TraceReason
+given_in_stream r number line.Nothing = Ok (record r { given = Nothing })
+given_in_stream r number (line.Issue p o) = with_pending_issue r number p o
+given_in_stream r number (line.Answer p index told) = answer_of_pending r p index told
 
--- what a line of a keyword and these words makes of it
-abbrev pub after_stream_keyword :
-    StreamSpec → ℕ → List ℕ → List (List ℕ) → Result StreamSpec TraceReason
-after_stream_keyword r number keyword values =
-    if not r.head.begun
-    then with_stream_head r (after_title r.head (codes "trace") keyword values)
-    else (if bytes_eq keyword (codes "issue") then issue_in_stream r number values
-    else (if bytes_eq keyword (codes "answer") then answer_in_stream r values
-    else (if bytes_eq keyword (codes "init")
-    then with_stream_head r (after_init_line r.head (not (r.issued == 0)) values)
-    else (if bytes_eq keyword (codes "words")
-    then with_stream_head r (words_in_stream r.head values)
-    else Err reason.UnknownKeyword))))
-
--- what the words of a line make of it; a line without words and a comment are skipped
+-- what the words of a line make of it: a line of a trace is read whose memory has at most 2^20
+-- words
 abbrev pub after_stream_line : StreamSpec → ℕ → List (List ℕ) → Result StreamSpec TraceReason
-after_stream_line r number [] = Ok (record r { given = Nothing })
-after_stream_line r number (keyword ∷ values) =
-    if begins_comment keyword then Ok (record r { given = Nothing })
-    else after_stream_keyword (record r { given = Nothing }) number keyword values
+after_stream_line r number words =
+    line_given (2 ^ 20) (not (r.issued == 0)) r.head words >>= λ read.
+    given_in_stream (record r { head = read.0 }) number read.1

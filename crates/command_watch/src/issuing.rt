@@ -1,9 +1,8 @@
 //! Issues and answers as a trace gives them while it comes.
 
-ghost use Rattle.std.specs.Prelude.{◌≡◌, map, Some, slice_get};
+ghost use Rattle.std.specs.Prelude.{◌≡◌, Some, slice_get};
 ghost use Rattle.lexer.specs.Outcome.{Makes};
-ghost use Rattle.command_watch.specs.Stream.{issue_in_stream, issue_of_form, with_pending_issue};
-ghost use Rattle.command_watch.specs.Stream.{answer_in_stream, answer_of_pending, closed_issue};
+ghost use Rattle.command_watch.specs.Stream.{answer_of_pending, closed_issue, with_pending_issue};
 ghost use Rattle.command_watch.specs.Stream.{why_not_pending};
 ghost use Rattle.command_watch.specs.Views.{stream_of};
 
@@ -12,37 +11,17 @@ use crate::stream::StreamReading;
 use packet::Operation;
 use std::alloc::Allocator;
 use trace_laws::Call;
-use trace_lines::{Form, LineReason, number_at, reply_read, spelled_form, told_of, unwanted_reply};
-use trace_text::{Keyword, TraceReason};
+use trace_lines::{LineReason, reply_read, unwanted_reply};
+use trace_text::TraceReason;
 
 impl<A: Allocator + Copy> StreamReading<A> {
-    /// Takes the processor and the operation of an issue.
-    pub(crate) fn take_issue(&mut self, line: u64, values: &[&[u8]]) -> Result<(), TraceReason>
-        ensures { Makes (TraceReason.Line LineReason.Memory) (stream_of self.new) result
-            (issue_in_stream (stream_of self.old) line (map (λ value. value.now) values.now)) }
-    {
-        match values {
-            [processor, word, operands @ ..] => {
-                let p = number_at(1, processor)?;
-                let form = spelled_form(word, operands)?;
-                self.issue(line, p, form)
-            }
-            _ => Err(TraceReason::WordCount(Keyword::Issue)),
-        }
-    }
-
-    /// An operation is issued.
-    fn issue(&mut self, line: u64, p: u128, form: Form) -> Result<(), TraceReason>
-        ensures { Makes (TraceReason.Line LineReason.Memory) (stream_of self.new) result
-            (issue_of_form (stream_of self.old) line p form) }
-    {
-        let p = self.head.processor(p)?;
-        let operation = form.operation(self.head.words())?;
-        self.add_issue(line, p, operation)
-    }
-
     /// Adds an operation.
-    fn add_issue(&mut self, line: u64, p: u32, operation: Operation) -> Result<(), TraceReason>
+    pub(crate) fn add_issue(
+        &mut self,
+        line: u64,
+        p: u32,
+        operation: Operation,
+    ) -> Result<(), TraceReason>
         ensures { Makes (TraceReason.Line LineReason.Memory) (stream_of self.new) result
             (with_pending_issue (stream_of self.old) line p operation) }
     {
@@ -66,23 +45,6 @@ impl<A: Allocator + Copy> StreamReading<A> {
         Ok(())
     }
 
-    /// Takes the processor, the index and the reply of an answer.
-    pub(crate) fn take_answer(&mut self, values: &[&[u8]]) -> Result<(), TraceReason>
-        ensures { Makes (TraceReason.Line LineReason.Memory) (stream_of self.new) result
-            (answer_in_stream (stream_of self.old) (map (λ value. value.now) values.now)) }
-    {
-        match values {
-            [processor, index, reply] => {
-                let p = number_at(1, processor)?;
-                let index = number_at(2, index)?;
-                let told = told_of(reply)?;
-                let p = self.head.processor(p)?;
-                self.answer(p, index, told)
-            }
-            _ => Err(TraceReason::WordCount(Keyword::Answer)),
-        }
-    }
-
     /// Why an operation of a processor isn't open: it is answered, or it was never issued.
     fn why_not_open(&self, p: u32, index: u128) -> TraceReason
         ensures { result ≡ why_not_pending (stream_of self.now) p index }
@@ -96,7 +58,12 @@ impl<A: Allocator + Copy> StreamReading<A> {
     }
 
     /// An operation of a processor is answered.
-    fn answer(&mut self, p: u32, index: u128, told: Option<u128>) -> Result<(), TraceReason>
+    pub(crate) fn answer(
+        &mut self,
+        p: u32,
+        index: u128,
+        told: Option<u128>,
+    ) -> Result<(), TraceReason>
         ensures { Makes (TraceReason.Line LineReason.Memory) (stream_of self.new) result
             (answer_of_pending (stream_of self.old) p index told) }
     {

@@ -9,6 +9,7 @@ pub mod saying;
 pub mod stop;
 pub mod stream;
 pub mod watching;
+pub mod whole;
 
 pub use ending::{End, Ended, watch};
 pub use open_issue::{Given, OpenIssue};
@@ -16,3 +17,4 @@ pub use saying::EndSentence;
 pub use stop::Stop;
 pub use stream::StreamReading;
 pub use watching::Watching;
+pub use whole::{Watched, watch_trace};

@@ -1,16 +1,14 @@
 //! What the lines of a trace give, one after the other, while it comes.
 
-ghost use Rattle.std.specs.Prelude.{◌≡◌, ◌==◌, codes, length, map, not, IfOk};
+ghost use Rattle.std.specs.Prelude.{◌≡◌, map, IfOk};
 ghost use Rattle.lexer.specs.Outcome.{Makes};
-ghost use Rattle.trace_lines.specs.Head.{after_title, after_init_line};
-ghost use Rattle.command_watch.specs.Stream.{after_stream_line, after_stream_keyword};
-ghost use Rattle.command_watch.specs.Stream.{nothing_streamed, with_stream_head, words_in_stream};
+ghost use Rattle.command_watch.specs.Stream.{after_stream_line, given_in_stream, nothing_streamed};
 ghost use Rattle.command_watch.specs.Views.{stream_of};
 
 use crate::open_issue::{Given, OpenIssue};
 use std::alloc::{AllocError, Allocator};
 use trace_lines::{Head, LineReason};
-use trace_text::TraceReason;
+use trace_text::{TraceLine, TraceReason, read_line};
 
 /// The most words that a memory has whose trace is watched.
 const MOST_WORDS: u64 = 1 << 20;
@@ -50,73 +48,30 @@ impl<A: Allocator + Copy> StreamReading<A> {
         ensures { Makes (TraceReason.Line LineReason.Memory) (stream_of self.new) result
             (after_stream_line (stream_of self.old) line (map (λ word. word.now) words.now)) }
     {
-        self.given = Given::Nothing;
-        match words {
-            [] => Ok(()),
-            [[b'#', ..], ..] => Ok(()),
-            [keyword, values @ ..] => self.take_keyword(line, keyword, values),
-        }
+        let is_late = self.issued != 0;
+        let given = read_line(&mut self.head, MOST_WORDS, is_late, words)?;
+        self.take_line(line, given)
     }
 
-    /// Takes a line by its keyword.
-    fn take_keyword(
-        &mut self,
-        line: u64,
-        keyword: &[u8],
-        values: &[&[u8]],
-    ) -> Result<(), TraceReason>
+    /// Takes what a line gives.
+    pub(crate) fn take_line(&mut self, line: u64, given: TraceLine) -> Result<(), TraceReason>
         ensures { Makes (TraceReason.Line LineReason.Memory) (stream_of self.new) result
-            (after_stream_keyword (stream_of self.old) line keyword.now
-            (map (λ value. value.now) values.now)) }
+            (given_in_stream (stream_of self.old) line given) }
     {
-        if !self.head.begun() {
-            return self.take_title(keyword, values);
+        match given {
+            TraceLine::Nothing => {
+                self.given = Given::Nothing;
+                Ok(())
+            }
+            TraceLine::Issue {
+                processor,
+                operation,
+            } => self.add_issue(line, processor, operation),
+            TraceLine::Answer {
+                processor,
+                index,
+                told,
+            } => self.answer(processor, index, told),
         }
-        if keyword == b"issue".as_slice() {
-            return self.take_issue(line, values);
-        }
-        if keyword == b"answer".as_slice() {
-            return self.take_answer(values);
-        }
-        if keyword == b"init".as_slice() {
-            return self.take_init(values);
-        }
-        if keyword == b"words".as_slice() {
-            return self.take_words(values);
-        }
-        Err(TraceReason::UnknownKeyword)
-    }
-
-    /// Takes the first line.
-    fn take_title(&mut self, keyword: &[u8], values: &[&[u8]]) -> Result<(), TraceReason>
-        ensures { Makes (TraceReason.Line LineReason.Memory) (stream_of self.new) result
-            (with_stream_head (stream_of self.old) (after_title self.old.head (codes "trace")
-            keyword.now (map (λ value. value.now) values.now))) }
-    {
-        self.head.take_title(b"trace".as_slice(), keyword, values)?;
-        Ok(())
-    }
-
-    /// Takes the number of words.
-    fn take_words(&mut self, values: &[&[u8]]) -> Result<(), TraceReason>
-        ensures { Makes (TraceReason.Line LineReason.Memory) (stream_of self.new) result
-            (with_stream_head (stream_of self.old) (words_in_stream self.old.head
-            (map (λ value. value.now) values.now))) }
-    {
-        self.head.take_words(values)?;
-        if self.head.words() > MOST_WORDS {
-            return Err(TraceReason::Line(LineReason::WordsLimits));
-        }
-        Ok(())
-    }
-
-    /// Takes the address and the value of an opening word.
-    fn take_init(&mut self, values: &[&[u8]]) -> Result<(), TraceReason>
-        ensures { Makes (TraceReason.Line LineReason.Memory) (stream_of self.new) result
-            (with_stream_head (stream_of self.old) (after_init_line self.old.head
-            (not (self.old.issued == 0)) (map (λ value. value.now) values.now))) }
-    {
-        self.head.take_init(self.issued != 0, values)?;
-        Ok(())
     }
 }

@@ -17,5 +17,5 @@ pub use fault::{ProgramFault, finished, status_of};
 pub use fault_lines::{FaultLine, Kind, ReportLine, fault_line};
 pub use message::{FaultText, fault_text};
 pub use telling::{Cause, explain_by, fault_cause, is_of_texts, named, told};
-pub use texts::{Failure, Names, Texts, read_texts};
+pub use texts::{Failure, Names, Texts, bytes_behind, read_texts};
 pub use unread::Unread;

@@ -1,7 +1,6 @@
 //! The texts of a command, read whole.
 
 use crate::unread::Unread;
-use std::alloc::Global;
 use std::fs::{File, OpenFile};
 use std::io::{ErrorKind, Input, Read};
 use std::rt::Files;
@@ -50,8 +49,8 @@ pub fn read_texts<'a, R: Files + Input + AllocGlobal>(
     })
 }
 
-/// All bytes of the text of a name; none where there is no name. Where standard input `is_taken`, it
-/// can't be read.
+/// All bytes of the text of a name; none where there is no name. Where standard input `is_taken`,
+/// it can't be read.
 fn text<'a, R: Files + Input + AllocGlobal>(
     rt: &R,
     name: Option<&'a str>,
@@ -62,7 +61,7 @@ fn text<'a, R: Files + Input + AllocGlobal>(
     };
     let bytes = match name {
         "-" if is_taken => Err(Unread::Taken),
-        "-" => bytes_of(rt.alloc(), rt.reader()),
+        "-" => bytes_behind(Vec::new(rt.alloc()), rt.reader()),
         _ => file_bytes(rt, name),
     };
     match bytes {
@@ -78,12 +77,14 @@ fn file_bytes<R: Files + AllocGlobal>(rt: &R, name: &str) -> Result<Vec<u8>, Unr
     if file.metadata()?.len() > MOST_BYTES {
         return Err(Unread::TooLong);
     }
-    bytes_of(rt.alloc(), file)
+    bytes_behind(Vec::new(rt.alloc()), file)
 }
 
-/// All bytes that a reader has. Of one that doesn't end within the limit, one byte more is read.
-fn bytes_of<T: Read + Drop>(alloc: Global, reader: T) -> Result<Vec<u8>, Unread> {
-    let mut bytes = Vec::new(alloc);
+/// These bytes, and behind them all that a reader has. Of one that doesn't end within the limit, a
+/// byte more than the limit is read.
+///
+/// Errors: why it can't be read, or that all are more than 2 GiB.
+pub fn bytes_behind<T: Read + Drop>(mut bytes: Vec<u8>, reader: T) -> Result<Vec<u8>, Unread> {
     reader.take(MOST_BYTES + 1).read_to_end(&mut bytes)?;
     if bytes.len() as u64 > MOST_BYTES {
         return Err(Unread::TooLong);

@@ -29,7 +29,7 @@ use std::sync::Wait;
 use std::thread::Threads;
 use talking::talk;
 use telling::{explain_fault, explain_outcome, status_told};
-use watching::watched;
+use watching::{Wanted, watched};
 
 fn main(rt: HostRuntime) -> ExitCode {
     let is_seen = rt.stderr().is_terminal();
@@ -110,7 +110,13 @@ fn other_done<R: Files + Input + Print + Eprint + Clock + AllocGlobal + Threads 
         configurations,
     } = request.job
     {
-        return watched(rt, json, trace, configurations, is_explained);
+        let wanted = Wanted {
+            json,
+            name: trace,
+            configurations,
+            is_explained,
+        };
+        return watched(rt, &wanted);
     }
     if let Some(command) = json {
         return judged_as_json(rt, command, request, is_seen);

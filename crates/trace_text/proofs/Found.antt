@@ -21,14 +21,14 @@ use Rattle.trace_judge.specs.Verdicts.{TellsTraceVerdict}
 use Rattle.trace_text.specs.declared.linearize.Unfound.{Unfound}
 use Rattle.trace_text.specs.Findings.{place_of_address, placed_address, opening_words_at, trace_read, unfound_at, IsUnfound}
 use Rattle.trace_text.specs.Kept.{IsKeptIssue}
-use Rattle.trace_text.specs.Renumbered.{moved_call, moved_event, IsRenumbering}
+use Rattle.trace_text.specs.Renumbered.{moved_call, moved_event, IsRenumbered, IsRenumbering}
 use Rattle.trace_lines.specs.Head.{value_in}
 use Rattle.trace_text.specs.Traced.{TraceReading, opening_of}
 use Rattle.trace_text.proofs.Renumbered.{map_get, get_map, take_map, issue_back, answer_back, order_there, order_back, renumbering_take}
 use Rattle.trace_text.proofs.Many.{many_back}
 
 -- what stands at a place, as the code reads it
-read_is : {A : Type 0} (xs : List A) (k : ℕ) (x d : A) → slice_get xs k ≡ Some x → get_or xs k d ≡ x
+pub read_is : {A : Type 0} (xs : List A) (k : ℕ) (x d : A) → slice_get xs k ≡ Some x → get_or xs k d ≡ x
 read_is [] k x d h = absurd (let e : None ≡ Some x = h in cc)
 read_is (y ∷ ys) zero x d h = cc
 read_is (y ∷ ys) (suc k) x d h = read_is ys k x d h
@@ -214,6 +214,16 @@ unfound r k bound (undecided.Operations event) u many =
 -- the words and the events that the judge was given are a trace
 pub trace_given : (r : TraceReading) → IsKeptIssue r → (ws : List ℕ) (es : List Event) → ws ≡ others r → es ≡ moved r → IsTrace (length ws) es
 trace_given r k ws es w e = rw (w, e) (trace_moved r k)
+
+pub renumbered_given : (r : TraceReading) → IsKeptIssue r → (ws : List ℕ) (es : List Event) → ws ≡ others r → es ≡ moved r
+    → IsRenumbered (trace_read r) ws es
+renumbered_given r k ws es w e = record {
+  place = place_of_address r.places;
+  back = placed_address r.addresses;
+  words = subst (λ (v : List ℕ). IsRenumbering (place_of_address r.places) (placed_address r.addresses) (opening_of (trace_read r)) v r.events)
+      (sym w) (renumbering r k);
+  is = e;
+}
 
 pub yes_given : (r : TraceReading) → IsKeptIssue r → (ws : List ℕ) (es : List Event) → ws ≡ others r → es ≡ moved r → (order named : List Call)
     → IsOrder ws es order → named ≡ map (moved_call (placed_address r.addresses)) order → IsOrder (opening_of (trace_read r)) r.events named

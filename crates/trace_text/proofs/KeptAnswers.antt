@@ -1,4 +1,4 @@
--- What the line of an answer keeps true.
+-- What an answer keeps true.
 use Rattle.std.proofs.Common.{◌≡◌, ◌≢◌, ⊎_elim, ℕ, ◌<◌, ◌+◌, false, List, [], ◌∷◌, ◌++◌, length, Some, None, refl, sym, ◌∙◌}
 use Rattle.std.proofs.Common.{ap, subst, arith, slice_get}
 use Rattle.std.specs.Prelude.{Option, option_map, slice_set, is_some, Ok}
@@ -9,14 +9,13 @@ use Rattle.packet.specs.Kinds.{code_of}
 use Rattle.trace_laws.specs.declared.event.Event.TheVariants.{Answer}
 use Rattle.trace_laws.specs.Traces.{TraceAnswersAt}
 use Rattle.trace_laws.proofs.Lists.{get_within, get_set_same, set_get_same, get_set_other}
-use Rattle.trace_lines.specs.Form.{number_at, told_of, reply_read, unwanted_reply}
-use Rattle.trace_lines.specs.Head.{processor_read}
+use Rattle.trace_lines.specs.Form.{reply_read, unwanted_reply}
 use Rattle.trace_lines.specs.Reasons.{map_err}
 use Rattle.trace_text.specs.declared.issued.Issued.{Issued}
 use Rattle.trace_text.specs.declared.reason.TraceReason.TheVariants as reason
 use Rattle.trace_text.specs.IssueNumbers.{numbers_of}
 use Rattle.trace_text.specs.Kept.{IsKeptIssue, IsKnownAs, AreIndexed}
-use Rattle.trace_text.specs.Traced.{TraceReading, with_event, if_issued, after_answer_line}
+use Rattle.trace_text.specs.Traced.{TraceReading, with_event, if_issued, answer_of_index}
 use Rattle.trace_text.proofs.Growing.{longer, issued_before, answered_with, was_issued, issued_later, answer_grows}
 use Rattle.trace_text.proofs.Outcomes.{one_ok, bind_ok, else_ok, unless_ok, or_ok}
 
@@ -80,21 +79,14 @@ none_is : (o : Option Reply) → is_some o ≡ false → o ≡ None
 none_is (Some q) h = absurd (cc)
 none_is None h = refl
 
-pub answer_line_kept : (r next : TraceReading) → IsKeptIssue r → (line : ℕ) (values : List (List ℕ)) → after_answer_line r line values ≡ Ok next → IsKeptIssue next
-answer_line_kept r next k line [] h = absurd (cc)
-answer_line_kept r next k line (a ∷ []) h = absurd (cc)
-answer_line_kept r next k line (a ∷ b ∷ []) h = absurd (cc)
-answer_line_kept r next k line (a ∷ b ∷ c ∷ d ∷ more) h = absurd (cc)
-answer_line_kept r next k line (processor ∷ index ∷ reply ∷ []) h =
-    let p = bind_ok (map_err reason.Line (number_at 1 processor)) _ next h in
-    let x = bind_ok (map_err reason.Line (number_at 2 index)) _ next p.2 in
-    let told = bind_ok (map_err reason.Line (told_of reply)) _ next x.2 in
-    let q = bind_ok (map_err reason.Line (processor_read r.head p.0)) _ next told.2 in
-    let n = bind_ok (if_issued r q.0 (slice_get (numbers_of r.numbers q.0) x.0)) _ next q.2 in
-    let i = bind_ok (if_issued r q.0 (slice_get r.issued n.0)) _ next n.2 in
-    let fits = unless_ok (option_map reason.Line (unwanted_reply (code_of i.0.operation.op) told.0)) _ next i.2 in
+pub answer_of_index_kept : (r next : TraceReading) → IsKeptIssue r → (line p index : ℕ) (told : Option ℕ)
+    → answer_of_index r line p index told ≡ Ok next → IsKeptIssue next
+answer_of_index_kept r next k line p index told h =
+    let n = bind_ok (if_issued r p (slice_get (numbers_of r.numbers p) index)) _ next h in
+    let i = bind_ok (if_issued r p (slice_get r.issued n.0)) _ next n.2 in
+    let fits = unless_ok (option_map reason.Line (unwanted_reply (code_of i.0.operation.op) told)) _ next i.2 in
     let new = else_ok (is_some i.0.reply) _ _ next fits.1 in
-    let s = bind_ok (map_err reason.Line (reply_read told.0)) _ next new.1 in
+    let s = bind_ok (map_err reason.Line (reply_read told)) _ next new.1 in
     let same : with_event (record r { issued = slice_set r.issued n.0 (record i.0 { reply = Some s.0 }) }) line (Answer n.0 s.0) ≡ next = one_ok _ next s.2 in
     subst IsKeptIssue same
     (answer_kept r k line n.0 i.0 (or_ok (slice_get r.issued n.0) _ i.0 i.1) (none_is i.0.reply new.0) s.0)

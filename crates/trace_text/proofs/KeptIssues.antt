@@ -1,27 +1,22 @@
--- What the line of an issue keeps true.
+-- What an issue keeps true.
 use Rattle.std.proofs.Common.{◌≡◌, ◌≢◌, ⊎_elim, ℕ, ◌<◌, ◌^◌, ◌+◌, true, List, [], ◌∷◌, ◌++◌, length, Some, None, refl, sym, ◌∙◌}
 use Rattle.std.proofs.Common.{ap, subst, arith, slice_get, get_or-set_same, get_or-set_other}
 use Rattle.std.specs.Prelude.{Option, nat_lt, not, is_some, Ok, Err, if◌then◌else◌}
 use Rattle.std.proofs.lemmas.Bool.{cases_eq}
 use Rattle.std.proofs.lemmas.List.{length-set}
 use Rattle.packet.specs.declared.kinds.Operation.{Operation}
-use Rattle.packet.specs.Reading.{op_with}
 use Rattle.trace_laws.specs.declared.event.Call.{Call}
 use Rattle.trace_laws.specs.declared.event.Event.TheVariants.{Issue}
 use Rattle.trace_laws.proofs.Lists.{get_push_cases, get_append_left, get_push, get_within}
-use Rattle.trace_lines.specs.declared.form.Form.{Form}
-use Rattle.trace_lines.specs.Form.{number_at, spelled_form, limited_word, form_operation}
-use Rattle.trace_lines.specs.Head.{value_in, with_value, processor_read}
-use Rattle.trace_lines.specs.Reasons.{map_err}
-use Rattle.trace_lines.proofs.Refused.{unmapped}
+use Rattle.trace_lines.specs.Head.{value_in, with_value}
 use Rattle.trace_text.specs.declared.issued.Issued.{Issued}
 use Rattle.trace_text.specs.declared.reason.TraceReason.TheVariants as reason
 use Rattle.trace_text.specs.IssueNumbers.{numbers_of, with_number}
 use Rattle.trace_text.specs.Kept.{IsKeptIssue, IsKnownAs, AreIndexed}
-use Rattle.trace_text.specs.Traced.{TraceReading, with_issue, placed, after_issue_line}
+use Rattle.trace_text.specs.Traced.{TraceReading, with_issue, placed, add_issue}
 use Rattle.trace_text.proofs.Entries.{value_new, value_old}
 use Rattle.trace_text.proofs.Growing.{longer, issued_with, answered_before, was_issued, issued_later, issue_grows}
-use Rattle.trace_text.proofs.Outcomes.{one_ok, bind_ok, else_ok, then_ok, if_ok, lt_true, low_processor}
+use Rattle.trace_text.proofs.Outcomes.{one_ok, bind_ok, else_ok, if_ok}
 
 -- operations are found by processor and index once there is one more
 issue_indexed : (numbers : List (List ℕ)) (issued : List Issued) → length numbers ≡ 4096 → AreIndexed numbers issued → (p : ℕ) → p < 4096
@@ -146,28 +141,13 @@ placed_kept r next k a low h = ⊎_elim
     (if not (nat_lt (length r.addresses) (2 ^ 20)) then Err reason.AddressesLimits
     else Ok (record r { places = with_value r.places a (length r.addresses); addresses = r.addresses ++ a ∷ [] })) next h)
 
--- a good operation is inside the memory
-inside_of : (words : ℕ) (form : Form) (o : Operation) → form_operation words form ≡ Ok o → o.address < words
-inside_of words form o h =
-    let low = then_ok (nat_lt form.address words) _ _ o h in
-    let first = bind_ok (limited_word 4 form.first) _ o low.1 in
-    let second = bind_ok (limited_word 5 form.second) _ o first.2 in
-    let same : record { address = form.address; op = op_with form.code first.0 second.0 } ≡ o = one_ok _ o second.2 in
-    subst (λ (p : Operation). p.address < words) same (lt_true form.address words low.0)
-
-pub issue_line_kept : (r next : TraceReading) → IsKeptIssue r → (line : ℕ) (values : List (List ℕ)) → after_issue_line r line values ≡ Ok next → IsKeptIssue next
-issue_line_kept r next k line [] h = absurd (cc)
-issue_line_kept r next k line (processor ∷ []) h = absurd (cc)
-issue_line_kept r next k line (processor ∷ word ∷ operands) h =
-    let p = bind_ok (map_err reason.Line (number_at 1 processor)) _ next h in
-    let form = bind_ok (map_err reason.Line (spelled_form word operands)) _ next p.2 in
-    let q = bind_ok (map_err reason.Line (processor_read r.head p.0)) _ next form.2 in
-    let o = bind_ok (map_err reason.Line (form_operation r.head.words form.0)) _ next q.2 in
-    let room = else_ok (not (nat_lt (length r.issued) (2 ^ 22))) _ _ next o.2 in
-    let place = bind_ok (placed r o.0.address) _ next room.1 in
-    let inside = inside_of r.head.words form.0 o.0 (unmapped reason.Line _ o.0 o.1) in
-    let there = placed_kept r place.0 k o.0.address inside place.1 in
-    let same : with_issue place.0 line q.0 o.0 ≡ next = one_ok _ next place.2 in
+pub add_issue_kept : (r next : TraceReading) → IsKeptIssue r → (line p : ℕ) (o : Operation) → p < 4096 → o.address < r.head.words
+    → add_issue r line p o ≡ Ok next → IsKeptIssue next
+add_issue_kept r next k line p o small inside h =
+    let room = else_ok (not (nat_lt (length r.issued) (2 ^ 22))) _ _ next h in
+    let place = bind_ok (placed r o.address) _ next room.1 in
+    let there = placed_kept r place.0 k o.address inside place.1 in
+    let same : with_issue place.0 line p o ≡ next = one_ok _ next place.2 in
     subst IsKeptIssue same
-    (issue_kept place.0 there.kept line q.0 o.0 (low_processor r.head p.0 q.0 (unmapped reason.Line _ q.0 q.1))
-    (subst (λ (n : ℕ). o.0.address < n) (sym there.words) inside) there.place there.there)
+    (issue_kept place.0 there.kept line p o small
+    (subst (λ (n : ℕ). o.address < n) (sym there.words) inside) there.place there.there)

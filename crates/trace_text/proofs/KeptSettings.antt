@@ -1,19 +1,16 @@
--- What the title and the lines of settings keep true.
+-- What the lines of the head keep true.
 use Rattle.std.proofs.Common.{◌≡◌, ◌≢◌, ⊎_elim, ℕ, ◌<◌, ◌≤◌, ◌^◌, ◌==◌, ◌&&◌, true, false, List, [], ◌∷◌, length, Some, None, refl, sym, ◌∙◌}
 use Rattle.std.proofs.Common.{subst, arith}
-use Rattle.std.specs.Prelude.{Bool, nat_lt, nat_le, not, Result, Ok, codes}
+use Rattle.std.specs.Prelude.{Bool, nat_lt, nat_le, not, Ok, codes}
 use Rattle.std.specs.Str.{bytes_eq}
 use Rattle.std.proofs.lemmas.Bool.{cases_eq}
 use Rattle.std.proofs.lemmas.Bool.Decides.{nat_tests}
 use Rattle.std.proofs.lemmas.List.{length-replicate}
-use Rattle.trace_lines.specs.declared.reason.LineReason.{LineReason}
 use Rattle.trace_lines.specs.Form.{number_at}
 use Rattle.trace_lines.specs.Head.{HeadSpec, value_in, with_value, opening_wrong, after_init_line, after_words_line, after_title}
-use Rattle.trace_lines.specs.Reasons.{map_err}
-use Rattle.trace_lines.proofs.Refused.{unmapped}
-use Rattle.trace_text.specs.declared.reason.TraceReason.TheVariants as reason
 use Rattle.trace_text.specs.Kept.{IsKeptIssue}
-use Rattle.trace_text.specs.Traced.{TraceReading, no_trace_read, with_head}
+use Rattle.trace_text.specs.Lines.{words_within}
+use Rattle.trace_text.specs.Traced.{TraceReading, no_trace_read}
 use Rattle.trace_text.proofs.Entries.{value_old}
 use Rattle.trace_text.proofs.Growing.{none_issued, none_answered, none_trace}
 use Rattle.trace_text.proofs.Outcomes.{one_ok, bind_ok, else_ok, then_ok, unless_ok, passed, not_true, lt_true}
@@ -66,21 +63,8 @@ head_kept r k head most opened low = record {
   below = λ p a at. low a (k.below p a at);
 }
 
--- a line of the head that is taken leaves a head
-head_taken : (r next : TraceReading) (made : Result HeadSpec LineReason) → with_head r made ≡ Ok next
-    → (head : HeadSpec) × (made ≡ Ok head) × (record r { head = head } ≡ next)
-head_taken r next made h =
-    let w = bind_ok (map_err reason.Line made) _ next h in
-    (w.0, unmapped reason.Line made w.0 w.1, one_ok _ next w.2)
-
-taken_kept : (r next : TraceReading) (made : Result HeadSpec LineReason) → with_head r made ≡ Ok next
-    → ((head : HeadSpec) → made ≡ Ok head → IsKeptIssue (record r { head = head })) → IsKeptIssue next
-taken_kept r next made h kept =
-    let t = head_taken r next made h in
-    subst IsKeptIssue t.2 (kept t.0 t.1)
-
 -- an opening word
-init_kept : (r : TraceReading) → IsKeptIssue r → (late : Bool) (values : List (List ℕ)) (head : HeadSpec)
+pub init_kept : (r : TraceReading) → IsKeptIssue r → (late : Bool) (values : List (List ℕ)) (head : HeadSpec)
     → after_init_line r.head late values ≡ Ok head → IsKeptIssue (record r { head = head })
 init_kept r k late [] head h = absurd (cc)
 init_kept r k late (a ∷ []) head h = absurd (cc)
@@ -98,10 +82,6 @@ init_kept r k late (address ∷ value ∷ []) head h =
     (opened_more r.head.inits r.head.words a.0 v.0 (lt_true a.0 r.head.words (not_true (nat_lt a.0 r.head.words) low.0)) k.opened)
     (λ n l. l))
 
-pub init_line_kept : (r next : TraceReading) → IsKeptIssue r → (late : Bool) (values : List (List ℕ))
-    → with_head r (after_init_line r.head late values) ≡ Ok next → IsKeptIssue next
-init_line_kept r next k late values h = taken_kept r next _ h (init_kept r k late values)
-
 zero_is : (n : ℕ) → (n == 0) ≡ true → n ≡ 0
 zero_is n h = grind (arith, nat_tests, h)
 
@@ -112,11 +92,11 @@ both : (a b : Bool) → (a && b) ≡ true → b ≡ true
 both true b h = h
 both false b h = absurd (cc)
 
-words_kept : (r : TraceReading) → IsKeptIssue r → (values : List (List ℕ)) (head : HeadSpec)
+count_kept : (r : TraceReading) → IsKeptIssue r → (values : List (List ℕ)) (head : HeadSpec)
     → after_words_line r.head values ≡ Ok head → IsKeptIssue (record r { head = head })
-words_kept r k [] head h = absurd (cc)
-words_kept r k (a ∷ b ∷ more) head h = absurd (cc)
-words_kept r k (count ∷ []) head h =
+count_kept r k [] head h = absurd (cc)
+count_kept r k (a ∷ b ∷ more) head h = absurd (cc)
+count_kept r k (count ∷ []) head h =
     let w = bind_ok (number_at 1 count) _ head h in
     let new = else_ok (not (r.head.words == 0)) _ _ head w.2 in
     let small = then_ok (nat_le 1 w.0 && nat_le w.0 (2 ^ 32)) _ _ head new.1 in
@@ -126,20 +106,21 @@ words_kept r k (count ∷ []) head h =
     (head_kept r k (record (r.head) { words = w.0 }) (le_true w.0 (2 ^ 32) (both (nat_le 1 w.0) (nat_le w.0 (2 ^ 32)) small.0))
     (λ a v at. absurd (let l = k.opened a v at in omega arith)) (λ n l. absurd (omega arith)))
 
-pub words_line_kept : (r next : TraceReading) → IsKeptIssue r → (values : List (List ℕ))
-    → with_head r (after_words_line r.head values) ≡ Ok next → IsKeptIssue next
-words_line_kept r next k values h = taken_kept r next _ h (words_kept r k values)
+-- the number of words, at most so many
+pub words_kept : (r : TraceReading) → IsKeptIssue r → (most : ℕ) (values : List (List ℕ)) (head : HeadSpec)
+    → words_within most r.head values ≡ Ok head → IsKeptIssue (record r { head = head })
+words_kept r k most values head h =
+    let w = bind_ok (after_words_line r.head values) _ head h in
+    let few = else_ok (nat_lt most w.0.words) _ _ head w.2 in
+    subst (λ (n : HeadSpec). IsKeptIssue (record r { head = n })) (one_ok w.0 head few.1) (count_kept r k values w.0 w.1)
 
-titled : (r : TraceReading) → IsKeptIssue r → (keyword : List ℕ) (values : List (List ℕ)) (head : HeadSpec)
+-- the first line
+pub title_kept : (r : TraceReading) → IsKeptIssue r → (keyword : List ℕ) (values : List (List ℕ)) (head : HeadSpec)
     → after_title r.head (codes "trace") keyword values ≡ Ok head → IsKeptIssue (record r { head = head })
-titled r k keyword [] head h = absurd (cc)
-titled r k keyword (a ∷ b ∷ more) head h = absurd (cc)
-titled r k keyword (version ∷ []) head h =
+title_kept r k keyword [] head h = absurd (cc)
+title_kept r k keyword (a ∷ b ∷ more) head h = absurd (cc)
+title_kept r k keyword (version ∷ []) head h =
     let known = then_ok (bytes_eq keyword (codes "trace") && bytes_eq version (codes "1")) _ _ head h in
     let same : record (r.head) { begun = true } ≡ head = one_ok _ head known.1 in
     subst (λ (n : HeadSpec). IsKeptIssue (record r { head = n })) same
     (head_kept r k (record (r.head) { begun = true }) k.words k.opened (λ n l. l))
-
-pub title_kept : (r next : TraceReading) → IsKeptIssue r → (keyword : List ℕ) (values : List (List ℕ))
-    → with_head r (after_title r.head (codes "trace") keyword values) ≡ Ok next → IsKeptIssue next
-title_kept r next k keyword values h = taken_kept r next _ h (titled r k keyword values)

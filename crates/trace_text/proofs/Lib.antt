@@ -6,6 +6,7 @@ pub mod Growing
 pub mod Kept
 pub mod KeptAnswers
 pub mod KeptIssues
+pub mod KeptLines
 pub mod KeptSettings
 pub mod Many
 pub mod Mapped

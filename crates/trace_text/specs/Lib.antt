@@ -4,6 +4,7 @@ pub mod Inside
 pub mod InsideNumbers
 pub mod IssueNumbers
 pub mod Kept
+pub mod Lines
 pub mod Reasons
 pub mod Renumbered
 pub mod Traced

@@ -1,9 +1,10 @@
 -- A trace whose addresses have other numbers.
-use Rattle.std.specs.Prelude.{◌≡◌, ◌<◌, ℕ, List, length, slice_index}
+use Rattle.std.specs.Prelude.{◌≡◌, ◌<◌, ℕ, List, length, map, slice_index}
 use Rattle.trace_laws.specs.declared.event.Call.{Call}
 use Rattle.trace_laws.specs.declared.event.Event.{Event}
 use Rattle.trace_laws.specs.declared.event.Event.TheVariants.{Issue, Answer}
 use Rattle.trace_laws.specs.Traces.{TraceIssuesAt}
+use Rattle.trace_text.specs.Traced.{TraceSpec, opening_of}
 
 -- an operation on the word of another number
 abbrev pub moved_call : (ℕ → ℕ) → Call → Call
@@ -27,3 +28,10 @@ pub record IsRenumbering (place back : ℕ → ℕ) (opening others : List ℕ) 
       → slice_index others (place c.operation.address) ≡ slice_index opening c.operation.address
   pub inverse : (i : ℕ) (c : Call) → TraceIssuesAt trace i c
       → back (place c.operation.address) ≡ c.operation.address
+
+-- these words and events are a trace with other numbers of its words
+pub record IsRenumbered (t : TraceSpec) (opening : List ℕ) (events : List Event) : Type 0 where
+  pub place : ℕ → ℕ
+  pub back : ℕ → ℕ
+  pub words : IsRenumbering place back (opening_of t) opening t.events
+  pub is : events ≡ map (moved_event place) t.events

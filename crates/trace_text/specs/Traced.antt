@@ -2,30 +2,28 @@
 -- (this project's own format).
 use Rattle.std.specs.Prelude.{ℕ, ◌+◌, ◌^◌, ◌==◌, not, nat_lt, List, [], ◌∷◌, ◌++◌, length, map}
 use Rattle.std.specs.Prelude.{slice_get, slice_set, Option, Some, None, is_some, option_map, ok_or}
-use Rattle.std.specs.Prelude.{unwrap_or, Result, Ok, Err, if◌then◌else◌, codes}
+use Rattle.std.specs.Prelude.{unwrap_or, Result, Ok, Err, if◌then◌else◌}
 use Rattle.std.specs.List.{range_with_len}
-use Rattle.std.specs.Str.{bytes_eq}
 use Rattle.packet.specs.declared.kinds.Operation.{Operation}
 use Rattle.packet.specs.Kinds.{code_of}
 use Rattle.trace_laws.specs.declared.event.Event.{Event}
 use Rattle.trace_laws.specs.declared.event.Event.TheVariants.{Issue, Answer}
-use Rattle.lexer.specs.Words.{words_of, begins_comment}
+use Rattle.lexer.specs.Words.{words_of}
 use Rattle.lexer.specs.Outcome.{◌>>=◌, then_lines}
 use Rattle.lexer.specs.declared.refusal.Refusal.{Refusal}
 use Rattle.script.specs.declared.fault.LineFault.{LineFault}
 use Rattle.script.specs.Outcome.{by_fault}
-use Rattle.trace_lines.specs.declared.form.Form.{Form}
-use Rattle.trace_lines.specs.declared.reason.LineReason.{LineReason}
-use Rattle.trace_lines.specs.Form.{number_at, spelled_form, form_operation, told_of, reply_read}
-use Rattle.trace_lines.specs.Form.{unwanted_reply}
-use Rattle.trace_lines.specs.Head.{HeadSpec, no_head, value_in, with_value, after_title}
-use Rattle.trace_lines.specs.Head.{after_words_line, after_init_line, processor_read, head_missing}
+use Rattle.trace_lines.specs.Form.{reply_read, unwanted_reply}
+use Rattle.trace_lines.specs.Head.{HeadSpec, no_head, value_in, with_value, head_missing}
 use Rattle.trace_lines.specs.Reasons.{map_err, unless_refused}
 use Rattle.trace_text.specs.declared.issued.Issued.{Issued}
-use Rattle.trace_text.specs.declared.reason.Keyword.TheVariants as key
+use Rattle.trace_text.specs.declared.line.TraceLine.{TraceLine}
+use Rattle.trace_text.specs.declared.line.TraceLine.TheVariants as given
+use Rattle.trace_text.specs.declared.line.TraceLine.TheVariants.{Nothing}
 use Rattle.trace_text.specs.declared.reason.TraceReason.{TraceReason}
 use Rattle.trace_text.specs.declared.reason.TraceReason.TheVariants as reason
 use Rattle.trace_text.specs.IssueNumbers.{no_numbers, numbers_of, with_number}
+use Rattle.trace_text.specs.Lines.{line_given}
 use Rattle.trace_text.specs.Reasons.{trace_fault_of}
 
 -- a trace as its text gives it: the words of the memory, those that `init` lines named with their
@@ -66,10 +64,6 @@ no_trace_read = record {
   lines = [];
 }
 
--- what a line of the head makes of it
-abbrev pub with_head : TraceReading → Result HeadSpec LineReason → Result TraceReading TraceReason
-with_head r made = map_err reason.Line made >>= λ head. Ok (record r { head = head })
-
 -- an address has a place: its own, or the next one. There are no more than 2^20
 abbrev pub placed : TraceReading → ℕ → Result TraceReading TraceReason
 placed r address =
@@ -102,20 +96,6 @@ add_issue r line p o =
     if not (nat_lt (length r.issued) (2 ^ 22)) then Err reason.OperationsLimits
     else (placed r o.address >>= λ next. Ok (with_issue next line p o))
 
--- an issue: the number of words is given, the processor is below 4096, and the address and the
--- values are in their ranges
-abbrev pub issue_read : TraceReading → ℕ → ℕ → Form → Result TraceReading TraceReason
-issue_read r line p form =
-    map_err reason.Line (processor_read r.head p) >>= λ p.
-    map_err reason.Line (form_operation r.head.words form) >>= add_issue r line p
-
-abbrev pub after_issue_line : TraceReading → ℕ → List (List ℕ) → Result TraceReading TraceReason
-after_issue_line r line (processor ∷ word ∷ operands) =
-    map_err reason.Line (number_at 1 processor) >>= λ p.
-    map_err reason.Line (spelled_form word operands) >>= issue_read r line p
-after_issue_line r line [] = Err (reason.WordCount key.Issue)
-after_issue_line r line (processor ∷ []) = Err (reason.WordCount key.Issue)
-
 -- one answer more, at a line, to the operation of a number
 abbrev pub with_answer :
     TraceReading → ℕ → ℕ → Issued → Option ℕ → Result TraceReading TraceReason
@@ -141,40 +121,18 @@ answer_of_index r line p index told =
     if_issued r p (slice_get (numbers_of r.numbers p) index) >>= λ n.
     if_issued r p (slice_get r.issued n) >>= λ i. add_answer r line n i told
 
--- an answer: the number of words is given, the processor is below 4096, and it has issued an
--- operation of this index
-abbrev pub answer_read : TraceReading → ℕ → ℕ → ℕ → Option ℕ → Result TraceReading TraceReason
-answer_read r line p index told =
-    map_err reason.Line (processor_read r.head p) >>= λ p. answer_of_index r line p index told
+-- what a line that gives this makes of what the lines before it gave
+abbrev pub with_given : TraceReading → ℕ → TraceLine → Result TraceReading TraceReason
+with_given r line Nothing = Ok r
+with_given r line (given.Issue p o) = add_issue r line p o
+with_given r line (given.Answer p index told) = answer_of_index r line p index told
 
-abbrev pub after_answer_line : TraceReading → ℕ → List (List ℕ) → Result TraceReading TraceReason
-after_answer_line r line (processor ∷ index ∷ reply ∷ []) =
-    map_err reason.Line (number_at 1 processor) >>= λ p.
-    map_err reason.Line (number_at 2 index) >>= λ k.
-    map_err reason.Line (told_of reply) >>= answer_read r line p k
-after_answer_line r line [] = Err (reason.WordCount key.Answer)
-after_answer_line r line (processor ∷ []) = Err (reason.WordCount key.Answer)
-after_answer_line r line (processor ∷ index ∷ []) = Err (reason.WordCount key.Answer)
-after_answer_line r line (processor ∷ index ∷ reply ∷ other ∷ more) =
-    Err (reason.WordCount key.Answer)
-
--- what a line of a keyword and these words makes of it
-abbrev pub after_keyword :
-    TraceReading → ℕ → List ℕ → List (List ℕ) → Result TraceReading TraceReason
-after_keyword r line keyword values =
-    if not r.head.begun then with_head r (after_title r.head (codes "trace") keyword values)
-    else (if bytes_eq keyword (codes "issue") then after_issue_line r line values
-    else (if bytes_eq keyword (codes "answer") then after_answer_line r line values
-    else (if bytes_eq keyword (codes "init")
-    then with_head r (after_init_line r.head (not (length r.issued == 0)) values)
-    else (if bytes_eq keyword (codes "words") then with_head r (after_words_line r.head values)
-    else Err reason.UnknownKeyword))))
-
--- what the words of a line make of it; a line without words and a comment are skipped
+-- what the words of a line make of it: the head is another one, and there may be one event more.
+-- The memory has at most 2^32 words, and an opening word is late once an operation is issued
 abbrev pub after_line_words : TraceReading → ℕ → List (List ℕ) → Result TraceReading TraceReason
-after_line_words r line [] = Ok r
-after_line_words r line (keyword ∷ values) =
-    if begins_comment keyword then Ok r else after_keyword r line keyword values
+after_line_words r line words =
+    line_given (2 ^ 32) (not (length r.issued == 0)) r.head words >>= λ read.
+    with_given (record r { head = read.0 }) line read.1
 
 -- the trace of a text that ends here
 abbrev pub trace_with : TraceReading → Result TraceSpec TraceReason

@@ -1,22 +1,20 @@
 //! Issues and answers as a trace text gives them.
 
-ghost use Rattle.std.specs.Prelude.{◌≡◌, ◌<◌, ◌^◌, ◌++◌, ◌∷◌, [], Some, map, length, OnOk};
+ghost use Rattle.std.specs.Prelude.{◌≡◌, ◌<◌, ◌^◌, ◌++◌, ◌∷◌, [], Some, length, OnOk};
 ghost use Rattle.std.specs.Prelude.{IfErr, slice_get, slice_set};
 ghost use Rattle.lexer.specs.Outcome.{Makes};
 ghost use Rattle.trace_lines.specs.Head.{with_value};
-ghost use Rattle.trace_text.specs.Traced.{after_issue_line, issue_read, add_issue};
-ghost use Rattle.trace_text.specs.Traced.{after_answer_line, answer_read, answer_of_index};
-ghost use Rattle.trace_text.specs.Traced.{add_answer, placed, with_event};
+ghost use Rattle.trace_text.specs.Traced.{add_issue, answer_of_index, add_answer, placed, with_event};
 ghost use Rattle.trace_text.specs.Views.{trace_so_far};
 
 use crate::issued::Issued;
 use crate::reading::Reading;
-use crate::reason::{Keyword, TraceReason};
+use crate::reason::TraceReason;
 use packet::{Operation, Reply};
 use std::alloc::Allocator;
 use std::collections::BTreeMap;
 use trace_laws::{Call, Event};
-use trace_lines::{Form, LineReason, number_at, reply_read, spelled_form, told_of, unwanted_reply};
+use trace_lines::{LineReason, reply_read, unwanted_reply};
 
 /// The operation of a number.
 fn issued_at(issued: &[Issued], number: u64) -> Option<Issued>
@@ -62,34 +60,13 @@ fn add_place<A: Allocator + Copy>(
 }
 
 impl<A: Allocator + Copy> Reading<A> {
-    /// Takes the processor and the operation of an issue.
-    pub(crate) fn take_issue(&mut self, line: u64, values: &[&[u8]]) -> Result<(), TraceReason>
-        ensures { Makes (TraceReason.Line LineReason.Memory) (trace_so_far self.new) result
-            (after_issue_line (trace_so_far self.old) line
-            (map (λ value. value.now) values.now)) }
-    {
-        match values {
-            [processor, word, operands @ ..] => {
-                let p = number_at(1, processor)?;
-                let form = spelled_form(word, operands)?;
-                self.issue(line, p, form)
-            }
-            _ => Err(TraceReason::WordCount(Keyword::Issue)),
-        }
-    }
-
-    /// An operation is issued.
-    fn issue(&mut self, line: u64, p: u128, form: Form) -> Result<(), TraceReason>
-        ensures { Makes (TraceReason.Line LineReason.Memory) (trace_so_far self.new) result
-            (issue_read (trace_so_far self.old) line p form) }
-    {
-        let p = self.head.processor(p)?;
-        let operation = form.operation(self.head.words())?;
-        self.add_issue(line, p, operation)
-    }
-
     /// Adds an operation.
-    fn add_issue(&mut self, line: u64, p: u32, operation: Operation) -> Result<(), TraceReason>
+    pub(crate) fn add_issue(
+        &mut self,
+        line: u64,
+        p: u32,
+        operation: Operation,
+    ) -> Result<(), TraceReason>
         requires { p < 4096 }
         ensures { Makes (TraceReason.Line LineReason.Memory) (trace_so_far self.new) result
             (add_issue (trace_so_far self.old) line p operation) }
@@ -146,40 +123,8 @@ impl<A: Allocator + Copy> Reading<A> {
         Ok(())
     }
 
-    /// Takes the processor, the index and the reply of an answer.
-    pub(crate) fn take_answer(&mut self, line: u64, values: &[&[u8]]) -> Result<(), TraceReason>
-        ensures { Makes (TraceReason.Line LineReason.Memory) (trace_so_far self.new) result
-            (after_answer_line (trace_so_far self.old) line
-            (map (λ value. value.now) values.now)) }
-    {
-        match values {
-            [processor, index, reply] => {
-                let p = number_at(1, processor)?;
-                let index = number_at(2, index)?;
-                let told = told_of(reply)?;
-                self.answer(line, p, index, told)
-            }
-            _ => Err(TraceReason::WordCount(Keyword::Answer)),
-        }
-    }
-
-    /// An operation is answered.
-    fn answer(
-        &mut self,
-        line: u64,
-        p: u128,
-        index: u128,
-        told: Option<u128>,
-    ) -> Result<(), TraceReason>
-        ensures { Makes (TraceReason.Line LineReason.Memory) (trace_so_far self.new) result
-            (answer_read (trace_so_far self.old) line p index told) }
-    {
-        let p = self.head.processor(p)?;
-        self.answer_of_index(line, p, index, told)
-    }
-
     /// An operation of a processor is answered.
-    fn answer_of_index(
+    pub(crate) fn answer_of_index(
         &mut self,
         line: u64,
         p: u32,

@@ -72,7 +72,7 @@ fn moved<A: Allocator>(places: &BTreeMap<u32, u32, A>, event: Event) -> Event
 }
 
 /// Events with the places of their addresses.
-fn moved_events<A: Allocator + Copy>(
+pub(crate) fn moved_events<A: Allocator + Copy>(
     alloc: A,
     places: &BTreeMap<u32, u32, A>,
     events: &[Event],
@@ -88,7 +88,7 @@ fn moved_events<A: Allocator + Copy>(
 }
 
 /// The opening words at some addresses.
-fn opening_words_at<A: Allocator + Copy>(
+pub(crate) fn opening_words_at<A: Allocator + Copy>(
     alloc: A,
     head: &Head<A>,
     addresses: &[u32],

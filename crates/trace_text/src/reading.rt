@@ -1,19 +1,22 @@
 //! What the lines of a trace text give, one after the other.
 
-ghost use Rattle.std.specs.Prelude.{◌≡◌, ◌==◌, codes, length, map, not, IfOk};
+ghost use Rattle.std.specs.Prelude.{◌≡◌, map, IfOk};
 ghost use Rattle.lexer.specs.Outcome.{Makes};
-ghost use Rattle.trace_lines.specs.Head.{after_title, after_init_line, after_words_line};
-ghost use Rattle.trace_text.specs.Traced.{after_line_words, after_keyword, with_head};
-ghost use Rattle.trace_text.specs.Traced.{no_trace_read};
+ghost use Rattle.trace_text.specs.Lines.{HasProcessor};
+ghost use Rattle.trace_text.specs.Traced.{after_line_words, no_trace_read, with_given};
 ghost use Rattle.trace_text.specs.Views.{trace_so_far};
 
 use crate::issue_numbers::IssueNumbers;
 use crate::issued::Issued;
+use crate::line::{TraceLine, read_line};
 use crate::reason::TraceReason;
 use std::alloc::{AllocError, Allocator};
 use std::collections::BTreeMap;
 use trace_laws::Event;
 use trace_lines::{Head, LineReason};
+
+/// The most words that a memory has.
+const MOST_WORDS: u64 = 1 << 32;
 
 /// What the lines so far gave.
 #[derive(Drop)]
@@ -55,69 +58,28 @@ impl<A: Allocator + Copy> Reading<A> {
         ensures { Makes (TraceReason.Line LineReason.Memory) (trace_so_far self.new) result
             (after_line_words (trace_so_far self.old) line (map (λ word. word.now) words.now)) }
     {
-        match words {
-            [] => Ok(()),
-            [[b'#', ..], ..] => Ok(()),
-            [keyword, values @ ..] => self.take_keyword(line, keyword, values),
-        }
+        let is_late = !self.issued.is_empty();
+        let given = read_line(&mut self.head, MOST_WORDS, is_late, words)?;
+        self.take_line(line, given)
     }
 
-    /// Takes a line by its keyword.
-    fn take_keyword(
-        &mut self,
-        line: u64,
-        keyword: &[u8],
-        values: &[&[u8]],
-    ) -> Result<(), TraceReason>
+    /// Takes what a line gives.
+    fn take_line(&mut self, line: u64, given: TraceLine) -> Result<(), TraceReason>
+        requires { HasProcessor given }
         ensures { Makes (TraceReason.Line LineReason.Memory) (trace_so_far self.new) result
-            (after_keyword (trace_so_far self.old) line keyword.now
-            (map (λ value. value.now) values.now)) }
+            (with_given (trace_so_far self.old) line given) }
     {
-        if !self.head.begun() {
-            return self.take_title(keyword, values);
+        match given {
+            TraceLine::Nothing => Ok(()),
+            TraceLine::Issue {
+                processor,
+                operation,
+            } => self.add_issue(line, processor, operation),
+            TraceLine::Answer {
+                processor,
+                index,
+                told,
+            } => self.answer_of_index(line, processor, index, told),
         }
-        if keyword == b"issue".as_slice() {
-            return self.take_issue(line, values);
-        }
-        if keyword == b"answer".as_slice() {
-            return self.take_answer(line, values);
-        }
-        if keyword == b"init".as_slice() {
-            return self.take_init(values);
-        }
-        if keyword == b"words".as_slice() {
-            return self.take_words(values);
-        }
-        Err(TraceReason::UnknownKeyword)
-    }
-
-    /// Takes the first line.
-    fn take_title(&mut self, keyword: &[u8], values: &[&[u8]]) -> Result<(), TraceReason>
-        ensures { Makes (TraceReason.Line LineReason.Memory) (trace_so_far self.new) result
-            (with_head (trace_so_far self.old) (after_title self.old.head (codes "trace")
-            keyword.now (map (λ value. value.now) values.now))) }
-    {
-        self.head.take_title(b"trace".as_slice(), keyword, values)?;
-        Ok(())
-    }
-
-    /// Takes the number of words.
-    fn take_words(&mut self, values: &[&[u8]]) -> Result<(), TraceReason>
-        ensures { Makes (TraceReason.Line LineReason.Memory) (trace_so_far self.new) result
-            (with_head (trace_so_far self.old) (after_words_line self.old.head
-            (map (λ value. value.now) values.now))) }
-    {
-        self.head.take_words(values)?;
-        Ok(())
-    }
-
-    /// Takes the address and the value of an opening word.
-    fn take_init(&mut self, values: &[&[u8]]) -> Result<(), TraceReason>
-        ensures { Makes (TraceReason.Line LineReason.Memory) (trace_so_far self.new) result
-            (with_head (trace_so_far self.old) (after_init_line self.old.head
-            (not (length self.old.issued.items == 0)) (map (λ value. value.now) values.now))) }
-    {
-        self.head.take_init(!self.issued.is_empty(), values)?;
-        Ok(())
     }
 }

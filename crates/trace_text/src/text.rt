@@ -10,16 +10,18 @@ ghost use Rattle.trace_laws.specs.Traces.{IsTrace, TraceIssuesAt, TraceAnswersAt
 ghost use Rattle.trace_text.specs.Allowed.{IsAllowed, trace_answered_so};
 ghost use Rattle.trace_text.specs.Findings.{TellsFinding, IsUnfound};
 ghost use Rattle.trace_text.specs.Kept.{IsKnownAs};
+ghost use Rattle.trace_text.specs.Renumbered.{IsRenumbered};
 ghost use Rattle.trace_text.specs.Traced.{trace_of, trace_or_why, opening_of};
 
 use crate::issued::Issued;
 use crate::linearize::{Finding, Unfound};
+use crate::numbering::RenumberedTrace;
 use crate::reading::Reading;
 use crate::reason::TraceReason;
 use lexer::{Refusal, first_words, next_line};
 use packet::Reply;
 use script::LineFault;
-use std::alloc::{Allocator, Global};
+use std::alloc::{AllocError, Allocator, Global};
 use std::marker::Model;
 use trace_laws::Event;
 use trace_lines::LineReason;
@@ -118,6 +120,14 @@ impl<A: Allocator + Copy> TraceText<A> {
             (IsUnfound (trace_answered_so self.now event id reply) bound) }
     {
         self.reading.allows(alloc, event, id, reply, bound)
+    }
+
+    /// The trace over the words alone that its operations name.
+    pub fn renumbered(&self, alloc: A) -> Result<RenumberedTrace<A>, AllocError>
+        ensures trace { IfOk result (λ r. IsTrace (length r.opening.items) r.events.items) }
+        ensures same { IfOk result (λ r. IsRenumbered self.now r.opening.items r.events.items) }
+    {
+        self.reading.renumbered(alloc)
     }
 }
 
