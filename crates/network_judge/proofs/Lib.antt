@@ -29,7 +29,6 @@ mod JamExamples
 pub mod Walks
 pub mod NoJams
 mod SearchExamples
-mod SpanExamples
 pub mod Parts
 pub mod Owners
 pub mod SpanLists

@@ -1,20 +1,17 @@
 -- The moves that fill the channels of a jam deadlock the network.
-use Rattle.std.proofs.Common.{◌≡◌, ◌≢◌, inl, inr, ℕ, zero, suc, ◌+◌, ◌*◌, ◌/◌, ◌%◌, ◌<◌, ◌≤◌, Bool, true, false, cond, eqb, List, [], ◌∷◌, ◌++◌, map, refl, sym, ◌∙◌, ap, subst, arith, append_assoc, append-nil}
+use Rattle.std.proofs.Common.{◌≡◌, inl, inr, ℕ, zero, suc, ◌+◌, ◌*◌, ◌/◌, ◌%◌, ◌<◌, Bool, true, false, cond, eqb, List, [], ◌∷◌, ◌++◌, map, refl, sym, ◌∙◌, ap, arith, append_assoc, append-nil}
 use Rattle.std.specs.List.{flat_map}
 use Rattle.std.proofs.lemmas.Bool.{cases_lt, cases_eq, eq-eqb, ne_eqb}
 use Rattle.std.proofs.lemmas.List.{map-append}
 use Rattle.std.proofs.lemmas.Grind.{flat_map-append}
-use Rattle.wormhole.specs.Net.{Net}
-use Rattle.wormhole.specs.Events.{NetEvent}
-use Rattle.network_judge.specs.declared.table.Reply.{Reply}
 use Rattle.network_judge.specs.declared.fill.Fill.{Fill}
 use Rattle.network_judge.specs.Table.{Table, kind_of, is_receiver}
-use Rattle.network_judge.specs.Ways.{place, IsWay}
+use Rattle.network_judge.specs.Ways.{place}
 use Rattle.network_judge.specs.Jams.{fill_channel, ComesIn, AreFilledInTurn, IsJam}
 use Rattle.network_judge.specs.LockUps.{HasOneFlitPackets, plain_format}
 use Rattle.network_judge.proofs.Still.{before_end}
 use Rattle.network_judge.proofs.Lines.{full}
-use Rattle.network_judge.proofs.Moves.{settle_events, enter_events, go_events, carry_events, arrive_events, fill_events}
+use Rattle.network_judge.proofs.Moves.{settle_events, go_events, carry_events, arrive_events, fill_events}
 use Rattle.network_judge.proofs.Jammed.{jam_events, fill_by, locked}
 use Rattle.network_text.specs.Network.{NetworkSpec}
 use Rattle.network_machine.specs.declared.moves.Move.{Move}
@@ -22,7 +19,7 @@ use Rattle.network_machine.specs.declared.moves.Move.TheVariants.{Send, Take, Pu
 use Rattle.network_machine.specs.declared.moves.Packet.{Packet}
 use Rattle.network_machine.specs.Moves.{event_move}
 use Rattle.network_machine.specs.Machine.{plain_network}
-use Rattle.network_run.specs.Filling.{channels_before, through, packet_moves, packets_moves, latch_moves, fill_moves, item_moves, jam_moves}
+use Rattle.network_run.specs.Filling.{channels_before, through, packet_moves, packets_moves, latch_moves, item_moves, jam_moves}
 use Rattle.network_run.specs.LockedUp.{MovesLockUp}
 
 -- the plain format has packets of one flit

@@ -4,7 +4,6 @@ use Rattle.wormhole.specs.Net.{Net, Parcel, IsParcel, EndsWithTail}
 use Rattle.wormhole.specs.State.{NetLine, NetState, empty, in_line}
 use Rattle.wormhole.specs.Events.{NetEvent, InjectHead, InjectRest, Latch, ForwardHead, ForwardRest, AcceptHead, AcceptRest, Return}
 use Rattle.wormhole.specs.Events.{CanHappen, after, after_all, CanAllHappen}
-use Rattle.wormhole.specs.Ends.{IsOwed}
 use Rattle.network_judge.specs.declared.table.Reply.{Reply}
 use Rattle.network_judge.specs.Table.{Table}
 use Rattle.network_judge.specs.TableNet.{Flits, table_network}

@@ -1,5 +1,5 @@
 -- The ways of items, and the moves that fill their channels, item by item.
-use Rattle.std.proofs.Common.{◌≡◌, ◌≢◌, inl, inr, ℕ, zero, suc, ◌+◌, ◌-◌, ◌<◌, ◌≤◌, true, false, List, [], ◌∷◌, ◌++◌, length, drop, Some, None, refl, sym, ◌∙◌, ap, subst, arith}
+use Rattle.std.proofs.Common.{◌≡◌, ◌≢◌, ℕ, zero, suc, ◌+◌, ◌-◌, ◌<◌, ◌≤◌, true, false, List, [], ◌∷◌, ◌++◌, length, drop, Some, refl, sym, ◌∙◌, ap, subst, arith}
 use Rattle.std.specs.Prelude.{Vec}
 use Rattle.std.proofs.lemmas.List.{drop_more}
 use Rattle.network_judge.specs.declared.table.Kind.{Kind}
@@ -7,16 +7,13 @@ use Rattle.network_judge.specs.declared.table.Kind.TheVariants.{Ejection}
 use Rattle.network_judge.specs.declared.table.Join.{Join}
 use Rattle.network_judge.specs.declared.table.Link.{Link}
 use Rattle.network_judge.specs.declared.table.Reply.{Reply}
-use Rattle.network_judge.specs.declared.table.Verdict.{Verdict}
-use Rattle.network_judge.specs.declared.table.Verdict.TheVariants.{Rising, NoRoute, Cycle}
 use Rattle.network_judge.specs.declared.fill.Fill.{Fill}
 use Rattle.network_judge.specs.Table.{Table, table_of, table_next, kind_of}
 use Rattle.network_judge.specs.Ways.{place, IsWay}
-use Rattle.network_judge.specs.Jams.{fill_channel, ComesIn, AreFilledInTurn, IsJam}
+use Rattle.network_judge.specs.Jams.{ComesIn, AreFilledInTurn, IsJam}
 use Rattle.network_judge.specs.Clear.{fill_at}
 use Rattle.network_judge.specs.Replies.{AreReplies}
 use Rattle.network_judge.specs.Cycles.{IsCycle}
-use Rattle.network_judge.specs.Verdicts.{IsVerdict}
 use Rattle.network_judge.proofs.Walks.{further}
 use Rattle.network_judge.proofs.Still.{on_within}
 use Rattle.network_text.specs.Network.{NetworkSpec}

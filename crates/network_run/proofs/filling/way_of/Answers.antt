@@ -1,4 +1,4 @@
-use Rattle.std.proofs.Common.{◌≡◌, ◌≤◌, arith}
+use Rattle.std.proofs.Common.{arith}
 use Rattle.network_judge.specs.Table.{table_of}
 use Rattle.network_run.proofs.Ways.{own_table, before_more, one_further, goes_on}
 use Rattle.network_run.proofs.filling.way_of.Goals as goal

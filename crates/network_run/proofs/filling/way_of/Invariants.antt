@@ -1,4 +1,4 @@
-use Rattle.std.proofs.Common.{◌≡◌, ℕ, ◌≤◌}
+use Rattle.std.proofs.Common.{◌≡◌}
 use Rattle.network_judge.specs.Ways.{place}
 use Rattle.network_run.specs.Filling.{channels_before}
 use Rattle.network_run.proofs.filling.way_of.Given as goal

@@ -1,9 +1,7 @@
-use Rattle.std.proofs.Common.{◌≡◌, List, false, true, subst}
+use Rattle.std.proofs.Common.{◌≡◌, List, subst}
 use Rattle.network_judge.specs.declared.fill.Fill.{Fill}
-use Rattle.network_judge.specs.Table.{Table, table_of}
-use Rattle.network_judge.specs.Replies.{AreReplies}
-use Rattle.network_judge.specs.Cycles.{IsCycle}
-use Rattle.network_judge.specs.Jams.{AreFilledInTurn, IsJam}
+use Rattle.network_judge.specs.Table.{table_of}
+use Rattle.network_judge.specs.Jams.{AreFilledInTurn}
 use Rattle.network_run.specs.Filling.{jam_moves}
 use Rattle.network_run.proofs.Ways.{own_table, own_jam, some_found, run_found}
 use Rattle.network_run.proofs.running.run_of_cycle.Goals as goal
