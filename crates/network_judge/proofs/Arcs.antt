@@ -4,7 +4,7 @@ use Rattle.std.proofs.Common.{subst, arith}
 use Rattle.std.proofs.lemmas.Bool.{eqb-true, eqb-false}
 use Rattle.network_judge.specs.declared.table.Reply.{Reply}
 use Rattle.network_judge.specs.Table.{Table}
-use Rattle.network_judge.specs.Arcs.{Arc, at, begin, On, AnyOn, Apart, LeadsTo, first_of, Chain}
+use Rattle.network_judge.specs.Arcs.{Arc, at, begin, On, AnyOn, AreArcsApart, ArcLeadsTo, first_of, Chain}
 use Rattle.network_judge.proofs.Rounds.{found}
 use Rattle.network_judge.proofs.Still.{simple}
 
@@ -73,20 +73,20 @@ module _ (t : Table) where
         }
   ]
 
-  pub apart_left : (ps qs : List (Arc t)) → Apart t (ps ++ qs) → Apart t ps
+  pub apart_left : (ps qs : List (Arc t)) → AreArcsApart t (ps ++ qs) → AreArcsApart t ps
   apart_left [] qs h = tt
   apart_left (a ∷ ps) qs h = (λ x on any. h.0 x on (any_left ps qs x any), apart_left ps qs h.1)
 
-  pub apart_right : (ps qs : List (Arc t)) → Apart t (ps ++ qs) → Apart t qs
+  pub apart_right : (ps qs : List (Arc t)) → AreArcsApart t (ps ++ qs) → AreArcsApart t qs
   apart_right [] qs h = h
   apart_right (a ∷ ps) qs h = apart_right ps qs h.1
 
-  pub apart_both : (ps qs : List (Arc t)) → Apart t (ps ++ qs) → (x : ℕ) → AnyOn t ps x → AnyOn t qs x → ⊥
+  pub apart_both : (ps qs : List (Arc t)) → AreArcsApart t (ps ++ qs) → (x : ℕ) → AnyOn t ps x → AnyOn t qs x → ⊥
   apart_both [] qs h x l r = l
   apart_both (a ∷ ps) qs h x (inl l) r = h.0 x l (any_right ps qs x r)
   apart_both (a ∷ ps) qs h x (inr l) r = apart_both ps qs h.1 x l r
 
-  pub apart_join : (ps qs : List (Arc t)) → Apart t ps → Apart t qs → ((x : ℕ) → AnyOn t ps x → AnyOn t qs x → ⊥) → Apart t (ps ++ qs)
+  pub apart_join : (ps qs : List (Arc t)) → AreArcsApart t ps → AreArcsApart t qs → ((x : ℕ) → AnyOn t ps x → AnyOn t qs x → ⊥) → AreArcsApart t (ps ++ qs)
   apart_join [] qs l r both = r
   apart_join (a ∷ ps) qs l r both =
       (λ x on any. ⊎_elim (l.0 x on) (both x (inl on)) (any_either ps qs x any), apart_join ps qs l.1 r (λ x h. both x (inr h)))
@@ -98,7 +98,7 @@ module _ (t : Table) where
 
     pub chain_left : (ps qs : List (Arc t)) (e : ℕ) → Chain t replies (ps ++ qs) e → Chain t replies ps (first_of t replies qs e)
     chain_left [] qs e h = tt
-    chain_left (a ∷ ps) qs e h = (subst (LeadsTo t replies a) (first_both ps qs e) h.0, chain_left ps qs e h.1)
+    chain_left (a ∷ ps) qs e h = (subst (ArcLeadsTo t replies a) (first_both ps qs e) h.0, chain_left ps qs e h.1)
 
     pub chain_right : (ps qs : List (Arc t)) (e : ℕ) → Chain t replies (ps ++ qs) e → Chain t replies qs e
     chain_right [] qs e h = h
@@ -106,4 +106,4 @@ module _ (t : Table) where
 
     pub chain_join : (ps qs : List (Arc t)) (e : ℕ) → Chain t replies ps (first_of t replies qs e) → Chain t replies qs e → Chain t replies (ps ++ qs) e
     chain_join [] qs e l r = r
-    chain_join (a ∷ ps) qs e l r = (subst (LeadsTo t replies a) (sym (first_both ps qs e)) l.0, chain_join ps qs e l.1 r)
+    chain_join (a ∷ ps) qs e l r = (subst (ArcLeadsTo t replies a) (sym (first_both ps qs e)) l.0, chain_join ps qs e l.1 r)

@@ -4,7 +4,7 @@ use Rattle.std.proofs.Common.{subst, arith}
 use Rattle.std.proofs.lemmas.Bool.{cases_lt}
 use Rattle.network_judge.specs.declared.table.Reply.{Reply}
 use Rattle.network_judge.specs.Table.{Table}
-use Rattle.network_judge.specs.Arcs.{Arc, at, begin, On, AnyOn, Apart, LeadsTo, first_of, Chain, Circle, IsClear, AreClear}
+use Rattle.network_judge.specs.Arcs.{Arc, at, begin, On, AnyOn, AreArcsApart, ArcLeadsTo, first_of, Chain, Circle, IsClearArc, AreClear}
 use Rattle.network_judge.proofs.Arcs.{apart_on, is_any, any_left, any_right, any_either, Located, located, apart_left, apart_right, apart_both, apart_join}
 use Rattle.network_judge.proofs.Arcs.{first_both, chain_left, chain_right, chain_join}
 
@@ -26,7 +26,7 @@ module _ (t : Table) (replies : List Reply) where
     pub none : (k : ℕ) → step < k → k < a.start → AnyOn t ps (at t a k) → ⊥
 
   last_met : (ps : List (Arc t)) (a : Arc t) (n d : ℕ) → n + d ≡ a.start → ((k : ℕ) → n ≤ k → k < a.start → AnyOn t ps (at t a k) → ⊥)
-      → Meets ps a ⊎ IsClear t ps a
+      → Meets ps a ⊎ IsClearArc t ps a
   last_met ps a zero d all none = inr (λ k l. none k (omega arith) l)
   last_met ps a (suc n) d all none = elim (is_any t ps (at t a n)) [
     | inl here ↦ inl (record { step = n; low = omega arith; on = here; none = λ k l. none k (omega arith) })
@@ -36,7 +36,7 @@ module _ (t : Table) (replies : List Reply) where
     ])
   ]
 
-  meets : (ps : List (Arc t)) (a : Arc t) → Meets ps a ⊎ IsClear t ps a
+  meets : (ps : List (Arc t)) (a : Arc t) → Meets ps a ⊎ IsClearArc t ps a
   meets ps a = last_met ps a a.start 0 (omega arith) (λ k l h on. absurd (omega arith))
 
   pub record Tangled (all ps : List (Arc t)) : Type 0 where
@@ -115,14 +115,14 @@ module _ (t : Table) (replies : List Reply) where
     parts : Chain t replies (a ∷ front) (begin t b)
     parts = chain_left t replies (a ∷ front) (b ∷ back) (begin t a) circle.chain
 
-    kept : Apart t front
+    kept : AreArcsApart t front
     kept = apart_left t front (b ∷ back) circle.apart.1
 
     pub circle_here : b.start ≡ on.step → Circle t replies (longer a q low ∷ front)
     circle_here same =
         let reaches : begin t b ≡ at t a q = ap (at t b) same ∙ on.here in
         record {
-          chain = (subst (λ e. LeadsTo t replies a (first_of t replies front e)) reaches parts.0, subst (Chain t replies front) reaches parts.1);
+          chain = (subst (λ e. ArcLeadsTo t replies a (first_of t replies front e)) reaches parts.0, subst (Chain t replies front) reaches parts.1);
           apart = (stays_apart front (λ x h. any_left t front (b ∷ back) x h) none, kept);
         }
 
@@ -136,7 +136,7 @@ module _ (t : Table) (replies : List Reply) where
         let high = on.high in
         let within = b.within in
         let step : suc (on.step - 1) ≡ on.step = omega arith in
-        let leads : LeadsTo t replies (shorter b on.step some on.high) (at t a q) = inl (omega arith, ap (at t b) step ∙ on.here) in
+        let leads : ArcLeadsTo t replies (shorter b on.step some on.high) (at t a q) = inl (omega arith, ap (at t b) step ∙ on.here) in
         let joined : Chain t replies (longer a q low ∷ (front ++ shorter b on.step some on.high ∷ [])) (at t a q) =
         chain_join t replies (longer a q low ∷ front) (shorter b on.step some on.high ∷ []) (at t a q) parts (leads, tt) in
         let sub : (x : ℕ) → AnyOn t (front ++ shorter b on.step some on.high ∷ []) x → AnyOn t there x =

@@ -9,7 +9,7 @@ use Rattle.network_judge.specs.declared.tangles.Tangle.{Tangle}
 use Rattle.network_judge.specs.Table.{Table}
 use Rattle.network_judge.specs.Ways.{place, IsWay}
 use Rattle.network_judge.specs.Arcs.{Arc, at, On, AnyOn, Circle}
-use Rattle.network_judge.specs.Spans.{span_at, span_of, IsOn, AreArcs, ComesAt, ComesNever, IsCircle, IsTangle, IsAround, before_step}
+use Rattle.network_judge.specs.Spans.{span_at, span_of, IsOnSpan, AreSpansOfArcs, ComesAt, ComesNever, IsCircle, IsTangle, IsAround, before_step}
 use Rattle.network_judge.proofs.Arcs.{apart_on, any_left, any_right, any_either, apart_both}
 use Rattle.network_judge.proofs.Circles.{longer, shorter, turned, circle_here, circle_within}
 use Rattle.network_judge.proofs.SpanLists.{Split, split_at, spans_both, span_there, on_arc, any_span, are_arcs, left_some, left_none, cut_spans, around}
@@ -96,7 +96,7 @@ module _ (t : Table) (replies : List Reply) where
 
   -- the arc comes first, and the other one at a place
   first_cut : (a : Arc t) (r : List (Arc t)) (q n u x : ℕ) → Circle t replies (a ∷ r) → q < a.start → at t a q ≡ x → n < length (a ∷ r)
-      → IsOn t (span_at (map (span_of t) (a ∷ r)) n) x → ComesAt t (span_at (map (span_of t) (a ∷ r)) n).from (span_at (map (span_of t) (a ∷ r)) n).to x u
+      → IsOnSpan t (span_at (map (span_of t) (a ∷ r)) n) x → ComesAt t (span_at (map (span_of t) (a ∷ r)) n).from (span_at (map (span_of t) (a ∷ r)) n).to x u
       → ((k : ℕ) → q < k → k < a.start → AnyOn t (a ∷ r) (at t a k) → ⊥)
       → IsCircle t replies (take n (record { from = a.from; to = a.to; start = q; end = suc a.end } ∷ map (span_of t) r)
       ++ before_step (span_at (record { from = a.from; to = a.to; start = q; end = suc a.end } ∷ map (span_of t) r) n) u)
@@ -117,7 +117,7 @@ module _ (t : Table) (replies : List Reply) where
           let taken : take m (map (span_of t) r) ≡ map (span_of t) s.front =
           ap (λ (ps : List (Arc t)). take m (map (span_of t) ps)) s.split ∙ take_is s.front s.arc s.back m s.count in
           let cut = cut_arcs a q low s.front s.arc s.back (subst (λ (ps : List (Arc t)). Circle t replies (a ∷ ps)) s.split circle)
-          (on_arc t s.arc (at t a q) (subst (λ z. IsOn t (span_of t s.arc) z) (sym here) (subst (λ (z : Span). IsOn t z x) there on)))
+          (on_arc t s.arc (at t a q) (subst (λ z. IsOnSpan t (span_of t s.arc) z) (sym here) (subst (λ (z : Span). IsOnSpan t z x) there on)))
           (λ k more less any. above k more less (subst (λ (ps : List (Arc t)). AnyOn t (a ∷ ps) (at t a k)) (sym s.split) any))
           u (subst (λ z. ComesAt t s.arc.from s.arc.to z u) (sym here) (subst (λ (z : Span). ComesAt t z.from z.to x u) there comes)) in
           subst (λ (ss : List Span). IsCircle t replies ((record { from = a.from; to = a.to; start = q; end = suc a.end } ∷ ss) ++ before_step (span_at (map (span_of t) r) m) u)) (sym taken)
@@ -141,14 +141,14 @@ cut_split t replies front a back g n u count is round low comes circle =
     ap (λ (ss : List Span). span_at ss n) (sym turn) ∙ around (map (span_of t) (front ++ a ∷ back)) g.place g.owner n is.place_low is.owner_low round in
     let less : g.step < a.start = subst (λ (s : Span). g.step < s.start) here is.low in
     let meets : at t a g.step ≡ g.channel = subst (λ (s : Span). place t s.to s.from g.step ≡ g.channel) here is.here in
-    let last : (k b : ℕ) → g.step < k → k < a.start → b < length (map (span_of t) (front ++ a ∷ back)) → IsOn t (span_at (map (span_of t) (front ++ a ∷ back)) b) (at t a k) → ⊥ =
-    subst (λ (s : Span). (k b : ℕ) → g.step < k → k < s.start → b < length (map (span_of t) (front ++ a ∷ back)) → IsOn t (span_at (map (span_of t) (front ++ a ∷ back)) b) (place t s.to s.from k) → ⊥)
+    let last : (k b : ℕ) → g.step < k → k < a.start → b < length (map (span_of t) (front ++ a ∷ back)) → IsOnSpan t (span_at (map (span_of t) (front ++ a ∷ back)) b) (at t a k) → ⊥ =
+    subst (λ (s : Span). (k b : ℕ) → g.step < k → k < s.start → b < length (map (span_of t) (front ++ a ∷ back)) → IsOnSpan t (span_at (map (span_of t) (front ++ a ∷ back)) b) (place t s.to s.from k) → ⊥)
     here (is.last (are_arcs t (front ++ a ∷ back))) in
     let size : length (map (span_of t) (front ++ a ∷ back)) ≡ length (front ++ a ∷ back) = length-map (front ++ a ∷ back) (span_of t) in
     let one = length-append front (a ∷ back) in
     let two = length-append back front in
     let cut = first_cut t replies a (back ++ front) g.step n u g.channel (turned t replies front a back circle) less meets (omega arith)
-    (subst (λ (s : Span). IsOn t s g.channel) (sym other) is.on)
+    (subst (λ (s : Span). IsOnSpan t s g.channel) (sym other) is.on)
     (subst (λ (s : Span). ComesAt t s.from s.to g.channel u) (sym other) comes)
     (λ k more below any. (let w = any_span t (front ++ a ∷ back) (at t a k) (turned_any t replies front a back (at t a k) any) in
     let inside = w.1 in last k w.0 more below (omega arith) w.2)) in
@@ -175,7 +175,7 @@ cut_circle t replies spans g n u is round low comes c =
 pub comes_somewhere : (t : Table) (replies : List Reply) (spans : List Span) (g : Tangle) → IsTangle t spans g
     → ComesNever t (span_at spans g.owner).from (span_at spans g.owner).to g.channel → IsCircle t replies spans → ⊥
 comes_somewhere t replies spans g is never c =
-    let arcs : AreArcs t spans = subst (λ (ss : List Span). AreArcs t ss) c.are (are_arcs t (c.head ∷ c.rest)) in
+    let arcs : AreSpansOfArcs t spans = subst (λ (ss : List Span). AreSpansOfArcs t ss) c.are (are_arcs t (c.head ∷ c.rest)) in
     let w = arcs g.owner is.owner_low in
     let on = is.on in
     let high = on.high in

@@ -8,7 +8,7 @@ use Rattle.network_judge.specs.Table.{Table}
 use Rattle.network_judge.proofs.Places.{place_next}
 use Rattle.network_judge.specs.declared.fill.Fill.{Fill}
 use Rattle.network_judge.specs.Jams.{fill_channel, is_filled, AreFilledInTurn, WaitsForFilled, IsJam}
-use Rattle.network_judge.specs.Arcs.{Arc, at, begin, On, AnyOn, Apart, LeadsTo, first_of, Chain, Circle, IsClear, AreClear}
+use Rattle.network_judge.specs.Arcs.{Arc, at, begin, On, AnyOn, AreArcsApart, ArcLeadsTo, first_of, Chain, Circle, IsClearArc, AreClear}
 use Rattle.network_judge.proofs.Arcs.{on_begin, apart_on}
 use Rattle.network_judge.proofs.Circles.{Untangled}
 
@@ -67,7 +67,7 @@ module _ (t : Table) (replies : List Reply) where
       (λ i low high here. h (inl (record { step = i; low = low; high = omega arith; here = here }))) (none_filled ps x (λ r. h (inr r)))
 
   -- each comes in once those behind it are filled
-  arc_in_turn : (all : List (Arc t)) (a : Arc t) (ps : List (Arc t)) → IsClear t all a → ((x : ℕ) → AnyOn t (a ∷ ps) x → AnyOn t all x)
+  arc_in_turn : (all : List (Arc t)) (a : Arc t) (ps : List (Arc t)) → IsClearArc t all a → ((x : ℕ) → AnyOn t (a ∷ ps) x → AnyOn t all x)
       → ((x : ℕ) → On t a x → AnyOn t ps x → ⊥) → AreFilledInTurn t (fills ps)
       → (n k : ℕ) → k + n ≡ suc a.end → a.start ≤ k → AreFilledInTurn t (fills_from a k n (fills ps))
   arc_in_turn all a ps clear sub apart rest zero k size low = rest
@@ -87,14 +87,14 @@ module _ (t : Table) (replies : List Reply) where
     arc_in_turn all a ps clear sub apart rest n (suc k) (omega arith) (omega arith),
   )
 
-  in_turn : (all ps : List (Arc t)) → AreClear t all ps → Apart t ps → ((x : ℕ) → AnyOn t ps x → AnyOn t all x) → AreFilledInTurn t (fills ps)
+  in_turn : (all ps : List (Arc t)) → AreClear t all ps → AreArcsApart t ps → ((x : ℕ) → AnyOn t ps x → AnyOn t all x) → AreFilledInTurn t (fills ps)
   in_turn all [] clear apart sub = tt
   in_turn all (a ∷ ps) clear apart sub =
       let order = a.order in
       arc_in_turn all a ps clear.0 sub apart.0 (in_turn all ps clear.1 apart.1 (λ x h. sub x (inr h))) (suc (a.end - a.start)) a.start (omega arith) (omega arith)
 
   -- where the packets of an arc's channel wait
-  waits_at : (fs : List Fill) (a : Arc t) (y : ℕ) → LeadsTo t replies a y → is_filled t fs y ≡ true
+  waits_at : (fs : List Fill) (a : Arc t) (y : ℕ) → ArcLeadsTo t replies a y → is_filled t fs y ≡ true
       → ((x : ℕ) → On t a x → is_filled t fs x ≡ true) → (k : ℕ) → a.start ≤ k → k ≤ a.end → WaitsForFilled t replies fs (fill a k)
   waits_at fs a y leads target own k low high = record {
     under_way = λ apart. elim (cases_lt k a.end) [
@@ -113,7 +113,7 @@ module _ (t : Table) (replies : List Reply) where
     ]);
   }
 
-  arc_waits : (fs : List Fill) (a : Arc t) (y : ℕ) → LeadsTo t replies a y → is_filled t fs y ≡ true → ((x : ℕ) → On t a x → is_filled t fs x ≡ true)
+  arc_waits : (fs : List Fill) (a : Arc t) (y : ℕ) → ArcLeadsTo t replies a y → is_filled t fs y ≡ true → ((x : ℕ) → On t a x → is_filled t fs x ≡ true)
       → (gs : List Fill) → All (WaitsForFilled t replies fs) gs
       → (n k : ℕ) → k + n ≡ suc a.end → a.start ≤ k → All (WaitsForFilled t replies fs) (fills_from a k n gs)
   arc_waits fs a y leads target own gs rest zero k size low = rest

@@ -16,7 +16,7 @@ use Rattle.network_judge.proofs.Places.{place_next}
 use Rattle.network_judge.proofs.Passing.{dependency_passes}
 use Rattle.network_judge.proofs.Still.{before_end}
 use Rattle.network_judge.specs.Spans.{end_by}
-use Rattle.network_judge.specs.Arcs.{Arc, at, begin, On, AnyOn, Apart, LeadsTo, Chain, Circle}
+use Rattle.network_judge.specs.Arcs.{Arc, at, begin, On, AnyOn, AreArcsApart, ArcLeadsTo, Chain, Circle}
 use Rattle.network_judge.proofs.Arcs.{is_any, Located, located, apart_left, chain_left}
 
 module _ (t : Table) (replies : List Reply) (arrive : AllArrive t) (are : AreReplies t replies) where
@@ -26,7 +26,7 @@ module _ (t : Table) (replies : List Reply) (arrive : AllArrive t) (are : AreRep
     pub ends : arc.to ≡ e
     pub single : arc.start ≡ arc.end
     pub here : begin t arc ≡ x
-    pub leads : LeadsTo t replies arc y
+    pub leads : ArcLeadsTo t replies arc y
 
   by_route : (x j y : ℕ) → Depends t x j y → Point j x y
   by_route x j y d =
@@ -111,7 +111,7 @@ module _ (t : Table) (replies : List Reply) (arrive : AllArrive t) (are : AreRep
     pub circle : Circle t replies (head ∷ rest)
 
   -- in a chain there is a circle, or all are apart
-  circle_in : (ps : List (Arc t)) (e : ℕ) → Singles ps → Chain t replies ps e → Round ⊎ Apart t ps
+  circle_in : (ps : List (Arc t)) (e : ℕ) → Singles ps → Chain t replies ps e → Round ⊎ AreArcsApart t ps
   circle_in [] e single chain = inr tt
   circle_in (a ∷ ps) e single chain = elim (circle_in ps e single.1 chain.1) [
     | inl r ↦ inl r
@@ -121,7 +121,7 @@ module _ (t : Table) (replies : List Reply) (arrive : AllArrive t) (are : AreRep
     ]
   ]
     where
-      closed : Located t ps (begin t a) → Apart t ps → Round
+      closed : Located t ps (begin t a) → AreArcsApart t ps → Round
       closed l apart =
           let all : Chain t replies (a ∷ (l.before ++ l.arc ∷ l.after)) e = subst (λ (r : List (Arc t)). Chain t replies (a ∷ r) e) l.split chain in
           let parts : Chain t replies (a ∷ l.before) (begin t l.arc) = chain_left t replies (a ∷ l.before) (l.arc ∷ l.after) e all in
@@ -133,7 +133,7 @@ module _ (t : Table) (replies : List Reply) (arrive : AllArrive t) (are : AreRep
               chain = subst (Chain t replies (a ∷ l.before)) same parts;
               apart = (
                 λ x o any. l.none (subst (AnyOn t l.before) (sym (on_single a x single.0 o)) any),
-                apart_left t l.before (l.arc ∷ l.after) (subst (Apart t) l.split apart),
+                apart_left t l.before (l.arc ∷ l.after) (subst (AreArcsApart t) l.split apart),
               );
             };
           }
@@ -181,7 +181,7 @@ module _ (t : Table) (replies : List Reply) (arrive : AllArrive t) (are : AreRep
           head = p.arc;
           rest = r.head ∷ r.rest;
           singles = (p.single, r.singles);
-          chain = (subst (LeadsTo t replies p.arc) (sym r.here) p.leads, r.chain);
+          chain = (subst (ArcLeadsTo t replies p.arc) (sym r.here) p.leads, r.chain);
           here = p.here;
         }
 

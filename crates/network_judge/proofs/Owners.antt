@@ -9,25 +9,25 @@ use Rattle.network_judge.specs.declared.spans.Span.{Span}
 use Rattle.network_judge.specs.declared.tangles.Met.{Met}
 use Rattle.network_judge.specs.Table.{Table, channels_of, kind_of}
 use Rattle.network_judge.specs.Ways.{place}
-use Rattle.network_judge.specs.Spans.{span_at, IsOn, IsArc, IsNoted, AreOwners, IsLastMet, MeetsNone, IsTangle, IsUntangled}
+use Rattle.network_judge.specs.Spans.{span_at, IsOnSpan, IsSpanOfArc, IsSpanNoted, AreOwners, IsLastMet, MeetsNone, IsTangle, IsUntangled}
 use Rattle.network_judge.proofs.Still.{on_within}
 
 -- a step of an arc's route is at a channel, and its packets go on to an ejection channel
-pub arc_within : (t : Table) (s : Span) (k : ℕ) → IsArc t s → k < s.end → place t s.to s.from k < channels_of t
+pub arc_within : (t : Table) (s : Span) (k : ℕ) → IsSpanOfArc t s → k < s.end → place t s.to s.from k < channels_of t
 arc_within t s k a less =
     subst (λ (z : Span). k < z.end → place t z.to z.from k < channels_of t) a.is
     (λ l. (let within = a.arc.within in on_within t a.arc.from a.arc.to a.arc.len a.arc.way k (omega arith))) less
 
-pub arc_start : (t : Table) (s : Span) → IsArc t s → s.start < s.end
+pub arc_start : (t : Table) (s : Span) → IsSpanOfArc t s → s.start < s.end
 arc_start t s a = subst (λ (z : Span). z.start < z.end) a.is (let order = a.arc.order in omega arith)
 
-pub arc_end : (t : Table) (s : Span) → IsArc t s → kind_of t s.to ≡ Some Ejection
+pub arc_end : (t : Table) (s : Span) → IsSpanOfArc t s → kind_of t s.to ≡ Some Ejection
 arc_end t s a = subst (λ (z : Span). kind_of t z.to ≡ Some Ejection) a.is a.arc.way.under_way.receiver
 
 -- the channels of a span up to a step have its number, and others may keep theirs
 pub record NotedTo (t : Table) (s : Span) (number n : ℕ) (old new : List ℕ) : Type 0 where
   pub size : length new ≡ length old
-  pub each : (x : ℕ) → (slice_index new x ≡ slice_index old x) ⊎ ((slice_index new x ≡ number) × IsOn t s x)
+  pub each : (x : ℕ) → (slice_index new x ≡ slice_index old x) ⊎ ((slice_index new x ≡ number) × IsOnSpan t s x)
   pub on : (k : ℕ) → k < n → s.start ≤ k → place t s.to s.from k < length old → slice_index new (place t s.to s.from k) ≡ number
 
 pub noted_more : (t : Table) (s : Span) (number n x : ℕ) (old new : List ℕ) → NotedTo t s number n old new → x ≡ place t s.to s.from n → n < s.end
@@ -64,7 +64,7 @@ noted_less t s number n x old new r here not = record {
 }
 
 pub noted : (t : Table) (s : Span) (number n : ℕ) (old new : List ℕ) → NotedTo t s number n old new
-    → (IsArc t s → s.end ≤ n) → IsNoted t s number old new
+    → (IsSpanOfArc t s → s.end ≤ n) → IsSpanNoted t s number old new
 noted t s number n old new r end = record {
   size = r.size;
   each = r.each;
@@ -74,7 +74,7 @@ noted t s number n old new r end = record {
 
 -- one more span's channels have owners
 pub owned_more : (t : Table) (spans : List Span) (n number : ℕ) (old new : List ℕ) → AreOwners t spans n old → number ≡ n + 1
-    → IsNoted t (span_at spans n) number old new → AreOwners t spans (n + 1) new
+    → IsSpanNoted t (span_at spans n) number old new → AreOwners t spans (n + 1) new
 owned_more t spans n number old new r one noted =
     let size = r.size in
     record {
@@ -82,13 +82,13 @@ owned_more t spans n number old new r one noted =
       some = λ x b e. elim (noted.each x) [
         | inl same ↦ (let w = r.some x b (sym same ∙ e) in let low = w.0 in (omega arith, w.1))
         | inr w ↦ (let number_is : number ≡ suc b = sym w.0 ∙ e in let same : n ≡ b = omega arith in
-            (omega arith, subst (λ z. IsOn t (span_at spans z) x) same w.1))
+            (omega arith, subst (λ z. IsOnSpan t (span_at spans z) x) same w.1))
       ];
       none = λ b x l a o. elim (noted.each x) [
         | inl same ↦ elim (cases_lt b n) [
           | inl less ↦ (λ zero_now. r.none b x less a o (sym same ∙ zero_now))
           | inr more ↦ (let now : n ≡ b = omega arith in
-              λ zero_now. (let is = noted.on r.size (subst (λ z. IsArc t (span_at spans z)) (sym now) a) x (subst (λ z. IsOn t (span_at spans z) x) (sym now) o) in
+              λ zero_now. (let is = noted.on r.size (subst (λ z. IsSpanOfArc t (span_at spans z)) (sym now) a) x (subst (λ z. IsOnSpan t (span_at spans z) x) (sym now) o) in
               absurd (omega arith)))
         ]
         | inr w ↦ (λ zero_now. (let is = w.0 in absurd (omega arith)))
@@ -131,7 +131,7 @@ met_before t owners s n x (Some m) r here none = (let low = r.low in record {
   ];
 })
 
-pub last_of : (t : Table) (owners : List ℕ) (s : Span) (n : ℕ) (m : Met) → LastBelow t owners s n m → n ≤ s.start → (IsArc t s → s.start ≤ n)
+pub last_of : (t : Table) (owners : List ℕ) (s : Span) (n : ℕ) (m : Met) → LastBelow t owners s n m → n ≤ s.start → (IsSpanOfArc t s → s.start ≤ n)
     → IsLastMet t owners s m
 last_of t owners s n m r within all = (let low = r.low in record {
   low = omega arith;
@@ -140,7 +140,7 @@ last_of t owners s n m r within all = (let low = r.low in record {
   last = λ a k above below. (let end = all a in r.last k above (omega arith));
 })
 
-pub none_of : (t : Table) (owners : List ℕ) (s : Span) (n : ℕ) → MetSoFar t owners s n None → (IsArc t s → s.start ≤ n) → MeetsNone t owners s
+pub none_of : (t : Table) (owners : List ℕ) (s : Span) (n : ℕ) → MetSoFar t owners s n None → (IsSpanOfArc t s → s.start ≤ n) → MeetsNone t owners s
 none_of t owners s n r all = λ a k l. (let end = all a in r k (omega arith))
 
 -- what is met is a tangle
@@ -166,12 +166,12 @@ untangled t spans owners r none = λ arcs a b k la lb lk o.
     r.none b (place t (span_at spans a).to (span_at spans a).from k) lb (arcs b lb) o (none a la (arcs a la) k lk)
 
 -- what was found so far, at the end of the way or where the walk breaks off
-pub some_met : (t : Table) (owners : List ℕ) (s : Span) (n : ℕ) (found : Option Met) → MetSoFar t owners s n found → n ≤ s.start → (IsArc t s → s.start ≤ n)
+pub some_met : (t : Table) (owners : List ℕ) (s : Span) (n : ℕ) (found : Option Met) → MetSoFar t owners s n found → n ≤ s.start → (IsSpanOfArc t s → s.start ≤ n)
     → IfSome found (IsLastMet t owners s)
 some_met t owners s n None r within all = tt
 some_met t owners s n (Some m) r within all = last_of t owners s n m r within all
 
-pub none_met : (t : Table) (owners : List ℕ) (s : Span) (n : ℕ) (found : Option Met) → MetSoFar t owners s n found → (IsArc t s → s.start ≤ n)
+pub none_met : (t : Table) (owners : List ℕ) (s : Span) (n : ℕ) (found : Option Met) → MetSoFar t owners s n found → (IsSpanOfArc t s → s.start ≤ n)
     → IfNone found (MeetsNone t owners s)
 none_met t owners s n None r all = none_of t owners s n r all
 none_met t owners s n (Some m) r all = tt

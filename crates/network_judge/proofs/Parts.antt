@@ -14,8 +14,8 @@ use Rattle.network_judge.specs.Ways.{place, IsWay}
 use Rattle.network_judge.specs.Replies.{IsReply, AreReplies}
 use Rattle.network_judge.specs.Cycles.{Leads, link_at, IsCycle}
 use Rattle.network_judge.specs.Verdicts.{AllArrive, join_at}
-use Rattle.network_judge.specs.Arcs.{Arc, at, begin, On, AnyOn, Apart, LeadsTo, Chain}
-use Rattle.network_judge.specs.Spans.{AreDistinct, end_by, end_of, span_at, span_of, IsPoint, ComesAt, IsMissed, IsCircle}
+use Rattle.network_judge.specs.Arcs.{Arc, at, begin, On, AnyOn, AreArcsApart, ArcLeadsTo, Chain}
+use Rattle.network_judge.specs.Spans.{AreOfDistinctChannels, end_by, end_of, span_at, span_of, IsPoint, ComesAt, IsMissed, IsCircle}
 use Rattle.network_judge.proofs.Places.{place_next}
 use Rattle.network_judge.proofs.Passing.{dependency_passes}
 use Rattle.network_judge.proofs.Marking.{joined_at, place_of}
@@ -72,7 +72,7 @@ some_pair t a missed =
 
 module _ (t : Table) (replies : List Reply) (arrive : AllArrive t) (are : AreReplies t replies) where
   -- an arc of one channel leads on as its link says
-  leads_to : (a : Arc t) (x : ℕ) (by : By) (y : ℕ) → a.to ≡ end_by x by → a.start ≡ a.end → begin t a ≡ x → Leads t replies x by y → LeadsTo t replies a y
+  leads_to : (a : Arc t) (x : ℕ) (by : By) (y : ℕ) → a.to ≡ end_by x by → a.start ≡ a.end → begin t a ≡ x → Leads t replies x by y → ArcLeadsTo t replies a y
   leads_to a x (To j) y ends single here d =
       let p = dependency_passes t arrive x j y d in
       let h = p.0 in
@@ -121,7 +121,7 @@ module _ (t : Table) (replies : List Reply) (arrive : AllArrive t) (are : AreRep
         (subst (λ z. (m : ℕ) → m < length t.joins → IsMissed t m (end_of (link_at links k)) z) (sym p.here) missed))
 
     -- the parts of a cycle whose channels are distinct
-    module _ (spans : List Span) (count : length spans ≡ length links) (distinct : AreDistinct links)
+    module _ (spans : List Span) (count : length spans ≡ length links) (distinct : AreOfDistinctChannels links)
         (points : (k : ℕ) → k < length links → IsPoint t (end_of (link_at links k)) (link_at links k).channel (span_at spans k)) where
       record Row (k : ℕ) : Type 0 where
         head : Arc t
@@ -129,10 +129,10 @@ module _ (t : Table) (replies : List Reply) (arrive : AllArrive t) (are : AreRep
         are_spans : map (span_of t) (head ∷ rest) ≡ drop k spans
         chain : Chain t replies (head ∷ rest) (ch 0)
         here : begin t head ≡ ch k
-        apart : Apart t (head ∷ rest)
+        apart : AreArcsApart t (head ∷ rest)
         on : (x : ℕ) → AnyOn t (head ∷ rest) x → (j : ℕ) × (k ≤ j) × (j < length links) × (ch j ≡ x)
 
-      one : (k : ℕ) → (low : k < length links) → (y : ℕ) → Leads t replies (ch k) (by k) y → LeadsTo t replies (points k low).arc y
+      one : (k : ℕ) → (low : k < length links) → (y : ℕ) → Leads t replies (ch k) (by k) y → ArcLeadsTo t replies (points k low).arc y
       one k low y leads = (let p = points k low in leads_to p.arc (ch k) (by k) y p.ends p.single p.here leads)
 
       on_point : (k : ℕ) → (low : k < length links) → (x : ℕ) → On t (points k low).arc x → ch k ≡ x
@@ -169,12 +169,12 @@ module _ (t : Table) (replies : List Reply) (arrive : AllArrive t) (are : AreRep
       row (suc n) k size =
           let low : k < length links = omega arith in
           let r = row n (suc k) (omega arith) in
-          let leads : LeadsTo t replies (points k low).arc (ch (suc k)) = one k low (ch (suc k)) (each t replies arrive are links cycle k (omega arith)) in
+          let leads : ArcLeadsTo t replies (points k low).arc (ch (suc k)) = one k low (ch (suc k)) (each t replies arrive are links cycle k (omega arith)) in
           record {
             head = (points k low).arc;
             rest = r.head ∷ r.rest;
             are_spans = spans_on k low (r.head ∷ r.rest) r.are_spans;
-            chain = (subst (LeadsTo t replies (points k low).arc) (sym r.here) leads, r.chain);
+            chain = (subst (ArcLeadsTo t replies (points k low).arc) (sym r.here) leads, r.chain);
             here = (points k low).here;
             apart = (
               (λ x o any. (let w = r.on x any in let above = w.1 in

@@ -14,7 +14,7 @@ use Rattle.network_judge.specs.Table.{Table, channels_of}
 use Rattle.network_judge.specs.Replies.{AreReplies}
 use Rattle.network_judge.specs.Verdicts.{AllArrive}
 use Rattle.network_judge.specs.Cycles.{Leads, link_at, IsCycle}
-use Rattle.network_judge.specs.Spans.{AreDistinct}
+use Rattle.network_judge.specs.Spans.{AreOfDistinctChannels}
 use Rattle.network_judge.proofs.Passing.{dependency_passes}
 use Rattle.network_judge.proofs.Still.{on_within}
 
@@ -103,7 +103,7 @@ module _ (t : Table) (replies : List Reply) (links : List Link) (cycle : IsCycle
 
 -- and of distinct channels
 pub distinct_between : (links : List Link) (a b : ℕ) → a ≤ b → b ≤ length links
-    → ((j k : ℕ) → j < k → k < b → (link_at links j).channel ≢ (link_at links k).channel) → AreDistinct (between links a b)
+    → ((j k : ℕ) → j < k → k < b → (link_at links j).channel ≢ (link_at links k).channel) → AreOfDistinctChannels (between links a b)
 distinct_between links a b order within apart =
     let size : length (between links a b) ≡ b - a = length_between links a b order within in
     λ j k less low. λ same.

@@ -9,7 +9,7 @@ use Rattle.network_judge.specs.declared.tangles.Tangle.{Tangle}
 use Rattle.network_judge.specs.Table.{Table}
 use Rattle.network_judge.specs.Ways.{place}
 use Rattle.network_judge.specs.Arcs.{Arc, On, AnyOn, AreClear}
-use Rattle.network_judge.specs.Spans.{span_at, span_of, IsOn, AreArcs, IsCircle, IsClearCircle, IsTangle, IsUntangled, IsAround, starts, before_step}
+use Rattle.network_judge.specs.Spans.{span_at, span_of, IsOnSpan, AreSpansOfArcs, IsCircle, IsClearCircle, IsTangle, IsUntangled, IsAround, starts, before_step}
 
 abbrev pub no_span : Span
 no_span = record { from = 0; to = 0; start = 0; end = 0 }
@@ -43,19 +43,19 @@ span_there t front a back n count =
     ∙ get_or-append_seam (map (span_of t) front) (span_of t a) (map (span_of t) back) no_span)
 
 -- a channel on an arc is on its span, and the other way round
-pub on_span : (t : Table) (a : Arc t) (x : ℕ) → On t a x → IsOn t (span_of t a) x
+pub on_span : (t : Table) (a : Arc t) (x : ℕ) → On t a x → IsOnSpan t (span_of t a) x
 on_span t a x o = (let high = o.high in record { step = o.step; low = o.low; high = omega arith; here = o.here })
 
-pub on_arc : (t : Table) (a : Arc t) (x : ℕ) → IsOn t (span_of t a) x → On t a x
+pub on_arc : (t : Table) (a : Arc t) (x : ℕ) → IsOnSpan t (span_of t a) x → On t a x
 on_arc t a x o = (let high = o.high in record { step = o.step; low = o.low; high = omega arith; here = o.here })
 
 -- which of the spans it is on
-pub any_span : (t : Table) (ps : List (Arc t)) (x : ℕ) → AnyOn t ps x → (b : ℕ) × (b < length ps) × IsOn t (span_at (map (span_of t) ps) b) x
+pub any_span : (t : Table) (ps : List (Arc t)) (x : ℕ) → AnyOn t ps x → (b : ℕ) × (b < length ps) × IsOnSpan t (span_at (map (span_of t) ps) b) x
 any_span t [] x h = absurd h
 any_span t (a ∷ ps) x (inl o) = (0, omega arith, on_span t a x o)
 any_span t (a ∷ ps) x (inr h) = (let r = any_span t ps x h in let low = r.1 in (suc r.0, omega arith, r.2))
 
-pub are_arcs : (t : Table) (ps : List (Arc t)) → AreArcs t (map (span_of t) ps)
+pub are_arcs : (t : Table) (ps : List (Arc t)) → AreSpansOfArcs t (map (span_of t) ps)
 are_arcs t [] b low = absurd (omega arith)
 are_arcs t (a ∷ ps) zero low = record { arc = a; is = refl }
 are_arcs t (a ∷ ps) (suc b) low = are_arcs t ps b (omega arith)

@@ -39,23 +39,23 @@ module _ (t : Table) where
   AnyOn (a ∷ ps) x = On a x ⊎ AnyOn ps x
 
   -- they have no channel in common
-  abbrev pub Apart : List (Arc t) → Type 0
-  Apart [] = Unit {0}
-  Apart (a ∷ ps) = ((x : ℕ) → On a x → AnyOn ps x → ⊥) × Apart ps
+  abbrev pub AreArcsApart : List (Arc t) → Type 0
+  AreArcsApart [] = Unit {0}
+  AreArcsApart (a ∷ ps) = ((x : ℕ) → On a x → AnyOn ps x → ⊥) × AreArcsApart ps
 
   -- packets pass none of some arcs before they come to their own
-  abbrev pub IsClear : List (Arc t) → Arc t → Type 0
-  IsClear ps a = (k : ℕ) → k < a.start → AnyOn ps (at a k) → ⊥
+  abbrev pub IsClearArc : List (Arc t) → Arc t → Type 0
+  IsClearArc ps a = (k : ℕ) → k < a.start → AnyOn ps (at a k) → ⊥
 
   abbrev pub AreClear : List (Arc t) → List (Arc t) → Type 0
   AreClear all [] = Unit {0}
-  AreClear all (a ∷ ps) = IsClear all a × AreClear all ps
+  AreClear all (a ∷ ps) = IsClearArc all a × AreClear all ps
 
   module _ (replies : List Reply) where
     -- how an arc leads on to a channel: the next one of its route, or at its end one on which its
     -- packets are answered
-    abbrev pub LeadsTo : Arc t → ℕ → Type 0
-    LeadsTo a y =
+    abbrev pub ArcLeadsTo : Arc t → ℕ → Type 0
+    ArcLeadsTo a y =
         ((a.end < a.len) × (at a (suc a.end) ≡ y)) ⊎ ((a.end ≡ a.len) × IsReply replies a.to y)
 
     abbrev pub first_of : List (Arc t) → ℕ → ℕ
@@ -65,9 +65,9 @@ module _ (t : Table) where
     -- each leads on to the next one's first channel, and the last to channel e
     abbrev pub Chain : List (Arc t) → ℕ → Type 0
     Chain [] e = Unit {0}
-    Chain (a ∷ ps) e = LeadsTo a (first_of ps e) × Chain ps e
+    Chain (a ∷ ps) e = ArcLeadsTo a (first_of ps e) × Chain ps e
 
     -- around
     pub record Circle (ps : List (Arc t)) : Type 0 where
       pub chain : Chain ps (first_of ps 0)
-      pub apart : Apart ps
+      pub apart : AreArcsApart ps

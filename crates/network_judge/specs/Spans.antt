@@ -17,8 +17,8 @@ use Rattle.network_judge.specs.Verdicts.{join_at}
 use Rattle.network_judge.specs.Arcs.{Arc, begin, AreClear, Circle}
 
 -- no two links are of one channel
-abbrev pub AreDistinct : List Link → Type 0
-AreDistinct links = (j k : ℕ) → j < k → k < length links
+abbrev pub AreOfDistinctChannels : List Link → Type 0
+AreOfDistinctChannels links = (j k : ℕ) → j < k → k < length links
     → (link_at links j).channel ≢ (link_at links k).channel
 
 -- where the packets of a link go: to its ejection channel, or they are answered at their end
@@ -38,19 +38,19 @@ abbrev pub span_of : (t : Table) → Arc t → Span
 span_of t a = record { from = a.from; to = a.to; start = a.start; end = suc a.end }
 
 -- a channel is at one of the steps
-pub record IsOn (t : Table) (s : Span) (x : ℕ) : Type 0 where
+pub record IsOnSpan (t : Table) (s : Span) (x : ℕ) : Type 0 where
   pub step : ℕ
   pub low : s.start ≤ step
   pub high : step < s.end
   pub here : place t s.to s.from step ≡ x
 
 -- a part of a route
-pub record IsArc (t : Table) (s : Span) : Type 0 where
+pub record IsSpanOfArc (t : Table) (s : Span) : Type 0 where
   pub arc : Arc t
   pub is : span_of t arc ≡ s
 
-abbrev pub AreArcs : Table → List Span → Type 0
-AreArcs t spans = (b : ℕ) → b < length spans → IsArc t (span_at spans b)
+abbrev pub AreSpansOfArcs : Table → List Span → Type 0
+AreSpansOfArcs t spans = (b : ℕ) → b < length spans → IsSpanOfArc t (span_at spans b)
 
 -- channel x of a route to an ejection channel, alone
 pub record IsPoint (t : Table) (to x : ℕ) (s : Span) : Type 0 where
@@ -85,18 +85,18 @@ pub record IsClearCircle (t : Table) (replies : List Reply) (spans : List Span) 
   pub clear : AreClear t (head ∷ rest) (head ∷ rest)
 
 -- the channels of a span have this number, and the others keep theirs
-pub record IsNoted (t : Table) (s : Span) (number : ℕ) (old new : List ℕ) : Type 0 where
+pub record IsSpanNoted (t : Table) (s : Span) (number : ℕ) (old new : List ℕ) : Type 0 where
   pub size : length new ≡ length old
   pub each : (x : ℕ) → (slice_index new x ≡ slice_index old x)
-      ⊎ ((slice_index new x ≡ number) × IsOn t s x)
-  pub on : length old ≡ channels_of t → IsArc t s → (x : ℕ) → IsOn t s x
+      ⊎ ((slice_index new x ≡ number) × IsOnSpan t s x)
+  pub on : length old ≡ channels_of t → IsSpanOfArc t s → (x : ℕ) → IsOnSpan t s x
       → slice_index new x ≡ number
 
 -- the number of a span at each of its channels, counted from 1, and 0 where the first spans are not
 pub record AreOwners (t : Table) (spans : List Span) (n : ℕ) (owners : List ℕ) : Type 0 where
   pub size : length owners ≡ channels_of t
-  pub some : (x b : ℕ) → slice_index owners x ≡ suc b → (b < n) × IsOn t (span_at spans b) x
-  pub none : (b x : ℕ) → b < n → IsArc t (span_at spans b) → IsOn t (span_at spans b) x
+  pub some : (x b : ℕ) → slice_index owners x ≡ suc b → (b < n) × IsOnSpan t (span_at spans b) x
+  pub none : (b x : ℕ) → b < n → IsSpanOfArc t (span_at spans b) → IsOnSpan t (span_at spans b) x
       → slice_index owners x ≢ 0
 
 -- the last channel on the way to a span that has an owner
@@ -104,12 +104,12 @@ pub record IsLastMet (t : Table) (owners : List ℕ) (s : Span) (m : Met) : Type
   pub low : m.step < s.start
   pub here : place t s.to s.from m.step ≡ m.channel
   pub owned : slice_index owners m.channel ≢ 0
-  pub last : IsArc t s → (k : ℕ) → m.step < k → k < s.start
+  pub last : IsSpanOfArc t s → (k : ℕ) → m.step < k → k < s.start
       → slice_index owners (place t s.to s.from k) ≡ 0
 
 -- none has
 abbrev pub MeetsNone : Table → List ℕ → Span → Type 0
-MeetsNone t owners s = IsArc t s → (k : ℕ) → k < s.start
+MeetsNone t owners s = IsSpanOfArc t s → (k : ℕ) → k < s.start
     → slice_index owners (place t s.to s.from k) ≡ 0
 
 -- packets on the way to a span pass another, and behind that step none
@@ -118,17 +118,17 @@ pub record IsTangle (t : Table) (spans : List Span) (g : Tangle) : Type 0 where
   pub owner_low : g.owner < length spans
   pub low : g.step < (span_at spans g.place).start
   pub here : place t (span_at spans g.place).to (span_at spans g.place).from g.step ≡ g.channel
-  pub on : IsOn t (span_at spans g.owner) g.channel
-  pub last : AreArcs t spans → (k b : ℕ) → g.step < k → k < (span_at spans g.place).start
+  pub on : IsOnSpan t (span_at spans g.owner) g.channel
+  pub last : AreSpansOfArcs t spans → (k b : ℕ) → g.step < k → k < (span_at spans g.place).start
       → b < length spans
-      → IsOn t (span_at spans b)
+      → IsOnSpan t (span_at spans b)
       (place t (span_at spans g.place).to (span_at spans g.place).from k) → ⊥
 
 -- no packets do
 abbrev pub IsUntangled : Table → List Span → Type 0
-IsUntangled t spans = AreArcs t spans → (a b k : ℕ) → a < length spans → b < length spans
+IsUntangled t spans = AreSpansOfArcs t spans → (a b k : ℕ) → a < length spans → b < length spans
     → k < (span_at spans a).start
-    → IsOn t (span_at spans b) (place t (span_at spans a).to (span_at spans a).from k) → ⊥
+    → IsOnSpan t (span_at spans b) (place t (span_at spans a).to (span_at spans a).from k) → ⊥
 
 -- the steps before the spans, together
 abbrev pub starts : List Span → ℕ

@@ -8,7 +8,7 @@ ghost use Rattle.network_judge.specs.Columns.{AreColumns};
 ghost use Rattle.network_judge.specs.Verdicts.{AllArrive};
 ghost use Rattle.network_judge.specs.Replies.{AreReplies};
 ghost use Rattle.network_judge.specs.Cycles.{IsCycle};
-ghost use Rattle.network_judge.specs.Spans.{end_of, AreDistinct, IsCircle, IsClearCircle, starts};
+ghost use Rattle.network_judge.specs.Spans.{end_of, AreOfDistinctChannels, IsCircle, IsClearCircle, starts};
 ghost use Rattle.network_judge.specs.Spans.{before_step, span_at, IsAround};
 
 use crate::spans::{Span, span_at, step_of};
@@ -34,7 +34,7 @@ pub fn without_repeats<'a, A: Allocator + Copy>(
     ensures distinct { IfOk result (λ circle. (replies : List Reply)
         → AreReplies (table_of kinds.now joins.now choices.now) replies
         → IsCycle (table_of kinds.now joins.now choices.now) replies links.now
-        → AreDistinct circle.now) }
+        → AreOfDistinctChannels circle.now) }
 {
     let mut places = vec![in alloc; 0usize; kinds.len()]?;
     for place in 0..links.len() {
@@ -80,7 +80,7 @@ pub fn spans_of<A: Allocator + Copy>(
     ensures some { IfOk result (λ found. IfSome found (λ spans. (replies : List Reply)
         → AreReplies (table_of kinds.now joins.now choices.now) replies
         → IsCycle (table_of kinds.now joins.now choices.now) replies links.now
-        → AreDistinct links.now
+        → AreOfDistinctChannels links.now
         → IsCircle (table_of kinds.now joins.now choices.now) replies spans.items)) }
     ensures none { IfOk result (λ found. IfNone found ((replies : List Reply)
         → AreReplies (table_of kinds.now joins.now choices.now) replies

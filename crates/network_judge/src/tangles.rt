@@ -4,7 +4,7 @@ ghost use Rattle.std.specs.Prelude.{◌≡◌, ◌≤◌, ◌<◌, ℕ, length, 
 ghost use Rattle.std.specs.Prelude.{IfSome};
 ghost use Rattle.network_judge.specs.Table.{table_of, columns_of, IsFull};
 ghost use Rattle.network_judge.specs.Columns.{AreColumns};
-ghost use Rattle.network_judge.specs.Spans.{span_at, IsNoted, AreOwners, IsLastMet, MeetsNone};
+ghost use Rattle.network_judge.specs.Spans.{span_at, IsSpanNoted, AreOwners, IsLastMet, MeetsNone};
 ghost use Rattle.network_judge.specs.Spans.{IsTangle, IsUntangled};
 
 use crate::check::next_of;
@@ -48,7 +48,7 @@ fn note(
     requires full { IsFull (table_of kinds.now joins.now choices.now) }
     requires columns { AreColumns kinds.now columns.now }
     requires width { width ≡ columns_of (table_of kinds.now joins.now choices.now) }
-    ensures { IsNoted (table_of kinds.now joins.now choices.now) span number owners.old
+    ensures { IsSpanNoted (table_of kinds.now joins.now choices.now) span number owners.old
         owners.new }
 {
     let mut at = span.from;
