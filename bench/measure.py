@@ -26,7 +26,7 @@ BENCH = os.path.dirname(os.path.realpath(__file__))
 ROOT = os.path.dirname(BENCH)
 OUT = f"{BENCH}/out"
 sys.path.insert(0, f"{ROOT}/tools")
-import command  # noqa: E402
+from torusmem_tools import command  # noqa: E402
 
 # Seconds after which a run is killed.
 LIMIT = 120

@@ -1,6 +1,7 @@
 /* Misuses handles in a debug build, for `checks/library`: library_misuse CASE must print a line and abort, but for the
    case `moved`, which is no misuse. */
 #define TORUSMEM_DEBUG
+#include <pthread.h>
 #include <string.h>
 #include "torusmem.h"
 
@@ -10,8 +11,23 @@ static int begun(torusmem_machine *m) {
   return torusmem_load(m, (const uint8_t *)machine, strlen(machine), NULL, 0).code == TORUSMEM_OK;
 }
 
+/* Makes rounds until another thread's call with the machine ends this program. */
+static void *makes_rounds(void *m) {
+  for (;;) torusmem_round((torusmem_machine *)m);
+  return NULL;
+}
+
+/* Waits until a thread is in a call with the machine, and makes a call with it meanwhile, again and again. */
+static void meets(torusmem_machine *m) {
+  pthread_t other;
+  torusmem_ticket *ticket = m->ticket;
+  if (pthread_create(&other, NULL, makes_rounds, m) != 0) return;
+  for (;;)
+    if (__atomic_load_n(&ticket->thread, __ATOMIC_RELAXED) != NULL) torusmem_finish(m);
+}
+
 int main(int count, char **words) {
-  torusmem_machine m = TORUSMEM_MACHINE_INIT, copy, nothing;
+  torusmem_machine m = TORUSMEM_MACHINE_INIT, fresh = TORUSMEM_MACHINE_INIT, copy, nothing;
   torusmem_watch w = TORUSMEM_WATCH_INIT;
   uint64_t opening = 0;
   memset(&nothing, 0, sizeof nothing);
@@ -26,6 +42,9 @@ int main(int count, char **words) {
   if (strcmp(misuse, "used copy") == 0) torusmem_round(&m), torusmem_round(&copy);
   if (strcmp(misuse, "freed copy") == 0) torusmem_free(&m), torusmem_round(&copy);
   if (strcmp(misuse, "freed twice") == 0) torusmem_free(&m), torusmem_free(&copy);
+  if (strcmp(misuse, "two threads") == 0) meets(&m);
+  if (strcmp(misuse, "null scripts") == 0) return (int)torusmem_load(&fresh, (const uint8_t *)machine, strlen(machine), NULL, 3).code;
+  if (strcmp(misuse, "null report") == 0) return (int)torusmem_check(NULL, 3).code;
   if (strcmp(misuse, "one machine twice") == 0) return (int)torusmem_reopen(&m, &m).code;
   if (strcmp(misuse, "one machine cloned") == 0) return (int)torusmem_clone(&m, &m).code;
   if (strcmp(misuse, "moved") != 0) return 3;

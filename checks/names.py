@@ -4,7 +4,7 @@ from __future__ import annotations
 import os
 import re
 
-from sources import own_path
+from torusmem_tools.repository.sources import own_path
 from tree import SKIPPED, Tree, read
 
 MADE = {"./golden", "./rounds", "./clocked"}  # programs that commands of the documents make

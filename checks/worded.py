@@ -5,12 +5,10 @@ import copy
 from collections import Counter
 from typing import Callable, Iterator
 
-import clocked
-import drawn
-import replay
+from torusmem_tools.model import campaign_cases, clocked_rounds, replay
 
 
-def turned(shape: replay.Shape, number: int) -> Iterator[clocked.Attempt]:
+def turned(shape: replay.Shape, number: int) -> Iterator[clocked_rounds.Attempt]:
     """The attempts of the clocked round of a number, in their order, enabled or not."""
     for agent, choice, port in replay.attempts(shape):
         yield agent, choice, ((port or 0) + (number - 1 if choice == "put" else 0)) % shape.ports
@@ -24,10 +22,10 @@ def moves(machine: replay.Machine, number: int, _: replay.Begins) -> list[str]:
         if tried.step(*attempt, number):
             enabled.append(attempt)
             tried = twin()
-    return [clocked.line(it) for it in enabled if machine.step(*it, number)]
+    return [clocked_rounds.line(it) for it in enabled if machine.step(*it, number)]
 
 
-def stages(case: drawn.Case, schedule: str) -> int:
+def stages(case: campaign_cases.Case, schedule: str) -> int:
     """The most stages that a flit of a schedule goes in one round."""
     machine, most = replay.Machine(case), 0
     for number, attempts in replay.schedule_of(schedule.encode("ascii")).rounds:

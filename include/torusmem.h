@@ -59,10 +59,13 @@ extern "C" {
 const char *torusmem_version(void) TORUSMEM_RESULT;
 
 #ifdef TORUSMEM_DEBUG
-/* What a handle carries in a debug build: what it is, and of what it holds a ticket, which counts its calls. */
+/* What a handle carries in a debug build: what it is, and of what it holds a ticket. The ticket counts the calls, and has
+   the thread that is in one, by the address of its errno. */
 typedef struct torusmem_ticket {
   uint64_t calls;
   bool gone;
+  const void *thread;
+  const char *call;
 } torusmem_ticket;
 #define TORUSMEM_MARK uint64_t mark, calls; torusmem_ticket *ticket;
 #define TORUSMEM_MARKED(mark) , mark, 0, NULL
@@ -332,8 +335,15 @@ torusmem_outcome torusmem_finished(torusmem_machine *m) TORUSMEM_RESULT;
 /* At most how many moves are left: no steps make more than this. OK, value: the number; EMPTY. */
 torusmem_outcome torusmem_moves_left(torusmem_machine *m) TORUSMEM_RESULT;
 
+#if defined(__cplusplus) && defined(__GNUC__) /* A struct has the name of the next call, of which -Wshadow warns. */
+#pragma GCC diagnostic push
+#pragma GCC diagnostic ignored "-Wshadow"
+#endif
 /* Tells what the machine is built to. OK: *out has it; EMPTY: *out is as it was. */
 torusmem_outcome torusmem_shape(torusmem_machine *m, struct torusmem_shape *out) TORUSMEM_RESULT;
+#if defined(__cplusplus) && defined(__GNUC__)
+#pragma GCC diagnostic pop
+#endif
 
 /* The number of tiles, 2 to 64, and of words, 1 to 65536. OK, value: the number; EMPTY. */
 torusmem_outcome torusmem_tiles(torusmem_machine *m) TORUSMEM_RESULT;
@@ -619,10 +629,32 @@ torusmem_outcome torusmem_watch_answer(torusmem_watch *w, uint64_t number, uint3
 /* Ends the watch that *w holds, if any, and gives its memory back. It may be begun again then. */
 void torusmem_watch_end(torusmem_watch *w);
 
+#ifdef TORUSMEM_DEBUG
+#include <errno.h>
+#include <stdio.h>
+#include <stdlib.h>
+
+/* Where this thread's last call stands, and the tickets of the calls that it is in: one may stand in the words of another. */
+static __thread struct { const char *call, *file; int line; } torusmem_place;
+static __thread struct { unsigned depth; torusmem_ticket *tickets[8]; } torusmem_inside;
+
+/* Says what is wrong with a handle or a text that a call is given, and aborts. */
+static inline void torusmem_look_at(bool is_right, const char *why, const char *call, const char *file, int line) {
+  torusmem_place.call = call, torusmem_place.file = file, torusmem_place.line = line;
+  if (is_right) return;
+  fprintf(stderr, "%s:%d: %s: %s\n", file, line, call, why);
+  abort();
+}
+#endif
+
 /* The library's own calls take no null pointer. So a C program that calls one of the nineteen below has a call in front
    of it, by which a pointer with the length 0 becomes one to an item that is not looked at. */
 static inline const uint8_t *torusmem_text_at(const uint8_t *at, size_t length) {
   static const uint8_t none = 0;
+#ifdef TORUSMEM_DEBUG
+  torusmem_look_at(at != NULL || length == 0, "a text is null, and its length isn't 0", torusmem_place.call, torusmem_place.file,
+                   torusmem_place.line);
+#endif
   return length > 0 ? at : &none;
 }
 
@@ -786,15 +818,31 @@ static inline torusmem_outcome torusmem_route_into(torusmem_machine *m, uint32_t
 #define torusmem_route torusmem_route_into
 
 #ifdef TORUSMEM_DEBUG
-#include <stdio.h>
-#include <stdlib.h>
-
-/* Says what is wrong with a handle that a call is given, and aborts. */
-static inline void torusmem_look_at(bool is_right, const char *why, const char *call, const char *file, int line) {
-  if (is_right) return;
-  fprintf(stderr, "%s:%d: %s: %s\n", file, line, call, why);
-  abort();
+/* Enters a call with what this ticket is of, unless another thread is in one. */
+static inline void torusmem_enter(torusmem_ticket *ticket, const char *call, const char *file, int line) {
+  const void *other = NULL, *here = &errno;
+  if (!__atomic_compare_exchange_n(&ticket->thread, &other, here, false, __ATOMIC_ACQUIRE, __ATOMIC_RELAXED)) {
+    if (other == here) return;
+    fprintf(stderr, "%s:%d: %s: another thread is in %s with the handle\n", file, line, call,
+            __atomic_load_n(&ticket->call, __ATOMIC_RELAXED));
+    abort();
+  }
+  __atomic_store_n(&ticket->call, call, __ATOMIC_RELAXED);
+  if (torusmem_inside.depth < 8) torusmem_inside.tickets[torusmem_inside.depth++] = ticket;
+  else __atomic_store_n(&ticket->thread, NULL, __ATOMIC_RELEASE);
 }
+
+/* Leaves the calls that this thread is in. */
+static inline void torusmem_leave(void) {
+  while (torusmem_inside.depth > 0)
+    __atomic_store_n(&torusmem_inside.tickets[--torusmem_inside.depth]->thread, NULL, __ATOMIC_RELEASE);
+}
+
+#define TORUSMEM_LEFT(name, answer) static inline answer name(answer said) { torusmem_leave(); return said; }
+TORUSMEM_LEFT(torusmem_left, torusmem_outcome)
+TORUSMEM_LEFT(torusmem_left_answer, torusmem_answer)
+TORUSMEM_LEFT(torusmem_left_entry, torusmem_entry)
+TORUSMEM_LEFT(torusmem_left_length, size_t)
 
 /* Looks at the mark of a handle, and counts the call: a copy that is left behind has another count than the ticket. */
 static inline void torusmem_look_at_mark(bool full, uint64_t mark, uint64_t wanted, uint64_t *calls, torusmem_ticket *ticket,
@@ -804,6 +852,7 @@ static inline void torusmem_look_at_mark(bool full, uint64_t mark, uint64_t want
   torusmem_look_at(mark == wanted, "the handle was not initialized", call, file, line);
   torusmem_look_at(full == (ticket != NULL), "the handle was changed by other means than calls", call, file, line);
   if (ticket == NULL) return;
+  torusmem_enter(ticket, call, file, line);
   torusmem_look_at(!ticket->gone, "the handle is a copy of one that was freed", call, file, line);
   torusmem_look_at(*calls == ticket->calls, "the handle is a copy of one that was used since", call, file, line);
   *calls = ++ticket->calls;
@@ -892,6 +941,7 @@ static inline void torusmem_free_marked(torusmem_machine *m) {
   torusmem_free(m);
   if (m->ticket != NULL) m->ticket->gone = true;
   m->ticket = NULL;
+  torusmem_leave();
 }
 
 TORUSMEM_RESULT
@@ -906,73 +956,91 @@ static inline void torusmem_watch_end_marked(torusmem_watch *w) {
   torusmem_watch_end(w);
   if (w->ticket != NULL) w->ticket->gone = true;
   w->ticket = NULL;
+  torusmem_leave();
 }
 
 #define TORUSMEM_MACHINE(m, call) torusmem_marked(m, call, __FILE__, __LINE__)
 #define TORUSMEM_WATCH(w, call) torusmem_watch_marked(w, call, __FILE__, __LINE__)
+#define TORUSMEM_HERE(call) torusmem_look_at(true, "", call, __FILE__, __LINE__)
+#undef torusmem_explain
+#undef torusmem_check
+#undef torusmem_network
+#define torusmem_explain(...) (TORUSMEM_HERE("torusmem_explain"), torusmem_explain_texts(__VA_ARGS__))
+#define torusmem_check(...) (TORUSMEM_HERE("torusmem_check"), torusmem_check_text(__VA_ARGS__))
+#define torusmem_network(...) (TORUSMEM_HERE("torusmem_network"), torusmem_network_text(__VA_ARGS__))
 #undef torusmem_load
 #undef torusmem_load_recorded
 #undef torusmem_restore
 #undef torusmem_open
 #undef torusmem_open_recorded
 #undef torusmem_watch_begin
-#define torusmem_open(m, ...) torusmem_open_marked(TORUSMEM_MACHINE(m, "torusmem_open"), __VA_ARGS__)
+#define torusmem_open(m, ...) torusmem_left(torusmem_open_marked(TORUSMEM_MACHINE(m, "torusmem_open"), __VA_ARGS__))
 #define torusmem_open_recorded(m, ...) \
-  torusmem_open_recorded_marked(TORUSMEM_MACHINE(m, "torusmem_open_recorded"), __VA_ARGS__)
+  torusmem_left(torusmem_open_recorded_marked(TORUSMEM_MACHINE(m, "torusmem_open_recorded"), __VA_ARGS__))
 #define torusmem_reopen(m, fresh) \
-  torusmem_reopen_marked(TORUSMEM_MACHINE(m, "torusmem_reopen"), TORUSMEM_MACHINE(fresh, "torusmem_reopen"), __FILE__, \
-                         __LINE__)
-#define torusmem_load(m, ...) torusmem_load_marked(TORUSMEM_MACHINE(m, "torusmem_load"), __VA_ARGS__)
+  torusmem_left(torusmem_reopen_marked(TORUSMEM_MACHINE(m, "torusmem_reopen"), TORUSMEM_MACHINE(fresh, "torusmem_reopen"), \
+  __FILE__, __LINE__))
+#define torusmem_load(m, ...) torusmem_left(torusmem_load_marked(TORUSMEM_MACHINE(m, "torusmem_load"), __VA_ARGS__))
 #define torusmem_load_recorded(m, ...) \
-  torusmem_load_recorded_marked(TORUSMEM_MACHINE(m, "torusmem_load_recorded"), __VA_ARGS__)
+  torusmem_left(torusmem_load_recorded_marked(TORUSMEM_MACHINE(m, "torusmem_load_recorded"), __VA_ARGS__))
 #undef torusmem_save
-#define torusmem_save(m, ...) torusmem_save_into(TORUSMEM_MACHINE(m, "torusmem_save"), __VA_ARGS__)
-#define torusmem_restore(m, ...) torusmem_restore_marked(TORUSMEM_MACHINE(m, "torusmem_restore"), __VA_ARGS__)
+#define torusmem_save(m, ...) torusmem_left(torusmem_save_into(TORUSMEM_MACHINE(m, "torusmem_save"), __VA_ARGS__))
+#define torusmem_restore(m, ...) \
+  torusmem_left(torusmem_restore_marked(TORUSMEM_MACHINE(m, "torusmem_restore"), __VA_ARGS__))
 #define torusmem_clone(m, fresh) \
-  torusmem_clone_marked(TORUSMEM_MACHINE(m, "torusmem_clone"), TORUSMEM_MACHINE(fresh, "torusmem_clone"), __FILE__, \
-                        __LINE__)
+  torusmem_left(torusmem_clone_marked(TORUSMEM_MACHINE(m, "torusmem_clone"), TORUSMEM_MACHINE(fresh, "torusmem_clone"), \
+  __FILE__, __LINE__))
 #define torusmem_free(m) torusmem_free_marked(TORUSMEM_MACHINE(m, "torusmem_free"))
-#define torusmem_watch_begin(w, ...) torusmem_watch_begin_marked(TORUSMEM_WATCH(w, "torusmem_watch_begin"), __VA_ARGS__)
+#define torusmem_watch_begin(w, ...) \
+  torusmem_left(torusmem_watch_begin_marked(TORUSMEM_WATCH(w, "torusmem_watch_begin"), __VA_ARGS__))
 #define torusmem_watch_end(w) torusmem_watch_end_marked(TORUSMEM_WATCH(w, "torusmem_watch_end"))
-#define torusmem_step(m, ...) torusmem_step(TORUSMEM_MACHINE(m, "torusmem_step"), __VA_ARGS__)
+#define torusmem_step(m, ...) torusmem_left(torusmem_step(TORUSMEM_MACHINE(m, "torusmem_step"), __VA_ARGS__))
 #undef torusmem_run
-#define torusmem_run(m, ...) torusmem_run_all(TORUSMEM_MACHINE(m, "torusmem_run"), __VA_ARGS__)
-#define torusmem_enabled(m, ...) torusmem_enabled(TORUSMEM_MACHINE(m, "torusmem_enabled"), __VA_ARGS__)
-#define torusmem_round(m) torusmem_round(TORUSMEM_MACHINE(m, "torusmem_round"))
-#define torusmem_finish(m) torusmem_finish(TORUSMEM_MACHINE(m, "torusmem_finish"))
+#define torusmem_run(m, ...) torusmem_left(torusmem_run_all(TORUSMEM_MACHINE(m, "torusmem_run"), __VA_ARGS__))
+#define torusmem_enabled(m, ...) torusmem_left(torusmem_enabled(TORUSMEM_MACHINE(m, "torusmem_enabled"), __VA_ARGS__))
+#define torusmem_round(m) torusmem_left(torusmem_round(TORUSMEM_MACHINE(m, "torusmem_round")))
+#define torusmem_finish(m) torusmem_left(torusmem_finish(TORUSMEM_MACHINE(m, "torusmem_finish")))
 #define torusmem_clocked_round(m, ...) \
-  torusmem_clocked_round(TORUSMEM_MACHINE(m, "torusmem_clocked_round"), __VA_ARGS__)
-#define torusmem_finish_clocked(m) torusmem_finish_clocked(TORUSMEM_MACHINE(m, "torusmem_finish_clocked"))
-#define torusmem_append(m, ...) torusmem_append(TORUSMEM_MACHINE(m, "torusmem_append"), __VA_ARGS__)
-#define torusmem_ask(m, ...) torusmem_ask(TORUSMEM_MACHINE(m, "torusmem_ask"), __VA_ARGS__)
-#define torusmem_explain_line(m, ...) torusmem_explain_line(TORUSMEM_MACHINE(m, "torusmem_explain_line"), __VA_ARGS__)
-#define torusmem_finished(m) torusmem_finished(TORUSMEM_MACHINE(m, "torusmem_finished"))
-#define torusmem_moves_left(m) torusmem_moves_left(TORUSMEM_MACHINE(m, "torusmem_moves_left"))
-#define torusmem_shape(m, ...) torusmem_shape(TORUSMEM_MACHINE(m, "torusmem_shape"), __VA_ARGS__)
-#define torusmem_tiles(m) torusmem_tiles(TORUSMEM_MACHINE(m, "torusmem_tiles"))
-#define torusmem_words(m) torusmem_words(TORUSMEM_MACHINE(m, "torusmem_words"))
-#define torusmem_word(m, ...) torusmem_word(TORUSMEM_MACHINE(m, "torusmem_word"), __VA_ARGS__)
-#define torusmem_row(m, ...) torusmem_row(TORUSMEM_MACHINE(m, "torusmem_row"), __VA_ARGS__)
+  torusmem_left(torusmem_clocked_round(TORUSMEM_MACHINE(m, "torusmem_clocked_round"), __VA_ARGS__))
+#define torusmem_finish_clocked(m) \
+  torusmem_left(torusmem_finish_clocked(TORUSMEM_MACHINE(m, "torusmem_finish_clocked")))
+#define torusmem_append(m, ...) torusmem_left(torusmem_append(TORUSMEM_MACHINE(m, "torusmem_append"), __VA_ARGS__))
+#define torusmem_ask(m, ...) torusmem_left(torusmem_ask(TORUSMEM_MACHINE(m, "torusmem_ask"), __VA_ARGS__))
+#define torusmem_explain_line(m, ...) \
+  torusmem_left_length(torusmem_explain_line(TORUSMEM_MACHINE(m, "torusmem_explain_line"), __VA_ARGS__))
+#define torusmem_finished(m) torusmem_left(torusmem_finished(TORUSMEM_MACHINE(m, "torusmem_finished")))
+#define torusmem_moves_left(m) torusmem_left(torusmem_moves_left(TORUSMEM_MACHINE(m, "torusmem_moves_left")))
+#define torusmem_shape(m, ...) torusmem_left(torusmem_shape(TORUSMEM_MACHINE(m, "torusmem_shape"), __VA_ARGS__))
+#define torusmem_tiles(m) torusmem_left(torusmem_tiles(TORUSMEM_MACHINE(m, "torusmem_tiles")))
+#define torusmem_words(m) torusmem_left(torusmem_words(TORUSMEM_MACHINE(m, "torusmem_words")))
+#define torusmem_word(m, ...) torusmem_left(torusmem_word(TORUSMEM_MACHINE(m, "torusmem_word"), __VA_ARGS__))
+#define torusmem_row(m, ...) torusmem_left(torusmem_row(TORUSMEM_MACHINE(m, "torusmem_row"), __VA_ARGS__))
 #undef torusmem_rows
-#define torusmem_rows(m, ...) torusmem_rows_into(TORUSMEM_MACHINE(m, "torusmem_rows"), __VA_ARGS__)
-#define torusmem_answers(m, ...) torusmem_answers(TORUSMEM_MACHINE(m, "torusmem_answers"), __VA_ARGS__)
-#define torusmem_answer_at(m, ...) torusmem_answer_at(TORUSMEM_MACHINE(m, "torusmem_answer_at"), __VA_ARGS__)
-#define torusmem_answer_of(m, ...) torusmem_answer_of(TORUSMEM_MACHINE(m, "torusmem_answer_of"), __VA_ARGS__)
-#define torusmem_entries(m, ...) torusmem_entries(TORUSMEM_MACHINE(m, "torusmem_entries"), __VA_ARGS__)
-#define torusmem_entry_at(m, ...) torusmem_entry_at(TORUSMEM_MACHINE(m, "torusmem_entry_at"), __VA_ARGS__)
+#define torusmem_rows(m, ...) torusmem_left(torusmem_rows_into(TORUSMEM_MACHINE(m, "torusmem_rows"), __VA_ARGS__))
+#define torusmem_answers(m, ...) torusmem_left(torusmem_answers(TORUSMEM_MACHINE(m, "torusmem_answers"), __VA_ARGS__))
+#define torusmem_answer_at(m, ...) \
+  torusmem_left_answer(torusmem_answer_at(TORUSMEM_MACHINE(m, "torusmem_answer_at"), __VA_ARGS__))
+#define torusmem_answer_of(m, ...) \
+  torusmem_left_answer(torusmem_answer_of(TORUSMEM_MACHINE(m, "torusmem_answer_of"), __VA_ARGS__))
+#define torusmem_entries(m, ...) torusmem_left(torusmem_entries(TORUSMEM_MACHINE(m, "torusmem_entries"), __VA_ARGS__))
+#define torusmem_entry_at(m, ...) \
+  torusmem_left_entry(torusmem_entry_at(TORUSMEM_MACHINE(m, "torusmem_entry_at"), __VA_ARGS__))
 #undef torusmem_order
-#define torusmem_order(m, ...) torusmem_order_into(TORUSMEM_MACHINE(m, "torusmem_order"), __VA_ARGS__)
+#define torusmem_order(m, ...) torusmem_left(torusmem_order_into(TORUSMEM_MACHINE(m, "torusmem_order"), __VA_ARGS__))
 #undef torusmem_events
-#define torusmem_events(m, ...) torusmem_events_into(TORUSMEM_MACHINE(m, "torusmem_events"), __VA_ARGS__)
+#define torusmem_events(m, ...) torusmem_left(torusmem_events_into(TORUSMEM_MACHINE(m, "torusmem_events"), __VA_ARGS__))
 #undef torusmem_spins_out
-#define torusmem_spins_out(m, ...) torusmem_spins_out_into(TORUSMEM_MACHINE(m, "torusmem_spins_out"), __VA_ARGS__)
+#define torusmem_spins_out(m, ...) \
+  torusmem_left(torusmem_spins_out_into(TORUSMEM_MACHINE(m, "torusmem_spins_out"), __VA_ARGS__))
 #undef torusmem_report
-#define torusmem_report(m, ...) torusmem_report_into(TORUSMEM_MACHINE(m, "torusmem_report"), __VA_ARGS__)
+#define torusmem_report(m, ...) torusmem_left(torusmem_report_into(TORUSMEM_MACHINE(m, "torusmem_report"), __VA_ARGS__))
 #undef torusmem_route
-#define torusmem_route(m, ...) torusmem_route_into(TORUSMEM_MACHINE(m, "torusmem_route"), __VA_ARGS__)
-#define torusmem_next(m, ...) torusmem_next(TORUSMEM_MACHINE(m, "torusmem_next"), __VA_ARGS__)
-#define torusmem_watch_issue(m, ...) torusmem_watch_issue(TORUSMEM_WATCH(m, "torusmem_watch_issue"), __VA_ARGS__)
-#define torusmem_watch_answer(m, ...) torusmem_watch_answer(TORUSMEM_WATCH(m, "torusmem_watch_answer"), __VA_ARGS__)
+#define torusmem_route(m, ...) torusmem_left(torusmem_route_into(TORUSMEM_MACHINE(m, "torusmem_route"), __VA_ARGS__))
+#define torusmem_next(m, ...) torusmem_left(torusmem_next(TORUSMEM_MACHINE(m, "torusmem_next"), __VA_ARGS__))
+#define torusmem_watch_issue(m, ...) \
+  torusmem_left(torusmem_watch_issue(TORUSMEM_WATCH(m, "torusmem_watch_issue"), __VA_ARGS__))
+#define torusmem_watch_answer(m, ...) \
+  torusmem_left(torusmem_watch_answer(TORUSMEM_WATCH(m, "torusmem_watch_answer"), __VA_ARGS__))
 #endif
 
 #ifdef __cplusplus

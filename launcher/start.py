@@ -21,12 +21,13 @@ from crates import ROOT  # noqa: E402
 def told(answer: words.Answer) -> int:
     """Prints what there is to say without the program."""
     out = sys.stdout if answer.is_asked_for else sys.stderr
-    try:
-        out.buffer.write(os.fsencode(answer.text))
-        out.flush()
-    except OSError:
-        # No second attempt when Python ends.
-        os.dup2(os.open(os.devnull, os.O_WRONLY), out.fileno())
+    for stream, text in ((out, answer.text), (sys.stderr, answer.reason)):
+        try:
+            stream.buffer.write(os.fsencode(text))
+            stream.flush()
+        except OSError:
+            # No second attempt when Python ends.
+            os.dup2(os.open(os.devnull, os.O_WRONLY), stream.fileno())
     return answer.status
 
 
@@ -48,7 +49,7 @@ def main(name: str, given: list[str]) -> int:
     answer = words.unread(asked) if isinstance(asked, words.Job) else asked
     if answer is not None:
         status = told(answer)
-        if answer.is_asked_for and status:
+        if answer.is_asked_for and status == 2:
             say("the program isn't built yet: its first command proves and builds it, and says how far it is")
         return status
     status = build(name)

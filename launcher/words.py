@@ -26,11 +26,11 @@ COMMANDS: dict[str, tuple[list[str], dict[str, tuple[int, int] | None]]] = {
     "route": (["MACHINE", "SRC", "DST"], {"reply": None, "explain": None}),
     "channels": (["MACHINE"], {"explain": None}),
     "check": (["REPORT"], {"explain": None}),
-    "network": (["NETWORK"], {"run": None, "replay": WORD, "depth": (1, 8), "explain": None}),
+    "network": (["NETWORK"], {"run": None, "replay": WORD, "depth": (1, 8), "json": None, "explain": None}),
     "simulate": (["NETWORK", "TRAFFIC"], {"depth": (1, 8), "arbiter": WORD, "explain": None}),
-    "linearize": (["TRACE"], {"configurations": (1, 4294967295), "report": None, "explain": None}),
-    "watch": (["TRACE"], {"configurations": (1, 4294967295), "explain": None}),
-    "model": (["LOG"], {"model": WORD, "order": None, "texts": WORDS, "values": None, "nodes": (1, 4294967295), "explain": None}),
+    "linearize": (["TRACE"], {"configurations": (1, 4294967295), "report": None, "json": None, "explain": None}),
+    "watch": (["TRACE"], {"configurations": (1, 4294967295), "json": None, "explain": None}),
+    "model": (["LOG"], {"model": WORD, "order": None, "texts": WORDS, "values": None, "nodes": (1, 4294967295), "json": None, "explain": None}),
 }
 REQUIRED = {"draw": ["seed"]}  # the options that have to be given
 TILES = (0, 4294967295)
@@ -42,20 +42,24 @@ TRY = "\n\nFor more information, try '--help'.\n"
 
 @dataclass
 class Answer:
-    """What there is to say without the program: a text for standard output, or for standard error, and the status."""
+    """What there is to say without the program: a text for standard output, or for standard error, and the status; and
+    what standard error says behind it."""
 
     text: str
     status: int
     is_asked_for: bool = False
+    reason: str = ""
 
 
 @dataclass
 class Job:
-    """A command with its words as they are given, the places of those that name files, and whether `--explain` is one."""
+    """A command with its words as they are given, the places of those that name files, and whether `--explain` is one, and
+    `--json`."""
 
     words: list[str]
     files: list[int]
     is_explained: bool = False
+    is_json: bool = False
 
 
 class Wrong(Exception):
@@ -223,7 +227,7 @@ def command(name: str, rest: list[str]) -> Answer | Job:
     text = {"network": misuse, "model": misuse_of_model}.get(name, lambda given: "")(given)
     if text:
         return Answer(text, 2)
-    return Job([name, *rest], [1 + place for place, it in zip(found, needed) if it in FILES], "explain" in given)
+    return Job([name, *rest], [1 + place for place, it in zip(found, needed) if it in FILES], "explain" in given, "json" in given)
 
 
 def misuse(given: list[str]) -> str:
@@ -288,5 +292,20 @@ def unread(job: Job) -> Answer | None:
                 why = WHY.get(getattr(fault, "errno", None) or 0)
         if why != "":
             is_told = why and (job.is_explained or os.isatty(2))
-            return Answer(f"cannot read {name}\n" + (f"{name}: {why}\n" if is_told else ""), 1)
+            reason = f"{name}: {why}\n" if is_told else ""
+            if job.is_json:
+                return Answer(fault_object(job.words[0], f"cannot read {name}"), 1, True, reason)
+            return Answer(f"cannot read {name}\n", 1, False, reason)
     return None
+
+
+def json_string(line: str) -> str:
+    """A line as the program writes it in a JSON object."""
+    quoted = re.sub(r'["\\]', r"\\\g<0>", line)
+    return '"' + re.sub("[\0-\x1f]", lambda it: f"\\u{ord(it[0]):04x}", quoted) + '"'
+
+
+def fault_object(command: str, text: str) -> str:
+    """The JSON object of a command that answers a fault with these lines."""
+    lines = re.split("\r?\n", text[:-1] if text.endswith("\n") else text)
+    return f'{{"command": {json_string(command)}, "verdict": "fault", "lines": [{", ".join(map(json_string, lines))}]}}\n'

@@ -12,10 +12,10 @@ _torusmem() {
     draw) words="--seed --steps --explain --help" ;;
     run) words="--workers --turns --explain --help" ;;
     route) words="--reply --explain --help" ;;
-    linearize) words="--configurations --report --explain --help" ;;
-    watch) words="--configurations --explain --help" ;;
-    model) words="--model --order --texts --values --nodes --explain --help" ;;
-    network) words="--run --replay --depth --explain --help" ;;
+    linearize) words="--configurations --report --json --explain --help" ;;
+    watch) words="--configurations --json --explain --help" ;;
+    model) words="--model --order --texts --values --nodes --json --explain --help" ;;
+    network) words="--run --replay --depth --json --explain --help" ;;
     simulate) words="--depth --arbiter --explain --help" ;;
     live | channels | check) words="--explain --help" ;;
     esac

@@ -20,6 +20,7 @@ complete -c torusmem -n "__fish_seen_subcommand_from network" -r -l replay -d "r
 complete -c torusmem -n "__fish_seen_subcommand_from network simulate" -x -l depth -d "how many flits a channel holds"
 complete -c torusmem -n "__fish_seen_subcommand_from simulate" -x -l arbiter -a "rotating turn" -d "which head an output takes"
 complete -c torusmem -n "__fish_seen_subcommand_from linearize watch" -x -l configurations -d "the most configurations of a word"
+complete -c torusmem -n "__fish_seen_subcommand_from network linearize watch model" -l json -d "print a JSON object"
 complete -c torusmem -n "__fish_seen_subcommand_from linearize" -l report -d "print a report"
 complete -c torusmem -n "__fish_seen_subcommand_from model" -x -l model -a "coherent fenced pso tso sc" -d "the model of the status"
 complete -c torusmem -n "__fish_seen_subcommand_from model" -l order -d "print an order"

@@ -33,11 +33,11 @@ _torusmem() {
   draw) options=(--seed --steps) ;;
   run) options=(--workers --turns) ;;
   route) options=(--reply) ;;
-  linearize) options=(--configurations --report) ;;
-  watch) options=(--configurations) ;;
-  network) options=(--run --replay --depth) ;;
+  linearize) options=(--configurations --report --json) ;;
+  watch) options=(--configurations --json) ;;
+  network) options=(--run --replay --depth --json) ;;
   simulate) options=(--depth --arbiter) ;;
-  model) options=(--model --order --texts --values --nodes) ;;
+  model) options=(--model --order --texts --values --nodes --json) ;;
   esac
   case $words[CURRENT-1] in
   --model) compadd -- coherent fenced pso tso sc; return ;;

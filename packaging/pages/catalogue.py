@@ -1,6 +1,6 @@
 """What the site has a place for: each crate, contract, law, definition and type, with the page and the anchor of each.
 
-A module of packaging/site. It reads the sources alone, by tools/contracts.py and tools/sources.py.
+A module of packaging/site. It reads the sources alone, by tools/torusmem_tools/repository/contracts.py and tools/torusmem_tools/repository/sources.py.
 """
 from __future__ import annotations
 
@@ -11,8 +11,8 @@ from dataclasses import dataclass, field
 from typing import Dict, List, Optional, Set, Tuple
 from urllib.parse import quote
 
-from contracts import Contract, contracts_in, files_of, modules_of
-from sources import CRATES, ROOT, Module, Name, comment_of, floors, lines_of, lines_of_type, read_imports, sentence
+from torusmem_tools.repository.contracts import Contract, contracts_in, files_of, modules_of
+from torusmem_tools.repository.sources import CRATES, ROOT, Module, Name, comment_of, floors, lines_of, lines_of_type, read_imports, sentence
 
 HEAD_OF_TYPE = re.compile(r"pub (struct|enum|trait|union) (\w+)")
 RUST_USE = re.compile(r"^\s*(?:pub )?use (\w+)::(?:.*?::)?(?:\{(.*)\}|(\w+));")

@@ -15,7 +15,7 @@ from catalogue import Catalogue, Item
 from frame import framed
 from linked_code import way
 from markdown import Markdown
-from sources import ROOT
+from torusmem_tools.repository.sources import ROOT
 
 # Pages about the inside, where a plain small word in backticks may be a crate or a function; in others it is a word of a format.
 INSIDE = {"docs/PROVED.md", "docs/ARCHITECTURE.md", "docs/DECISIONS.md", "docs/DEFINITIONS.md", "docs/THEOREM.md"}

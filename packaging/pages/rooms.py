@@ -11,8 +11,8 @@ from typing import Dict, List, Set, Tuple
 from catalogue import Catalogue, Item, Room, slug
 from linked_code import Linker, library_url, way
 from frame import framed
-from floors_picture import floors_picture
-from sources import purpose
+from torusmem_tools.repository.floors_picture import floors_picture
+from torusmem_tools.repository.sources import purpose
 
 NAMES_OF_KINDS = {"impl": "impl of a trait"}
 

@@ -15,9 +15,9 @@ from documents import Document, documents, neighbours, read, rows_of_table
 from frame import framed
 from linked_code import way
 from rooms import crate_page, floor_page, heading, house_page, library_page
-from sources import purpose
+from torusmem_tools.repository.sources import purpose
 from theorem import THEOREM, theorem_page
-from where import Words, by_folder, summary
+from torusmem_tools.repository.word_places import Words, by_folder, summary
 
 KINDS = ["crate", "law", "function", "definition", "type", "word of the glossary", "where to look", "command", "files that name it", "part of a page",
          "impl of a trait", "page", "floor"]

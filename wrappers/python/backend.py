@@ -1,7 +1,8 @@
 """Makes what pip installs of this folder (PEP 517 and 660), by the standard library alone: so `pip install` needs no
-other package, and no network. What it says of the package comes from pyproject.toml. With `-C library=FILE` the wheel has
-that shared library in it, and is for Linux on x86-64. The same sources make the same bytes: the time of each file is
-SOURCE_DATE_EPOCH, or 1980."""
+other package, and no network. What it says of the package comes from pyproject.toml. Beside the package torusmem stands
+torusmem_tools, where that is found: the tools of the repository, with the command `torusmem-tools`. With `-C library=FILE`
+the wheel has that shared library in it, and is for Linux on x86-64. The same sources make the same bytes: the time of each
+file is SOURCE_DATE_EPOCH, or 1980."""
 
 from __future__ import annotations
 
@@ -17,7 +18,11 @@ import zipfile
 from typing import Any, Dict, Optional, Union
 
 HERE = os.path.dirname(os.path.realpath(__file__))
-FILES = [f"torusmem/{it}" for it in sorted(os.listdir(os.path.join(HERE, "torusmem"))) if it.endswith((".py", ".typed"))]
+# Where the tools stand: in a source package, in the repository, or in an archive.
+PLACES = [".", "../../tools", "../../libexec/torusmem"]
+TOOLS = next((it for it in PLACES if os.path.isdir(os.path.join(HERE, it, "torusmem_tools"))), None)
+# What the tools have for the repository alone.
+OF_REPOSITORY = ("torusmem_tools/repository/", "torusmem_tools/cli/reading.py")
 LICENSES = ["LICENSE-APACHE", "LICENSE-MIT"]
 # A zip has no earlier time.
 EPOCH = max(int(os.environ.get("SOURCE_DATE_EPOCH") or 0), 315532800)
@@ -26,6 +31,19 @@ EPOCH = max(int(os.environ.get("SOURCE_DATE_EPOCH") or 0), 315532800)
 def read(name: str) -> str:
     with open(os.path.join(HERE, name), encoding="utf-8") as file:
         return file.read()
+
+
+def files() -> Dict[str, str]:
+    """The paths of all files of the packages in a wheel, each with its place from this folder."""
+    found = {}
+    for package, place in [("torusmem", "."), *[("torusmem_tools", it) for it in [TOOLS] if it]]:
+        base = os.path.join(HERE, place)
+        for folder, _, names in os.walk(os.path.join(base, package)):
+            for name in names:
+                path = os.path.relpath(os.path.join(folder, name), base)
+                if name.endswith((".py", ".typed")) and not path.startswith(OF_REPOSITORY):
+                    found[path] = os.path.join(place, path)
+    return dict(sorted(found.items()))
 
 
 def license_text(name: str) -> str:
@@ -37,6 +55,8 @@ def license_text(name: str) -> str:
 PROJECT = dict(re.findall(r'(?m)^([a-z-]+) = "(.*)"$', read("pyproject.toml")))
 NAME, VERSION = PROJECT["name"], PROJECT["version"]
 INFO = f"{NAME}-{VERSION}.dist-info"
+# The commands that an installation has, each with the call that it makes.
+SCRIPTS = re.findall(r"(?ms)^\[project\.scripts\]\n(.*?)(?:^\[|\Z)", read("pyproject.toml"))[0].replace('"', "")
 METADATA = f"""Metadata-Version: 2.1
 Name: {NAME}
 Version: {VERSION}
@@ -60,6 +80,8 @@ def wheel(folder: str, texts: Dict[str, Union[str, bytes]], platform: str = "any
     said = f"Wheel-Version: 1.0\nGenerator: torusmem\nRoot-Is-Purelib: {is_pure}\nTag: {tag}\n"
     licenses = {f"{INFO}/{it}": license_text(it) for it in LICENSES}
     texts = {**texts, **licenses, f"{INFO}/METADATA": METADATA, f"{INFO}/WHEEL": said}
+    if TOOLS:
+        texts[f"{INFO}/entry_points.txt"] = f"[console_scripts]\n{SCRIPTS}"
     made = {path: it.encode() if isinstance(it, str) else it for path, it in texts.items()}
     record = ""
     for path, text in made.items():
@@ -77,23 +99,25 @@ def wheel(folder: str, texts: Dict[str, Union[str, bytes]], platform: str = "any
 
 
 def build_wheel(folder: str, config_settings: Any = None, metadata_directory: Optional[str] = None) -> str:
-    files: Dict[str, Union[str, bytes]] = {path: read(path) for path in FILES}
+    texts: Dict[str, Union[str, bytes]] = {path: read(place) for path, place in files().items()}
     library = (config_settings or {}).get("library")
     if library is None:
-        return wheel(folder, files)
+        return wheel(folder, texts)
     soname = re.findall(r'(?m)^SONAME = "(.*)"$', read("torusmem/_library.py"))[0]
     with open(library, "rb") as file:
-        files[f"torusmem/{soname}"] = file.read()
-    return wheel(folder, files, "linux_x86_64")
+        texts[f"torusmem/{soname}"] = file.read()
+    return wheel(folder, texts, "linux_x86_64")
 
 
 def build_editable(folder: str, config_settings: Any = None, metadata_directory: Optional[str] = None) -> str:
-    return wheel(folder, {f"{NAME}.pth": HERE + "\n"})
+    places = [os.path.realpath(os.path.join(HERE, it)) for it in (".", TOOLS or ".")]
+    return wheel(folder, {f"{NAME}.pth": "".join(f"{it}\n" for it in dict.fromkeys(places))})
 
 
 def build_sdist(folder: str, config_settings: Any = None) -> str:
     base = f"{NAME}-{VERSION}"
-    texts = {it: read(it) for it in [*FILES, "pyproject.toml", "backend.py", "README.md"]}
+    texts = {path: read(place) for path, place in files().items()}
+    texts.update({it: read(it) for it in ["pyproject.toml", "backend.py", "README.md"]})
     texts.update({it: license_text(it) for it in LICENSES}, **{"PKG-INFO": METADATA})
     with open(os.path.join(folder, f"{base}.tar.gz"), "wb") as out, gzip.GzipFile("", "wb", 9, out, EPOCH) as packed:
         with tarfile.open(fileobj=packed, mode="w", format=tarfile.GNU_FORMAT) as file:

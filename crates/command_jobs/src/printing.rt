@@ -5,6 +5,8 @@ use crate::naming::names;
 use crate::run_end::RunEnd;
 use command_line::Job;
 use program_fault::{ProgramFault, fault_text, status_of, tell_end};
+use report_lines::Piped;
+use report_lines::output::put_all;
 use std::io::{self, BufWriter, Printer, Write};
 use torus::Fault;
 
@@ -26,6 +28,15 @@ pub fn flushed<W: Write>(writer: &mut W) -> Result<(), ProgramFault> {
         return Err(ProgramFault::Output);
     }
     Ok(())
+}
+
+/// Prints bytes on standard output, to the last one.
+///
+/// Errors: the output failed, or out of memory.
+pub fn all_printed<R: Print + AllocGlobal>(rt: &R, bytes: &[u8]) -> Result<(), ProgramFault> {
+    let mut writer = writer(rt)?;
+    put_all(&mut Piped::new(&mut writer), bytes)?;
+    flushed(&mut writer)
 }
 
 /// Says how the run of a job ended, behind its report, where that was found.

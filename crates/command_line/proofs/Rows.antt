@@ -2,6 +2,7 @@
 use Rattle.std.specs.Prelude.{◌≡◌, ◌<◌, ◌≤◌, ℕ, Bool, true, false, IfSome, Option, Some, None, Result, is_some, option_map}
 use Rattle.std.specs.Prelude.{List, [], ◌∷◌, length, map}
 use Rattle.std.specs.List.{slice_index_or}
+use Rattle.std.specs.Option.{unwrap_or}
 use Rattle.std.specs.Prelude.{option_and_then, slice_get}
 use Rattle.std.specs.Str.Parse.{ParsesBool, ParsesUnsigned, digits_value, without_leading_plus}
 use Rattle.std.proofs.Common.{refl, ap, sym, ◌∙◌, arith}
@@ -9,7 +10,7 @@ use Rattle.clap.specs.Words.{ReadsOne, Text, all_of, first_of, first_value, matc
 use Rattle.clap.specs.declared.parser.matches.Found.{Found}
 use Rattle.clap.specs.declared.parser.matches.MatchedArg.{MatchedArg}
 use Rattle.clap.proofs.WalkLemmas.{first_value-rows, one_text-rows, raw_values-rows}
-use Rattle.command_line.specs.Job.{flag_text, number_in}
+use Rattle.command_line.specs.Job.{IsGiven, flag_text, number_in}
 
 -- the first value of an argument
 pub first_value_rows : (f : Found) (id : Text) → first_value f id ≡ first_of id (rows_of f)
@@ -60,6 +61,29 @@ pub flag_is_read : (E : Type 0) (f : Found) (id : Text) (result : Option Bool)
 flag_is_read E f id None none value = tt
 flag_is_read E f id (Some b) none value =
     sym (one_text-rows f id) ∙ flag_of_text E (one_text f id) b none value
+
+-- a flag is given where it was read as such, and only there
+pub given_is_read : (E : Type 0) (f : Found) (id : Text) → ((t : Text) → one_text f id ≡ Some t → ReadsOne (ParsesBool {E = E}) t (Some true))
+    → (one_text f id ≡ None → Some true ≡ None) → IsGiven id true (rows_of f)
+given_is_read E f id value none = sym (one_text-rows f id) ∙ flag_of_text E (one_text f id) true none value
+
+-- what was read as another flag
+is_other : (E : Type 0) (t : Text) (read : Option Bool) → (read ≡ Some true → ⊥) → ReadsOne (ParsesBool {E = E}) t read → t ≡ flag_text true → ⊥
+is_other E t None not_given value e = value.1.0 e
+is_other E t (Some true) not_given value e = not_given refl
+is_other E t (Some false) not_given value e = let other : flag_text true ≡ flag_text false = sym e ∙ value in cc
+
+-- a flag that wasn't read so isn't given
+pub given_is_not_read : (E : Type 0) (f : Found) (id : Text) (read : Option Bool) → (read ≡ Some true → ⊥)
+    → ((t : Text) → one_text f id ≡ Some t → ReadsOne (ParsesBool {E = E}) t read) → IsGiven id false (rows_of f)
+given_is_not_read E f id read not_given value = λ given.
+    is_other E (flag_text true) read not_given (value (flag_text true) (one_text-rows f id ∙ given)) refl
+
+pub given_if_read : (E : Type 0) (f : Found) (id : Text) (read : Option Bool) → (one_text f id ≡ None → read ≡ None)
+    → ((t : Text) → one_text f id ≡ Some t → ReadsOne (ParsesBool {E = E}) t read) → IsGiven id (unwrap_or read false) (rows_of f)
+given_if_read E f id None none value = given_is_not_read E f id None (λ e. cc) value
+given_if_read E f id (Some true) none value = given_is_read E f id value none
+given_if_read E f id (Some false) none value = given_is_not_read E f id (Some false) (λ e. cc) value
 
 -- the images of two items
 pub two_images : {X Y : Type 0} (f : X → Y) (xs : List X) (d : X) → 2 ≤ length xs → length xs < 3

@@ -96,6 +96,10 @@ texts_option = record (new_rule (codes "texts")) {
 abbrev pub explain : Rule
 explain = flag_option (codes "explain")
 
+-- the option of each subcommand that judges: to print the answer as a JSON object
+abbrev pub json : Rule
+json = flag_option (codes "json")
+
 -- a subcommand of this name that takes a file of the machine, and one of the scripts
 abbrev pub loading_app : Text → App
 loading_app name = with_rule (with_rule (new_app name)
@@ -146,11 +150,11 @@ channels_app = with_rule (with_rule (new_app (codes "channels")) (needed (codes 
 abbrev pub check_app : App
 check_app = with_rule (with_rule (new_app (codes "check")) (needed (codes "REPORT"))) explain
 
--- `network NETWORK [--run] [--replay RUN] [--depth D] [--explain]`
+-- `network NETWORK [--run] [--replay RUN] [--depth D] [--json] [--explain]`
 abbrev pub network_app : App
-network_app = with_rule (with_rule (with_rule (with_rule (with_rule (new_app (codes "network"))
-    (needed (codes "NETWORK"))) (flag_option (codes "run")))
-    (word_without_usual (codes "replay"))) depth_of_run) explain
+network_app = with_rule (with_rule (with_rule (with_rule (with_rule (with_rule
+    (new_app (codes "network")) (needed (codes "NETWORK"))) (flag_option (codes "run")))
+    (word_without_usual (codes "replay"))) depth_of_run) json) explain
 
 -- `simulate NETWORK TRAFFIC [--depth D] [--arbiter NAME] [--explain]`
 abbrev pub simulate_app : App
@@ -158,27 +162,29 @@ simulate_app = with_rule (with_rule (with_rule (with_rule (with_rule
     (new_app (codes "simulate")) (needed (codes "NETWORK"))) (needed (codes "TRAFFIC")))
     depth_option) (word_option (codes "arbiter") (codes "rotating"))) explain
 
--- `linearize TRACE [--configurations N] [--report] [--explain]`
+-- `linearize TRACE [--configurations N] [--report] [--json] [--explain]`
 abbrev pub linearize_app : App
-linearize_app = with_rule (with_rule (with_rule (with_rule (new_app (codes "linearize"))
-    (needed (codes "TRACE"))) configurations) (flag_option (codes "report"))) explain
+linearize_app = with_rule (with_rule (with_rule (with_rule (with_rule
+    (new_app (codes "linearize")) (needed (codes "TRACE"))) configurations)
+    (flag_option (codes "report"))) json) explain
 
--- `watch TRACE [--configurations N] [--explain]`
+-- `watch TRACE [--configurations N] [--json] [--explain]`
 abbrev pub watch_app : App
-watch_app = with_rule (with_rule (with_rule (new_app (codes "watch")) (needed (codes "TRACE")))
-    configurations) explain
+watch_app = with_rule (with_rule (with_rule (with_rule (new_app (codes "watch"))
+    (needed (codes "TRACE"))) configurations) json) explain
 
 -- the option for the most nodes that are looked at for a model, a number of 32 bits from 1 on; it has
 -- no default
 abbrev pub nodes_option : Rule
 nodes_option = count_if_given (codes "nodes") (up_to (pos 4294967295))
 
--- `model LOG [--model NAME] [--order] [--texts MACHINE SCRIPT] [--values] [--nodes N] [--explain]`
+-- `model LOG [--model NAME] [--order] [--texts MACHINE SCRIPT] [--values] [--nodes N] [--json]
+-- [--explain]`
 abbrev pub model_app : App
-model_app = with_rule (with_rule (with_rule (with_rule (with_rule (with_rule (with_rule
+model_app = with_rule (with_rule (with_rule (with_rule (with_rule (with_rule (with_rule (with_rule
     (new_app (codes "model")) (needed (codes "LOG"))) (word_option (codes "model") (codes "sc")))
     (flag_option (codes "order"))) texts_option) (flag_option (codes "values")))
-    nodes_option) explain
+    nodes_option) json) explain
 
 -- the program, whose subcommand has to stand there
 abbrev pub top_app : App

@@ -69,6 +69,11 @@ nodes_in rows = unwrap_or (number_in (codes "nodes") rows) 10000
 abbrev pub IsFlag : Text → Bool → List Row → Type 0
 IsFlag id given rows = one_of id rows ≡ Some (flag_text given)
 
+-- whether the flag of this name is given, and not where the subcommand has none
+abbrev pub IsGiven : Text → Bool → List Row → Type 0
+IsGiven id true rows = one_of id rows ≡ Some (flag_text true)
+IsGiven id false rows = one_of id rows ≡ Some (flag_text true) → ⊥
+
 -- the values are those of the job: words as they are given, and the numbers that are written
 abbrev pub AreOfJob : Job → List Row → Type 0
 AreOfJob (Steps machine script steps) rows = (first_of (codes "MACHINE") rows ≡ Some machine.now)

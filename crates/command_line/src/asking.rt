@@ -2,7 +2,7 @@
 
 ghost use Rattle.std.specs.Prelude.{◌≡◌, ◌↔◌, IfSome, Some, map, codes, true};
 ghost use Rattle.command_line.specs.CommandLine.{AsksVersion, name_by, rows_by};
-ghost use Rattle.command_line.specs.Job.{AreOfJob, IsFlag, AreJobLimits, name_of};
+ghost use Rattle.command_line.specs.Job.{AreOfJob, IsFlag, IsGiven, AreJobLimits, name_of};
 
 use crate::command::{Request, read_request};
 use crate::refused::{NoRequest, misuse_text};
@@ -49,6 +49,8 @@ pub fn request_told<'a, R: Print + Eprint + AllocGlobal, S: AsStr>(
         (λ r. IfSome (rows_by (map S.text words.entry.now)) (AreOfJob r.job)) }
     ensures explain { IfSome result
         (λ r. IfSome (rows_by (map S.text words.entry.now)) (IsFlag (codes "explain") r.explain)) }
+    ensures json { IfSome result
+        (λ r. IfSome (rows_by (map S.text words.entry.now)) (IsGiven (codes "json") r.json)) }
     ensures limits { IfSome result (λ r. AreJobLimits r.job) }
 {
     match read_request(rt.alloc(), words) {

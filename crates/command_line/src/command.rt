@@ -2,7 +2,8 @@ ghost use Rattle.std.specs.Prelude.{◌≡◌, IfErr, IfOk, IfSome, Some, map, c
 ghost use Rattle.clap.specs.Words.{HasMatchesOf, found_of, rows_of};
 ghost use Rattle.clap.specs.Words.{subcommand_name_of, subcommand_rows_of};
 ghost use Rattle.command_line.specs.CommandLine.{name_by, rows_by, torusmem_app};
-ghost use Rattle.command_line.specs.Job.{AreOfJob, IsFlag, NamesJob, AreJobLimits, name_of, rows_in};
+ghost use Rattle.command_line.specs.Job.{AreOfJob, IsFlag, IsGiven, NamesJob, AreJobLimits, name_of};
+ghost use Rattle.command_line.specs.Job.{rows_in};
 ghost use Rattle.command_line.specs.Refused.{TellsNoRequest};
 
 use crate::building::command;
@@ -11,7 +12,7 @@ use crate::jobs::{
     route_job, run_job, schedule_job, simulate_job, steps_job, watch_job,
 };
 use crate::refused::{NoRequest, no_request};
-use crate::values::flag_of;
+use crate::values::{flag_of, is_given};
 use clap::{ArgMatches, Error};
 use std::alloc::Global;
 use std::convert::AsStr;
@@ -147,11 +148,41 @@ pub enum Job<'a> {
     },
 }
 
-/// What the command line asks for, and whether more is to be said of what is wrong.
+/// What the command line asks for, whether more is to be said of what is wrong, and whether the answer is to
+/// be a JSON object.
 #[derive(Clone, Copy)]
 pub struct Request<'a> {
     pub job: Job<'a>,
     pub explain: bool,
+    pub json: bool,
+}
+
+/// The word of the subcommand of a job.
+pub fn name_of(job: &Job) -> &'static str
+    ensures { result.now ≡ name_of job.now }
+{
+    match *job {
+        Job::Steps { .. } => "steps",
+        Job::Round { .. } => "round",
+        Job::Run { .. } => "run",
+        Job::Live { .. } => "live",
+        Job::Route { .. } => "route",
+        Job::Channels { .. } => "channels",
+        Job::Check { .. } => "check",
+        Job::Network { .. } => "network",
+        Job::LockUp { .. } => "network",
+        Job::Replay { .. } => "network",
+        Job::Simulate { .. } => "simulate",
+        Job::Linearize { .. } => "linearize",
+        Job::Report { .. } => "linearize",
+        Job::Watch { .. } => "watch",
+        Job::Model { .. } => "model",
+        Job::RunModel { .. } => "model",
+        Job::ValueModel { .. } => "model",
+        Job::Schedule { .. } => "schedule",
+        Job::Draw { .. } => "draw",
+        Job::Moves { .. } => "steps",
+    }
 }
 
 /// Reads the words of a command line, the program's own name among them.
@@ -168,7 +199,7 @@ pub fn read_command<'a, S: AsStr>(alloc: Global, words: &'a [S]) -> Result<Job<'
     Ok(read_request(alloc, words)?.job)
 }
 
-/// Does what `read_command` does, and tells also whether the words have `--explain`.
+/// Does what `read_command` does, and tells also whether the words have `--explain`, and `--json`.
 ///
 /// Errors: as `read_command`.
 pub fn read_request<'a, S: AsStr>(alloc: Global, words: &'a [S]) -> Result<Request<'a>, NoRequest>
@@ -178,6 +209,8 @@ pub fn read_request<'a, S: AsStr>(alloc: Global, words: &'a [S]) -> Result<Reque
         (λ r. IfSome (rows_by (map S.text words.entry.now)) (AreOfJob r.job)) }
     ensures explain { IfOk result
         (λ r. IfSome (rows_by (map S.text words.entry.now)) (IsFlag (codes "explain") r.explain)) }
+    ensures json { IfOk result
+        (λ r. IfSome (rows_by (map S.text words.entry.now)) (IsGiven (codes "json") r.json)) }
     ensures limits { IfOk result (λ r. AreJobLimits r.job) }
     ensures refused { IfErr result (TellsNoRequest (name_by (map S.text words.entry.now))
         (rows_by (map S.text words.entry.now))) }
@@ -202,7 +235,7 @@ fn parsed<'a, S: AsStr>(alloc: Global, words: &'a [S]) -> Result<ArgMatches<'a>,
     Ok(matches)
 }
 
-/// The job that the matches name, and whether they have `--explain`.
+/// The job that the matches name, and whether they have `--explain`, and `--json`.
 fn request_of<'a>(matches: &ArgMatches<'a>) -> Option<Request<'a>>
     ensures named { IfSome result (λ r. subcommand_name_of matches.now ≡ Some (name_of r.job)) }
     ensures given { IfSome result
@@ -210,12 +243,15 @@ fn request_of<'a>(matches: &ArgMatches<'a>) -> Option<Request<'a>>
     ensures explain { IfSome result
         (λ r. IfSome (rows_in (subcommand_rows_of matches.now))
         (IsFlag (codes "explain") r.explain)) }
+    ensures json { IfSome result
+        (λ r. IfSome (rows_in (subcommand_rows_of matches.now)) (IsGiven (codes "json") r.json)) }
     ensures limits { IfSome result (λ r. AreJobLimits r.job) }
 {
     let (name, given) = matches.subcommand()?;
     let job = job_by(name, given)?;
     let explain = flag_of(given, "explain")?;
-    Some(Request { job, explain })
+    let json = is_given(given, "json");
+    Some(Request { job, explain, json })
 }
 
 /// The job of the subcommand of this name, from what was given for its arguments.

@@ -2,7 +2,7 @@
 ghost use Rattle.std.specs.Prelude.{◌≡◌, false};
 ghost use Rattle.clap.specs.Words.{App, app_of, new_app, with_rule};
 ghost use Rattle.clap.specs.declared.builder.command.Command.TheViews.{out-Command as fields_of};
-ghost use Rattle.command_line.specs.CommandLine.{explain, loading_app, top_app};
+ghost use Rattle.command_line.specs.CommandLine.{explain, json, loading_app, top_app};
 ghost use Rattle.command_line.specs.Making.{GainsArgument, GainsSubcommand, IsCommand};
 
 use crate::arguments::{file, flag};
@@ -71,6 +71,16 @@ pub(crate) fn with_explain<'a>(alloc: Global, command: Making<'a>) -> Making<'a>
 {
     let help = "Explains what is wrong, or how a run ended, on further lines";
     with_argument(command, flag(alloc, "explain", help))
+}
+
+/// The command with two more options: to print the answer as a JSON object, and to say more of what is wrong.
+pub(crate) fn with_json<'a>(alloc: Global, command: Making<'a>) -> Making<'a>
+    ensures { (app : App) → IsCommand app command.entry
+        → IsCommand (with_rule (with_rule app json) explain) result }
+{
+    let help = "Prints the answer as one JSON object on one line";
+    let command = with_argument(command, flag(alloc, "json", help));
+    with_explain(alloc, command)
 }
 
 /// A command of this name that takes a file of the machine, and one of the scripts.

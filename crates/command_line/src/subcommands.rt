@@ -10,7 +10,7 @@ ghost use Rattle.command_line.specs.Making.{IsCommand};
 use crate::arguments::{
     count, count_if_given, file, flag, seed, texts, tile, word_if_given, word_option,
 };
-use crate::making::{Making, loading, named, with_argument, with_explain};
+use crate::making::{Making, loading, named, with_argument, with_explain, with_json};
 use clap::builder::ValueParser;
 use std::alloc::Global;
 
@@ -107,7 +107,7 @@ pub(crate) fn network<'a>(alloc: Global) -> Making<'a>
     let help = "How many flits a channel holds in a run, 1 to 8; 1 by default";
     let numbers = ValueParser::Signed(1, 8);
     let command = with_argument(command, count_if_given(alloc, "depth", numbers, help));
-    with_explain(alloc, command)
+    with_json(alloc, command)
 }
 
 pub(crate) fn simulate<'a>(alloc: Global) -> Making<'a>
@@ -139,7 +139,7 @@ pub(crate) fn linearize<'a>(alloc: Global) -> Making<'a>
     );
     let help = "Prints the order as a report";
     let command = with_argument(command, flag(alloc, "report", help));
-    with_explain(alloc, command)
+    with_json(alloc, command)
 }
 
 pub(crate) fn watch<'a>(alloc: Global) -> Making<'a>
@@ -155,7 +155,7 @@ pub(crate) fn watch<'a>(alloc: Global) -> Making<'a>
         command,
         count(alloc, "configurations", numbers, "1000000", help),
     );
-    with_explain(alloc, command)
+    with_json(alloc, command)
 }
 
 pub(crate) fn model<'a>(alloc: Global) -> Making<'a>
@@ -178,5 +178,5 @@ pub(crate) fn model<'a>(alloc: Global) -> Making<'a>
     let help = "At most this many nodes a model with --values, 1 to 4294967295; 10000 by default";
     let numbers = ValueParser::Signed(1, 4294967295);
     let command = with_argument(command, count_if_given(alloc, "nodes", numbers, help));
-    with_explain(alloc, command)
+    with_json(alloc, command)
 }

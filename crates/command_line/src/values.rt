@@ -1,7 +1,7 @@
 //! What was given for the arguments of a subcommand.
 ghost use Rattle.std.specs.Prelude.{◌≡◌, ◌≤◌, ◌∷◌, [], IfSome, Some, codes, option_map};
 ghost use Rattle.clap.specs.Words.{all_of, found_of, first_of, one_of, rows_of};
-ghost use Rattle.command_line.specs.Job.{IsFlag, class_word, number_in};
+ghost use Rattle.command_line.specs.Job.{IsFlag, IsGiven, class_word, number_in};
 
 use clap::ArgMatches;
 use torus::Class;
@@ -81,6 +81,13 @@ pub(crate) fn flag_of(given: &ArgMatches<'_>, id: &str) -> Option<bool>
     ensures { IfSome result (λ is. IsFlag id.now is (rows_of (found_of given.now))) }
 {
     given.get_one::<bool>(id)
+}
+
+/// Whether the flag of this name is given, and not where the subcommand has none.
+pub(crate) fn is_given(given: &ArgMatches<'_>, id: &str) -> bool
+    ensures { IsGiven id.now result (rows_of (found_of given.now)) }
+{
+    given.get_one::<bool>(id).unwrap_or(false)
 }
 
 /// The class of the packets of a route: that of replies where the words say so.

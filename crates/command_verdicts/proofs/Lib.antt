@@ -4,3 +4,4 @@ mod Refusals
 pub mod NoAnswers
 pub mod RunModels
 mod Tables
+mod Strings

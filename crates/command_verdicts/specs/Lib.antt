@@ -9,3 +9,4 @@ pub mod Told
 pub mod Valued
 pub mod Watched
 pub mod Hints
+pub mod Json

@@ -15,6 +15,9 @@ use Rattle.command_verdicts.specs.declared.command.Judged.TheVariants.{Lineariza
 use Rattle.command_verdicts.specs.declared.command.Judged.TheVariants.{NotLinearizable, TooMany}
 use Rattle.command_verdicts.specs.declared.command.Judged.TheVariants.{TooOpen}
 use Rattle.command_verdicts.specs.declared.command.Judged.TheVariants.{NoReport}
+use Rattle.command_verdicts.specs.declared.json.Verdict.{Verdict}
+use Rattle.command_verdicts.specs.declared.json.Verdict.TheVariants as verdict
+use Rattle.command_verdicts.specs.Json.{verdict_of_status}
 use Rattle.trace_answer.specs.declared.unfit.Unfit.{Unfit}
 use Rattle.trace_answer.specs.declared.unfit.Unfit.TheVariants.{Memory, Words, Processors, Indexes}
 use Rattle.trace_answer.specs.declared.unfit.Unfit.TheVariants.{Operations, Events}
@@ -63,8 +66,8 @@ abbrev pub told_status : Bool → Bool → ℕ
 told_status true obeyed = if obeyed then 0 else 1
 told_status false obeyed = 5
 
--- the status that the program ends with where a log or a report was judged: a report doesn't say where
--- fences stand
+-- the status that the program ends with where a log or a report was judged: a report doesn't say
+-- where fences stand
 abbrev pub modelled_status : Modelled → MemoryModel → ℕ
 modelled_status (ObeysModels obeys) model = if is_obeyed obeys model then 0 else 1
 modelled_status (WithoutFences obeys) model =
@@ -72,3 +75,23 @@ modelled_status (WithoutFences obeys) model =
 modelled_status (Wrong wrong) model = 1
 modelled_status (OtherShape line) model = 1
 modelled_status (OtherOperation line p passed) model = 1
+
+-- what a trace is judged to be in one word: a fault, where it has an order and the report of that
+-- passes a limit
+abbrev pub judged_verdict : Judged → Verdict
+judged_verdict Linearizable = verdict.Yes
+judged_verdict (NotLinearizable line) = verdict.No
+judged_verdict (TooMany line) = verdict.Undecided
+judged_verdict (TooOpen line) = verdict.Undecided
+judged_verdict (NoReport why) = verdict.Fault
+
+-- what a log or a report is judged to be by a model in one word: a fault, where a report isn't of
+-- its texts
+abbrev pub modelled_verdict : Modelled → MemoryModel → Verdict
+modelled_verdict (ObeysModels obeys) model =
+    verdict_of_status (modelled_status (ObeysModels obeys) model)
+modelled_verdict (WithoutFences obeys) model =
+    verdict_of_status (modelled_status (WithoutFences obeys) model)
+modelled_verdict (Wrong wrong) model = verdict.No
+modelled_verdict (OtherShape line) model = verdict.Fault
+modelled_verdict (OtherOperation line p passed) model = verdict.Fault

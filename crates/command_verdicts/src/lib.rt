@@ -5,6 +5,7 @@ pub mod command;
 pub mod explaining;
 mod explaining_table;
 pub mod hints;
+pub mod json;
 pub mod model;
 pub mod network;
 pub mod report;
@@ -20,13 +21,14 @@ pub use explaining::{
     explain_lock_up, explain_models, explain_network, explain_no_order, explain_other_run,
     explain_replay, explain_run_models, explain_simulation, explain_trace, explain_values,
 };
+pub use json::{Verdict, json_object, verdict_of_status};
 pub use model::{Modelled, is_report, judged_models_text, model_text, report_models_text};
 pub use network::network_text;
 pub use report::report_text;
 pub use run_model::{run_models_text, texts_models_text};
 pub use runs::{lock_up_text, replay_network_text, simulate_text};
 pub use table::{judged_order_text, judged_report_text, linearize_table, report_table};
-pub use told::{model_status, status, verdict_text};
+pub use told::{judged_verdict, model_status, model_verdict, status, verdict_text};
 pub use trace_answer::LineText;
 pub use values::{Decided, decided_status, values_text};
 pub use watched::watched_verdict;

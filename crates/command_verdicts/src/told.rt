@@ -1,11 +1,12 @@
-//! What is said of a trace or log that is judged: a line of text, and the status that the program ends
-//! with.
+//! What is said of a trace or log that is judged: a line of text, and the status that the program
+//! ends with.
 
 ghost use Rattle.std.specs.Prelude.{◌≡◌, option_map};
 ghost use Rattle.command_verdicts.specs.Told.{judged_status, unfit_text, verdict_text_of};
 ghost use Rattle.command_verdicts.specs.Told.{is_obeyed, modelled_status, told_status};
+ghost use Rattle.command_verdicts.specs.Told.{judged_verdict, modelled_verdict};
 
-use crate::{Judged, Modelled};
+use crate::{Judged, Modelled, Verdict, verdict_of_status};
 use model_answer::{MemoryModel, Obeys, is_told};
 use program_fault::{ProgramFault, status_of};
 use trace_answer::{LineText, Unfit, not_linearizable, undecided};
@@ -29,9 +30,9 @@ fn unfit_text(why: Unfit) -> Option<LineText>
     Some(text)
 }
 
-/// What is said where nothing was printed, with at most so many configurations of a word at once: the
-/// line from which on there is no order, or at which the trace isn't decided and why; or why the order
-/// has no report. It has no line feed. `None` where an order or its report was printed.
+/// What is said where nothing was printed, with at most so many configurations of a word at once:
+/// the line from which on there is no order, or at which the trace isn't decided and why; or why
+/// the order has no report. It has no line feed. `None` where an order or its report was printed.
 pub fn verdict_text(judged: Judged, configurations: u64) -> Option<LineText>
     ensures { option_map (λ t. t.bytes) result ≡ verdict_text_of judged configurations }
 {
@@ -44,8 +45,9 @@ pub fn verdict_text(judged: Judged, configurations: u64) -> Option<LineText>
     }
 }
 
-/// The status that the program ends with: 0 where an order was printed, 1 where there is none or the
-/// text has a fault or memory was refused, 4 where the output failed, 5 where the trace isn't decided.
+/// The status that the program ends with: 0 where an order was printed, 1 where there is none or
+/// the text has a fault or memory was refused, 4 where the output failed, 5 where the trace isn't
+/// decided.
 pub fn status(answer: &Result<Judged, ProgramFault>) -> u8
     ensures { result ≡ judged_status answer.now }
 {
@@ -79,8 +81,9 @@ fn told_status(told: bool, obeyed: bool) -> u8
     if told { u8::from(!obeyed) } else { 5 }
 }
 
-/// The status that the program ends with where a log or a report was judged: 0 where it obeys the model,
-/// 1 where it doesn't or a reply is wrong, 5 where it is a report whose fences may forbid what it shows.
+/// The status that the program ends with where a log or a report was judged: 0 where it obeys the
+/// model, 1 where it doesn't or a reply is wrong, 5 where it is a report whose fences may forbid
+/// what it shows.
 pub fn model_status(modelled: Modelled, model: MemoryModel) -> u8
     ensures { result ≡ modelled_status modelled model }
 {
@@ -92,5 +95,31 @@ pub fn model_status(modelled: Modelled, model: MemoryModel) -> u8
         Modelled::Wrong(_) => 1,
         Modelled::OtherShape { .. } => 1,
         Modelled::OtherOperation { .. } => 1,
+    }
+}
+
+/// What a trace is judged to be in one word. Where it has an order and the report of that passes a
+/// limit, that is a fault.
+pub fn judged_verdict(judged: Judged) -> Verdict
+    ensures { result ≡ judged_verdict judged }
+{
+    match judged {
+        Judged::Linearizable => Verdict::Yes,
+        Judged::NotLinearizable { .. } => Verdict::No,
+        Judged::TooMany { .. } => Verdict::Undecided,
+        Judged::TooOpen { .. } => Verdict::Undecided,
+        Judged::NoReport { .. } => Verdict::Fault,
+    }
+}
+
+/// What a log or a report is judged to be by a model in one word. Where a report isn't of its
+/// texts, that is a fault.
+pub fn model_verdict(modelled: Modelled, model: MemoryModel) -> Verdict
+    ensures { result ≡ modelled_verdict modelled model }
+{
+    match modelled {
+        Modelled::OtherShape { .. } => Verdict::Fault,
+        Modelled::OtherOperation { .. } => Verdict::Fault,
+        _ => verdict_of_status(model_status(modelled, model)),
     }
 }

@@ -4,6 +4,7 @@
 ghost use Rattle.command_line.specs.Job.{AreJobLimits};
 
 mod answering;
+mod as_json;
 mod judging;
 mod running;
 mod talking;
@@ -11,10 +12,11 @@ mod telling;
 mod watching;
 
 use answering::{Outcome, answer};
+use as_json::judged_as_json;
 use command_jobs::{
     RunEnd, done, fault_told, flushed, tell_end_of, texts_of, version_told, writer,
 };
-use command_line::{Job, Request, asks_version, request_told, words_told};
+use command_line::{Job, Request, asks_version, name_of, request_told, words_told};
 use judging::Judging;
 use model_answer::MemoryModel;
 use network_rounds::Arbiter;
@@ -102,12 +104,16 @@ fn other_done<R: Files + Input + Print + Eprint + Clock + AllocGlobal + Threads 
     requires { AreJobLimits request.now.job }
 {
     let is_explained = request.explain || is_seen;
+    let json = json_of(request);
     if let Job::Watch {
         trace,
         configurations,
     } = request.job
     {
-        return watched(rt, trace, configurations, is_explained);
+        return watched(rt, json, trace, configurations, is_explained);
+    }
+    if let Some(command) = json {
+        return judged_as_json(rt, command, request, is_seen);
     }
     let texts = match texts_of(rt, request, is_seen) {
         Ok(texts) => texts,
@@ -128,6 +134,15 @@ fn other_done<R: Files + Input + Print + Eprint + Clock + AllocGlobal + Threads 
             }
             status
         }
+    }
+}
+
+/// The word of the command, where its answer is to be a JSON object.
+fn json_of(request: &Request) -> Option<&'static str> {
+    if request.json {
+        Some(name_of(&request.job))
+    } else {
+        None
     }
 }
 

@@ -13,65 +13,83 @@ use command_verdicts::{
 use model_answer::WrongSentence;
 use model_replies::{AlikeSentence, UnwrittenSentence};
 use program_fault::{ProgramFault, Texts, explain, status_of};
+use std::fmt;
 
-/// The exit status of an answer. Where a trace has no order, or a log a wrong reply, standard error
-/// says so.
-pub(crate) fn status_told<R: Eprint>(rt: &R, outcome: &Outcome) -> u8 {
-    match *outcome {
-        Outcome::Talked => 0,
-        Outcome::Ran(ended) => status_of(&Ok(ended.finished)),
-        Outcome::Sound(sound) => u8::from(!sound),
-        Outcome::Judged(judged, configurations) => {
-            if let Some(text) = verdict_text(judged, u64::from(configurations)) {
-                let _ = eprintln!(rt; "{text}");
+/// What standard error says of an answer: that a trace has no order or that it isn't decided, that
+/// a log has a wrong reply or that a report isn't of its texts. A line with its end, or nothing.
+#[derive(Clone, Copy)]
+pub(crate) struct OutcomeLine {
+    pub outcome: Outcome,
+}
+
+impl fmt::Display for OutcomeLine {
+    fn fmt<W: fmt::Write>(&self, f: &mut fmt::Formatter<W>) -> fmt::Result {
+        match self.outcome {
+            Outcome::Judged(judged, configurations) => {
+                match verdict_text(judged, u64::from(configurations)) {
+                    Some(text) => writeln!(f, "{text}"),
+                    None => Ok(()),
+                }
             }
-            status(&Ok(judged))
-        }
-        Outcome::Modelled(modelled, model) => {
-            tell_unmodelled(rt, modelled);
-            model_status(modelled, model)
-        }
-        Outcome::Decided(decided, model) => {
-            tell_unasked(rt, decided);
-            decided_status(decided, model)
+            Outcome::Modelled(modelled, _) => put_unmodelled(f, modelled),
+            Outcome::Decided(decided, _) => put_unasked(f, decided),
+            _ => Ok(()),
         }
     }
 }
 
-/// Says why no model is asked of a log by its replies alone, where that is so.
-fn tell_unasked<R: Eprint>(rt: &R, decided: Decided) {
+/// Puts why no model is asked of a log by its replies alone, where that is so.
+fn put_unasked<W: fmt::Write>(f: &mut fmt::Formatter<W>, decided: Decided) -> fmt::Result {
     match decided {
         Decided::Alike(first, second) => {
             let sentence = AlikeSentence { first, second };
-            let _ = eprintln!(rt; "{sentence}");
+            writeln!(f, "{sentence}")
         }
         Decided::Unwritten(step) => {
             let sentence = UnwrittenSentence { step };
-            let _ = eprintln!(rt; "{sentence}");
+            writeln!(f, "{sentence}")
         }
-        Decided::Models(_) => {}
+        Decided::Models(_) => Ok(()),
     }
 }
 
-/// Says that a reply of a log is wrong, or that a report isn't of its texts, where that is so.
-fn tell_unmodelled<R: Eprint>(rt: &R, modelled: Modelled) {
+/// Puts that a reply of a log is wrong, or that a report isn't of its texts, where that is so.
+fn put_unmodelled<W: fmt::Write>(f: &mut fmt::Formatter<W>, modelled: Modelled) -> fmt::Result {
     match modelled {
         Modelled::Wrong(wrong) => {
             let sentence = WrongSentence { wrong };
-            let _ = eprintln!(rt; "{sentence}");
+            writeln!(f, "{sentence}")
         }
-        Modelled::OtherShape { line } => {
-            let _ = eprintln!(rt; "another machine at line {line}");
-        }
+        Modelled::OtherShape { line } => writeln!(f, "another machine at line {line}"),
         Modelled::OtherOperation {
             line,
             processor,
             ..
-        } => {
-            let _ = eprintln!(rt; "another operation of processor {processor} at line {line}");
-        }
-        _ => {}
+        } => writeln!(
+            f,
+            "another operation of processor {processor} at line {line}"
+        ),
+        _ => Ok(()),
     }
+}
+
+/// The exit status of an answer.
+pub(crate) fn outcome_status(outcome: &Outcome) -> u8 {
+    match *outcome {
+        Outcome::Talked => 0,
+        Outcome::Ran(ended) => status_of(&Ok(ended.finished)),
+        Outcome::Sound(sound) => u8::from(!sound),
+        Outcome::Judged(judged, _) => status(&Ok(judged)),
+        Outcome::Modelled(modelled, model) => model_status(modelled, model),
+        Outcome::Decided(decided, model) => decided_status(decided, model),
+    }
+}
+
+/// Says on standard error what is to be said of an answer, and answers the exit status.
+pub(crate) fn status_told<R: Eprint>(rt: &R, outcome: &Outcome) -> u8 {
+    let line = OutcomeLine { outcome: *outcome };
+    let _ = eprint!(rt; "{line}");
+    outcome_status(outcome)
 }
 
 /// Says why a trace has no order from a line on, or what the run uses by which a network deadlocks,

@@ -2,7 +2,7 @@
 use Rattle.command_line.proofs.subcommands.network.Goals as goal
 
 pub returns : goal.returns
-returns c = c.with_explain.ensures _
+returns c = c.with_json.ensures _
     (c.with_argument-command-4.ensures _ _
     (c.with_argument-command-3.ensures _ _
     (c.with_argument-command-2.ensures _ _

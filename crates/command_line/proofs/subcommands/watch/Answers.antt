@@ -2,7 +2,7 @@
 use Rattle.command_line.proofs.subcommands.watch.Goals as goal
 
 pub returns : goal.returns
-returns c = c.with_explain.ensures _
+returns c = c.with_json.ensures _
     (c.with_argument-command-2.ensures _ _
     (c.with_argument-command.ensures _ _ c.named-command.ensures
     c.file.ensures.rule c.file.ensures.local)

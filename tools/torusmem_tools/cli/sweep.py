@@ -1,0 +1,238 @@
+"""Measures a machine, or a written network, under an offered load: what it accepts, and how long it takes, as a table or a plot.
+
+    tools/sweep --shape 4x4
+    tools/sweep --shape 4x4 --shape 8x8 --traffic uniform --svg > sweep.svg
+    tools/sweep --shape 4x4 --traffic uniform --loads 0.02,0.06,0.1 --csv
+    tools/network mesh 4x4 > mesh.txt; tools/sweep --network mesh.txt --loads 0.02,0.04,0.06,0.08
+
+For each shape, pattern and load, and for each of --seeds seeds, a run is drawn. Each tile asks for an operation with
+the probability of the load a round; of these --stores in a hundred are stores, the others loads. What is asked for waits
+at its processor for its turn and for one of --tags tags. The rounds are clocked, or with --rounds-in-order those of
+`torusmem round`: --warm-up of them, then --window, which are measured, then at most --drain, in which tiles ask on. The
+run ends as soon as all operations that were asked for in the window are answered. `torusmem steps` makes the same
+moves, and its report has the same events.
+
+Accepted are the operations that are answered in the window, for each round and tile. The latency is that of the
+operations that are asked for in it: the rounds from the one in which it is asked for to that of its answer, both
+counted. Both stand as a mean over the seeds with the half width of its 95 % interval by Student's t. Behind the greatest 95th
+percentile stand the longest latency, and the least and the most that is accepted of one tile or sender. The latency without
+load is that of the formula of docs/FORMATS.md. A load is saturated where the latency is over three times that, or where
+in some run not all that is measured is answered.
+
+Traffic is uniform (every bank as often), transpose (the bank whose digits are the processor's, reversed), bit-complement
+(each digit d is radix - 1 - d), neighbour (the next bank in dimension 0), tornado (half of the way round in each
+dimension), or hot-spot (a quarter of the operations to bank 0, the others uniform).
+
+With --network each sender of the network asks for a packet of --length flits with the probability of the load a round, as
+`tools/network traffic` draws them, by its patterns. Accepted are the packets that are delivered in the window, for each round
+and sender; the latency is that of docs/FORMATS.md ("Traffic text"). The rounds are those of `torusmem simulate`, or where the
+program has no such command of the plain model. All else is as of machines.
+
+A flit passes a channel in two rounds, a take and a put. With --cycle 2 all that is said of rounds is said of cycles of two, as
+they are in simulators in which a flit passes a channel in one cycle.
+"""
+from __future__ import annotations
+
+import itertools
+import json
+import math
+import multiprocessing
+import os
+import signal
+from dataclasses import replace
+from typing import Any, Callable, Iterator, Union
+
+from torusmem_tools import command
+from torusmem_tools.draw import curves, paper
+from torusmem_tools.model import cycles, offered_load, offered_packets, traffic_draw, trial
+from torusmem_tools.model.network_words import sizes
+from torusmem_tools.model.packet_rounds import ARBITERS
+from torusmem_tools.model.torus import radices_of
+from torusmem_tools.progress import rewrite
+from torusmem_tools.texts.columns import aligned
+
+TOOL = "sweep"
+Point = Union[offered_load.Point, offered_packets.Point]
+LOADS = (0.01, 0.03, 0.05, 0.07, 0.09, 0.11, 0.13, 0.15)
+# What is offered where the command line doesn't say.
+TAGS, STORES, LENGTH = 16, 30, 4
+# Student's t at 97.5 % for 1, 2, .. degrees of freedom.
+STUDENT = (12.706, 4.303, 3.182, 2.776, 2.571, 2.447, 2.365, 2.306, 2.262, 2.228, 2.201, 2.179, 2.160, 2.145, 2.131,
+           2.120, 2.110, 2.101, 2.093, 2.086, 2.080, 2.074, 2.069, 2.064, 2.060, 2.056, 2.052, 2.048, 2.045)
+# A latency of so many times that without load is one of saturation.
+SATURATION = 3
+
+
+def ignored() -> None:
+    """A process of its own leaves an interrupt to the one that started it."""
+    signal.signal(signal.SIGINT, signal.SIG_IGN)
+
+
+def say(text: str) -> None:
+    """On a terminal, writes a line in place of what standard error's last line has."""
+    if os.isatty(2):
+        rewrite(text)
+
+
+def numbered_told(numbered: tuple[int, Point]) -> tuple[int, offered_load.Found | str]:
+    """In a process of its own: what a run came to, with its number, or why it didn't."""
+    return numbered[0], (offered_packets if isinstance(numbered[1], offered_packets.Point) else offered_load).told(numbered[1])
+
+
+def all_measured(points: list[Point], jobs: int) -> list[offered_load.Found]:
+    """What all runs came to, so many made at once, in their order."""
+    found: list[offered_load.Found | None] = [None] * len(points)
+    with multiprocessing.get_context("fork").Pool(min(jobs, len(points)), ignored) as pool:
+        for done, (at, made) in enumerate(pool.imap_unordered(numbered_told, list(enumerate(points)))):
+            if isinstance(made, str):
+                raise command.Refusal(made)
+            found[at] = made
+            say(f"{TOOL}: {done + 1} of {len(points)} runs")
+    say("")
+    return [it for it in found if it is not None]
+
+
+def spread(values: list[float]) -> tuple[float, float]:
+    """The mean, and the half width of its 95 % interval."""
+    mean = sum(values) / len(values)
+    variance = sum((it - mean) ** 2 for it in values) / (len(values) - 1)
+    return mean, STUDENT[len(values) - 2] * math.sqrt(variance / len(values))
+
+
+def row_of(point: Point, found: list[offered_load.Found]) -> dict[str, Any]:
+    """What the runs of a load came to."""
+    accepted, latency = spread([it.accepted for it in found]), spread([it.latency for it in found])
+    drained, zero = sum(it.is_drained for it in found), offered_packets.zero_load(point) if isinstance(point, offered_packets.Point) else offered_load.zero_load(point)
+    row: dict[str, Any] = {"shape": point.shape(), "traffic": point.traffic, "offered": point.load}
+    row.update(accepted=round(accepted[0], 5), accepted_within=round(accepted[1], 5))
+    row.update(latency=round(latency[0], 2), latency_within=round(latency[1], 2))
+    row.update(p95=max(it.p95 for it in found), measured=sum(it.measured for it in found), drained=drained)
+    is_high = zero is not None and latency[0] > SATURATION * zero
+    row.update(seeds=len(found), zero_load=zero and round(zero, 2), saturated=is_high or drained < len(found))
+    shares = min(it.least for it in found), max(it.most for it in found)
+    return {**row, "least": round(shares[0], 5), "most": round(shares[1], 5), "longest": max(it.longest for it in found)}
+
+
+def table(rows: list[dict[str, Any]]) -> str:
+    """What the loads came to, as text."""
+    first = next(iter(rows[0]))
+    one = "of one sender" if first == "network" else "of one tile"
+    heads = [first, "traffic", "offered", "accepted", "latency", "p95", "longest", one, "without load", ""]
+    cells = [heads]
+    for it in rows:
+        zero = "-" if it["zero_load"] is None else f"{it['zero_load']:.2f}"
+        both = f"{it['accepted']:.4f} +- {it['accepted_within']:.4f}", f"{it['latency']:.2f} +- {it['latency_within']:.2f}"
+        mark = "saturated" if it["saturated"] else ""
+        share = f"{it['least']:.4f} to {it['most']:.4f}"
+        cells.append([it[heads[0]], it["traffic"], f"{it['offered']:g}", *both, str(it["p95"]), str(it["longest"]), share, zero, mark])
+    return "".join(f"{it}\n" for it in aligned(cells, (0, 1, 9)))
+
+
+def csv(rows: list[dict[str, Any]]) -> str:
+    """The same as comma-separated values, under the names of the columns."""
+    cell: Callable[[object], str] = lambda it: "" if it is None else str(it).lower() if isinstance(it, bool) else str(it)
+    return "".join(",".join(line) + "\n" for line in [list(rows[0]), *([cell(it) for it in row.values()] for row in rows)])
+
+
+def loads_of(word: str) -> list[float]:
+    """The reader of the word behind --loads."""
+    return sorted(set(map(traffic_draw.fraction, word.split(","))))
+
+
+def words() -> command.Parser:
+    """The words of the command line."""
+    parser = command.parser(TOOL, __doc__)
+
+    def add(name: str, metavar: str, **more: Any) -> None:
+        parser.add_argument(f"--{name}", metavar=metavar, **more)
+
+    number: Callable[[str, str, int, int, int, str], None] = lambda name, metavar, least, most, default, what: add(
+        name, metavar, type=command.whole(least, most), default=default, help=f"{what}; {default} if not given"
+    )
+    shape = "the radix of each dimension, as 4x2; may be given more than once, and then the curves lie over each other"
+    what = parser.add_mutually_exclusive_group(required=True)
+    what.add_argument("--shape", metavar="RADIX[xRADIX..]", type=radices_of, action="append", help=shape)
+    network = "the text of a network, in place of a machine; may be given more than once, too"
+    what.add_argument("--network", metavar="NETWORK", action="append", help=network)
+    traffic = f"one of {', '.join(offered_load.TRAFFIC)}; may be given more than once; all if not given, of a network uniform"
+    add("traffic", "PATTERN", choices=offered_load.TRAFFIC, action="append", help=traffic)
+    loads = f"offered loads, operations per tile and round, or packets per sender and round; {','.join(map(str, LOADS))} if not given"
+    add("loads", "L[,L..]", type=loads_of, default=list(LOADS), help=loads)
+    of_one: Callable[[str, str, int, int, str], None] = lambda name, metavar, least, most, what: add(name, metavar, type=command.whole(least, most), help=what)
+    of_one("tags", "T", 1, 16, f"of a machine: operations of a processor that may be out at once; {TAGS} if not given")
+    number("depth", "D", 1, 8, 4, "flits that a channel holds")
+    of_one("stores", "P", 0, 100, f"of a machine: how many in a hundred are stores; {STORES} if not given")
+    of_one("length", "L", 1, 1000, f"of a network: flits of a packet; {LENGTH} if not given")
+    digits = "of a network: the digits of its senders, as 4x4, for patterns other than uniform and hot-spot"
+    add("digits", "RADIX[xRADIX..]", type=lambda word: sizes(word, 3), help=digits)
+    number("warm-up", "R", 0, 100000, 200, "rounds before the measured ones")
+    number("window", "R", 1, 100000, 500, "rounds that are measured")
+    number("drain", "R", 0, 100000, 500, "the most rounds behind these")
+    arbiter = f"of a network: which head an output takes, of {' and '.join(ARBITERS)}; {ARBITERS[0]} if not given"
+    add("arbiter", "NAME", choices=ARBITERS, help=arbiter)
+    cycles.add_word(parser)
+    number("seeds", "N", 2, 30, 5, "runs of each load, each by a seed of its own")
+    number("seed", "S", 0, 2**64 - 1, 1, "the first seed")
+    jobs = "runs at once; as many as cores if not given"
+    add("jobs", "J", type=command.whole(1, 1024), default=os.cpu_count() or 1, help=jobs)
+    paper.add_word(parser, "with --svg: ", paper.Paper(620))
+    parser.add_argument("--rounds-in-order", action="store_true", help="rounds as `torusmem round` makes, not clocked ones")
+    shown = parser.add_mutually_exclusive_group()
+    shown.add_argument("--svg", action="store_true", help="draw the curves")
+    shown.add_argument("--json", action="store_true", help="print JSON, an item for each load")
+    shown.add_argument("--csv", action="store_true", help="print comma-separated values, a line for each load")
+    return parser
+
+
+def points_of(given: Any) -> Iterator[Point]:
+    """The loads that are asked for, each with the first seed."""
+    rounds = given.warm_up, given.window, given.drain
+    for network, traffic, load in itertools.product(given.network or [], given.traffic or ["uniform"], given.loads):
+        of_packets = given.depth, given.length or LENGTH, *rounds, given.cycle, given.arbiter or ARBITERS[0]
+        yield offered_packets.Point(network, traffic, load, tuple(given.digits or []), *of_packets, given.seed)
+    tags, stores = given.tags or TAGS, STORES if given.stores is None else given.stores
+    for radices, traffic, load in itertools.product(given.shape or [], given.traffic or offered_load.TRAFFIC, given.loads):
+        yield offered_load.Point(tuple(radices), traffic, load, tags, given.depth, stores, *rounds, not given.rounds_in_order, given.cycle, given.seed)
+
+
+def asked() -> Any:
+    """What the command line asks for; refuses words that are of no use together."""
+    given = words().parse_args()
+    idle = ("length", "digits", "arbiter") if given.shape else ("tags", "stores", "rounds_in_order")
+    for name in idle:
+        if getattr(given, name) is not None and getattr(given, name) is not False:
+            raise command.WrongWords(f"--{name.replace('_', '-')} is of no use with --{'shape' if given.shape else 'network'} (--help says more)")
+    return given
+
+
+def named(rows: list[dict[str, Any]], given: Any) -> list[dict[str, Any]]:
+    """The rows, whose first column says whether it has shapes or networks."""
+    return [{("network" if key == "shape" and given.network else key): it for key, it in row.items()} for row in rows]
+
+
+def work() -> str:
+    """What the tool prints."""
+    given = asked()
+    os.environ["TORUSMEM"] = trial.built_torusmem()
+    points = list(dict.fromkeys(points_of(given)))
+    runs = [replace(it, seed=(it.seed + k) % 2**64) for it in points for k in range(given.seeds)]
+    found = all_measured(runs, given.jobs)
+    rows = [row_of(it, found[at * given.seeds : (at + 1) * given.seeds]) for at, it in enumerate(points)]
+    if given.json:
+        return json.dumps(named(rows, given), indent=2) + "\n"
+    if given.csv:
+        return csv(named(rows, given))
+    if not given.svg:
+        return table(named(rows, given))
+    unit = cycles.unit(given.cycle)
+    if given.network:
+        said = f"packets of {given.length or LENGTH} flits, depth {given.depth}"
+        return curves.plot(rows, given.width, said, f"offered, packets per sender and {unit}", unit)
+    rounds, stores = "rounds in order" if given.rounds_in_order else "clocked rounds", STORES if given.stores is None else given.stores
+    said = f"{rounds}, {stores} % stores, depth {given.depth}, {given.tags or TAGS} tags"
+    return curves.plot(rows, given.width, said, f"offered, operations per tile and {unit}", unit)
+
+
+def main() -> None:
+    """Runs the tool."""
+    command.run(TOOL, work)

@@ -1,0 +1,1 @@
+"""Models of the machine, of networks, of operations and of runs, and what judges by them."""

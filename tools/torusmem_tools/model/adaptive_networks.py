@@ -1,0 +1,285 @@
+"""Networks whose routers choose among several channels, for tools/network."""
+from __future__ import annotations
+
+import math
+from collections import deque
+from typing import Callable, Dict, Iterable, List, Set, Tuple
+
+from torusmem_tools.command import Refusal
+from torusmem_tools.model.network import Network, Router, number_of
+from torusmem_tools.model.router_places import grid, torus_router
+
+# Directions of a mesh: east, west, north (the row number falls), south.
+STEPS = {"E": (1, 0), "W": (-1, 0), "N": (0, -1), "S": (0, 1)}
+Turn = Callable[[int, str, str], bool]
+# The channels of hops, by two routers or groups and a virtual channel.
+Hops = Dict[Tuple[int, int, int], int]
+
+
+def ends(net: Network, routers: Iterable[int]) -> Tuple[Dict[int, int], Dict[int, int]]:
+    """An injection and an ejection channel of each router, joined to all."""
+    routers = list(routers)
+    net.expect(len(routers) ** 2)
+    inject = {r: net.channel("inject", r, r) for r in routers}
+    eject = {r: net.channel("eject", r, r) for r in inject}
+    net.joins = [(inject[r], eject[s]) for r in inject for s in eject]
+    return inject, eject
+
+
+def nearer(width: int, r: int, goal: int) -> List[str]:
+    """The directions that bring a packet nearer in a mesh."""
+    dx, dy = goal % width - r % width, goal // width - r // width
+    return ["E"] * (dx > 0) + ["W"] * (dx < 0) + ["N"] * (dy < 0) + ["S"] * (dy > 0)
+
+
+def neighbour(width: int, height: int, r: int, d: str) -> int:
+    """The router in a direction, or -1."""
+    x, y = r % width + STEPS[d][0], r // width + STEPS[d][1]
+    return y * width + x if 0 <= x < width and 0 <= y < height else -1
+
+
+def adaptive_mesh(width: int, height: int) -> Network:
+    """Minimal: any direction that brings a packet nearer on the first virtual channel; the escape, on the second, goes
+    along the row first (Duato 1993)."""
+    net = Network()
+    routers = range(width * height)
+    inject, eject = ends(net, routers)
+    hops = {(r, d, v): net.channel("hop", r, neighbour(width, height, r, d), v)
+            for r in routers for d in STEPS for v in (0, 1) if neighbour(width, height, r, d) >= 0}
+    grid(net, width, height)
+    net.escapes = {hops[it] for it in hops if it[2] == 1}
+    into = inputs(net, inject)
+    for r in routers:
+        for goal in routers:
+            near = nearer(width, r, goal)
+            chosen = [eject[goal]] if r == goal else [hops[r, d, 0] for d in near] + [hops[r, near[0], 1]]
+            for x in into[r]:
+                net.choose(x, eject[goal], chosen)
+    return net
+
+
+def inputs(net: Network, inject: Dict[int, int]) -> Dict[int, List[int]]:
+    """The channels into each router."""
+    found: Dict[int, List[int]] = {r: [x] for r, x in inject.items()}
+    for x, link in net.links.items():
+        if net.kinds[x] == "hop":
+            found.setdefault(link.end, []).append(x)
+    return found
+
+
+def west_first(column: int, came: str, goes: str) -> bool:
+    """No turn into the west (Glass and Ni, The turn model for adaptive routing, ISCA 1992)."""
+    return goes != "W" or came in ("W", "")
+
+
+def odd_even(column: int, came: str, goes: str) -> bool:
+    """No turn from the east to the north or south in an even column, and none from there to the west in an odd one
+    (Chiu, The odd-even turn model for adaptive routing, IEEE TPDS 11(7), 2000)."""
+    if came == "E" and goes in ("N", "S"):
+        return column % 2 == 1
+    return not (came in ("N", "S") and goes == "W" and column % 2 == 1)
+
+
+def turned(width: int, height: int, may: Turn) -> Network:
+    """A mesh with one channel on each link, minimal, by a rule for turns: all that still lead to the destination."""
+    net = Network()
+    routers = range(width * height)
+    inject, eject = ends(net, routers)
+    hops = {(r, d): net.channel("hop", r, neighbour(width, height, r, d))
+            for r in routers for d in STEPS if neighbour(width, height, r, d) >= 0}
+    grid(net, width, height)
+    for goal in routers:
+        open_: Dict[Tuple[int, str], List[str]] = {}
+        # nearest routers first, so that those behind a choice are known
+        for r in sorted(routers, key=lambda it: abs(it % width - goal % width) + abs(it // width - goal // width)):
+            for came in ("", *STEPS):
+                open_[r, came] = [d for d in nearer(width, r, goal) if may(r % width, came, d)
+                                  and (neighbour(width, height, r, d) == goal or open_[neighbour(width, height, r, d), d])]
+        for r in routers:
+            net.choose(inject[r], eject[goal], [eject[goal]] if r == goal else [hops[r, d] for d in open_[r, ""]])
+        for (r, d), x in hops.items():
+            s = neighbour(width, height, r, d)
+            net.choose(x, eject[goal], [eject[goal]] if s == goal else [hops[s, e] for e in open_[s, d]])
+    return net
+
+
+def adaptive_torus(radices: List[int]) -> Network:
+    """Minimal: any direction that brings a packet nearer on the first virtual channel; the escape goes along the
+    dimensions in order, on the second virtual channel ahead of the dateline and on the third behind it."""
+    net, tiles = Network(), math.prod(radices)
+    inject, eject = ends(net, range(tiles))
+    weight = [math.prod(radices[:d]) for d in range(len(radices))]
+    hops = {}
+    for r in range(tiles):
+        for d, k in enumerate(radices):
+            for by in (1, -1):
+                here = r // weight[d] % k
+                for v in range(3):
+                    hops[r, d, by, v] = net.channel("hop", r, r + ((here + by) % k - here) * weight[d], v)
+    for r in range(tiles):
+        net.routers[r] = torus_router(r, radices)
+    net.escapes = {x for (_, _, _, v), x in hops.items() if v > 0}
+    into = inputs(net, inject)
+    for r in range(tiles):
+        for goal in range(tiles):
+            chosen: List[int] = []
+            escape: List[int] = []
+            for d, k in enumerate(radices):
+                here, there = r // weight[d] % k, goal // weight[d] % k
+                ahead = (there - here) % k
+                if ahead:
+                    signs = [by for by, far in ((1, ahead), (-1, k - ahead)) if 2 * far <= k]
+                    chosen += [hops[r, d, by, 0] for by in signs]
+                    wraps = here > there if signs[0] == 1 else here < there
+                    escape = escape or [hops[r, d, signs[0], 1 if wraps else 2]]
+            for x in into[r]:
+                net.choose(x, eject[goal], chosen + escape or [eject[goal]])
+    return net
+
+
+def fat_tree(arity: int, levels: int) -> Network:
+    """A k-ary n-tree: up by any link to a common ancestor, then down (Petrini and Vanneschi, k-ary n-trees, 1997)."""
+    net, width = Network(), arity ** (levels - 1)
+    nodes = range(arity**levels)
+    net.expect(len(nodes) ** 2)
+    inject = {p: net.channel("inject", p // arity, p // arity) for p in nodes}
+    eject = {p: net.channel("eject", p // arity, p // arity) for p in nodes}
+    net.joins = [(inject[p], eject[q]) for p in nodes for q in nodes]
+    net.routers = {level * width + s: Router(f"{level}.{s}", (s, 2 * (levels - level))) for level in range(levels) for s in range(width)}
+    up, down = {}, {}
+    for level in range(levels - 1):
+        for s in range(width):
+            for c in range(arity):
+                t = s + (c - s // arity**level % arity) * arity**level
+                up[level, s, c] = net.channel("hop", level * width + s, (level + 1) * width + t)
+                down[level + 1, t, s // arity**level % arity] = net.channel("hop", (level + 1) * width + t, level * width + s)
+    into: Dict[int, List[Tuple[int, bool]]] = {}
+    for x, link in net.links.items():
+        if net.kinds[x] != "eject":
+            into.setdefault(link.end, []).append((x, link.start > link.end))
+    for goal in nodes:
+        leaf = goal // arity
+        for r, xs in into.items():
+            level, s = divmod(r, width)
+            under = s // arity**level == leaf // arity**level
+            for x, fell in xs:
+                if under:
+                    chosen = [eject[goal]] if level == 0 else [down[level, s, leaf // arity ** (level - 1) % arity]]
+                else:
+                    chosen = [] if fell else [up[level, s, c] for c in range(arity)]
+                net.choose(x, eject[goal], chosen)
+    return net
+
+
+def up_down(links: Dict[int, List[int]], nodes: Dict[int, int]) -> Network:
+    """Up towards the root of a tree, then down, by any link: each router by its distance from the first one, then by
+    its number (Schroeder et al., Autonet, IEEE JSAC 9(8), 1991)."""
+    root = min(links)
+    far, queue = {root: 0}, deque([root])
+    while queue:
+        for s in sorted(links[queue[0]]):
+            if s not in far:
+                far[s] = far[queue[0]] + 1
+                queue.append(s)
+        queue.popleft()
+    if len(far) < len(links):
+        raise Refusal(f"no path from router {root} to router {min(set(links) - set(far))}")
+    net = Network(routers={r: Router(str(r)) for r in sorted(links)})
+    inject = {p: net.channel("inject", r, r) for p, r in nodes.items()}
+    eject = {p: net.channel("eject", r, r) for p, r in nodes.items()}
+    net.joins = [(inject[p], eject[q]) for p in nodes for q in nodes]
+    hops = {(r, s): net.channel("hop", r, s) for r in sorted(links) for s in sorted(links[r])}
+    climbs = {(r, s): (far[s], s) < (far[r], r) for r, s in hops}
+    for goal, last in nodes.items():
+        falls = {last}
+        for r in sorted(links, key=lambda it: (far[it], it), reverse=True):
+            if any(s in falls and not climbs[r, s] for s in links[r]):
+                falls.add(r)
+        for p, r in nodes.items():
+            net.choose(inject[p], eject[goal], ahead(links, climbs, falls, hops, r, last, True) or [eject[goal]])
+        for (r, s), x in hops.items():
+            net.choose(x, eject[goal], ahead(links, climbs, falls, hops, s, last, climbs[r, s]) or [eject[goal]] * (s == last))
+    return net
+
+
+def ahead(links: Dict[int, List[int]], climbs: Dict[Tuple[int, int], bool], falls: Set[int], hops: Dict[Tuple[int, int], int],
+          r: int, last: int, may_climb: bool) -> List[int]:
+    """The hops from a router that lead on to another: down where it is below, else up."""
+    if r == last:
+        return []
+    down = [hops[r, s] for s in sorted(links[r]) if not climbs[r, s] and s in falls]
+    return down or [hops[r, s] for s in sorted(links[r]) if may_climb and climbs[r, s]]
+
+
+def dragonfly(size: int) -> Network:
+    """Groups of so many routers, each with one link to another group: by the one link between the groups, or by way of
+    any other group. Each hop is on a virtual channel of its own, in order (Kim, Dally, Scott and Abts, ISCA 2008)."""
+    net, groups = Network(), size + 1
+    routers = range(size * groups)
+    inject, eject = ends(net, routers)
+    net.routers = {r: Router(f"{r // size}.{r % size}") for r in routers}
+    # the router of group g whose link goes to group h, and the other way
+    door = {(g, h): g * size + (h - g - 1) % groups for g in range(groups) for h in range(groups) if g != h}
+    local = {(r, s, v): net.channel("hop", r, s, v) for r in routers for s in routers if r // size == s // size and r != s for v in range(3)}
+    world = {(g, h, v): net.channel("hop", door[g, h], door[h, g], v) for g, h in door for v in range(2)}
+    for goal in routers:
+        home = goal // size
+        for r in routers:
+            g = r // size
+            out = range(groups) if g != home else ()
+            net.choose(inject[r], eject[goal], leave(local, world, door, r, goal, out, 0, size, eject))
+        for (r, s, v), x in local.items():
+            g = s // size
+            out = [h for h in range(groups) if h != g and door[g, h] == s] if v == 0 else [home]
+            net.choose(x, eject[goal], [] if g == home and s != goal else leave(local, world, door, s, goal, out, v, size, eject, True))
+        for (g, h, v), x in world.items():
+            net.choose(x, eject[goal], leave(local, world, door, door[h, g], goal, [home] * (v == 0), v + 1, size, eject))
+    return net
+
+
+def leave(local: Hops, world: Hops, door: Dict[Tuple[int, int], int], r: int, goal: int, out: Iterable[int], level: int, size: int,
+          eject: Dict[int, int], stays: bool = False) -> List[int]:
+    """The choices at a router of a dragonfly: within the home group, or out of this one to one of these groups."""
+    g = r // size
+    if g == goal // size:
+        return [eject[goal]] if r == goal else [local[r, goal, level]]
+    found = []
+    for h in out:
+        if h == g or (level > 1):
+            continue
+        if door[g, h] == r:
+            found.append(world[g, h, level])
+        elif not stays:
+            found.append(local[r, door[g, h], level])
+    return sorted(set(found))
+
+
+def from_table(rows: List[List[str]], path: str) -> Network:
+    """Routing tables: rows of router, destination, next router, virtual channel, and whether it is an escape."""
+    net = Network()
+    hops: Dict[Tuple[int, int, int], int] = {}
+    taken: Dict[Tuple[int, int], List[Tuple[int, int]]] = {}
+    escapes = set()
+    for number, row in enumerate(rows, 2):
+        figures = [number_of(word) for word in row[:4]]
+        if len(row) not in (4, 5) or min(figures) < 0 or row[4:] not in ([], [""], ["escape"]):
+            raise Refusal(f"{path}, line {number}: it is no row `router,destination,next,virtual`, or with `escape` behind it")
+        r, goal, s, v = figures
+        taken.setdefault((r, goal), []).append((s, v))
+        if row[4:] == ["escape"]:
+            escapes.add((r, s, v))
+    routers = sorted({r for r, _ in taken} | {goal for _, goal in taken} | {s for it in taken.values() for s, _ in it})
+    inject, eject = ends(net, routers)
+    net.routers = {r: Router(str(r)) for r in routers}
+    for (r, _), it in sorted(taken.items()):
+        for s, v in it:
+            if (r, s, v) not in hops:
+                hops[r, s, v] = net.channel("hop", r, s, v)
+    net.escapes = {hops[it] for it in escapes}
+    into = inputs(net, inject)
+    for goal in routers:
+        for r in routers:
+            chosen = [eject[goal]] if r == goal else [hops[r, s, v] for s, v in taken.get((r, goal), [])]
+            for x in into[r]:
+                net.choose(x, eject[goal], chosen)
+    return net

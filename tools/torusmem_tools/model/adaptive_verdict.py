@@ -1,0 +1,66 @@
+"""The verdict on a network whose routers choose, for pictures and sentences: by the plain walk, or as `torusmem network`
+printed it."""
+from __future__ import annotations
+
+from typing import List, Optional, Tuple
+
+from torusmem_tools.command import Refusal
+from torusmem_tools.model.adaptive_walk import Edge, Found, Walk, judged_choices
+from torusmem_tools.model.deadlock import titled
+from torusmem_tools.model.network import Network, number_of
+
+
+def turns_of(lines: List[List[str]], net: Network) -> Optional[List[Tuple[int, Edge, int]]]:
+    """The dependencies between the channels of a cycle, each on a line `X to J`, `X to J over A B` or `X replies Y`; none where
+    one doesn't lead to the next, as the walk sees it."""
+    walk, turns = Walk(net), []
+    for words, behind in zip(lines, lines[1:] + lines[:1]):
+        x, y = number_of(words[0]), number_of(behind[0])
+        ends, over = [number_of(it) for it in words[2:3]], tuple(number_of(it) for it in words[4:])
+        if words[1:2] == ["replies"] and len(words) == 3 and ends == [y] and (x, y) in net.replies:
+            turns.append((x, Edge(None), y))
+        elif words[1:2] == ["to"] and ends and words[3:4] == ["over"][:len(over)] and walk.leads(x, ends[0], over, y):
+            turns.append((x, Edge(ends[0], over), y))
+        else:
+            return None
+    return turns
+
+
+def found_in(net: Network, text: str, path: str) -> Found:
+    """The verdict that a text of `torusmem network` has. Refused where it is no verdict of this network, as far as the
+    plain walk can see."""
+    walked, lines = judged_choices(net), text.splitlines()
+    kind = walked.kind
+    said = [it for it in lines if it in ("rising", "cycle") or it.startswith(("no route ", "no choice ", "no escape "))]
+    if said != [kind]:
+        raise Refusal(f"{path}: the network's verdict is `{kind}`, and not `{' '.join(said)}`")
+    if kind == "cycle":
+        turns = turns_of([it.split() or [""] for it in lines if it not in ("cycle", "may lock up")], net)
+        if not turns:
+            raise Refusal(f"{path}: it has no cycle of this network")
+        return Found(kind, turns=turns)
+    found = {}
+    for words in (it.split() for it in lines):
+        if words[:1] == ["number"] and len(words) == 3 and min(map(number_of, words[1:])) >= 0:
+            found[int(words[1])] = int(words[2])
+    if kind == "rising" and (set(found) != set(range(len(net.kinds))) or any(found[x] >= found[y] for x, y in Walk(net).edges())):
+        raise Refusal(f"{path}: its numbers don't rise in this network")
+    return walked._replace(numbers=[found[x] for x in sorted(found)])
+
+
+def told(net: Network, found: Found) -> str:
+    """The verdict's line; how far packets go, or a sentence on each dependency of a cycle."""
+    lines = [found.kind]
+    if found.kind == "rising":
+        word, *numbers = found.travel.split()
+        most = f"packets go over at most {numbers[0]} channels"
+        lines = [most if word == "bounded" else f"packets to {numbers[0]} can come back to channel {numbers[1]}", found.kind]
+    for x, edge, y in found.turns:
+        there = f"{y}{titled(net, y)}"
+        if edge.to is None:
+            lines.append(f"packets that come out of channel {x}{titled(net, x)} are answered on channel {there}")
+            continue
+        over = ", ".join(f"{it}{titled(net, it)}" for it in edge.over)
+        goes = f" can go on over {over}, which {'are' if edge.over[1:] else 'is'} no escape{'s' if edge.over[1:] else ''}, and" if over else ""
+        lines.append(f"packets to {edge.to}{titled(net, edge.to)} that hold channel {x}{titled(net, x)}{goes} wait for channel {there}")
+    return "\n".join(lines + ["may lock up"] * (found.kind == "cycle")) + "\n"

@@ -1,0 +1,136 @@
+"""Runs in which each sender of a written network asks for a packet with a given probability a round, and what they come to.
+
+What is asked for waits at its sender without a limit, as in model/offered_load.py. `torusmem simulate` makes the run, or, where the
+program has no such command, the model of model/packet_rounds.py, which prints the same report.
+"""
+from __future__ import annotations
+
+import functools
+import os
+from collections import Counter
+from dataclasses import dataclass
+from typing import Any, List, Optional
+
+from torusmem_tools import command
+from torusmem_tools.model import campaign_cases, cycles, traffic_draw, trial
+from torusmem_tools.model.deadlock import route
+from torusmem_tools.model.network import Network, judged, parsed
+from torusmem_tools.model.network_words import text_of
+from torusmem_tools.model.offered_load import Found
+from torusmem_tools.model.packet_rounds import Packet, Simulation
+from torusmem_tools.model.percentiles import percentile
+from torusmem_tools.texts import traffic_report
+
+
+@dataclass(frozen=True)
+class Point:
+    """What is asked of one run. Its times are cycles of so many rounds."""
+
+    network: str
+    traffic: str
+    load: float
+    digits: tuple[int, ...]
+    depth: int
+    size: int
+    warm_up: int
+    window: int
+    drain: int
+    cycle: int
+    arbiter: str
+    seed: int
+
+    def shape(self) -> str:
+        """What the network is called: its file, without folder and suffix."""
+        return os.path.splitext(os.path.basename(self.network))[0]
+
+    def cycles(self) -> int:
+        """How many cycles count at most."""
+        return self.warm_up + self.window + self.drain
+
+    def is_measured(self, number: int) -> bool:
+        """Whether a cycle is one of the window."""
+        return self.warm_up < number <= self.warm_up + self.window
+
+
+@functools.lru_cache(maxsize=None)
+def network_of(path: str) -> Network:
+    """The network of a text; refused where no packets can be sent through it."""
+    net = parsed(text_of(path), path)
+    if net.is_adaptive():
+        raise command.Refusal(f"{path}: packets are sent through networks whose routers don't choose")
+    kind = judged(net)[0]
+    if kind.startswith("no route"):
+        raise command.Refusal(f"{path}: {kind}")
+    return net
+
+
+def traffic_of(point: Point) -> traffic_draw.Traffic:
+    """Where packets go; refused where there are none."""
+    made = traffic_draw.Traffic(network_of(point.network), point.traffic, list(point.digits) or None)
+    if not made.pairs():
+        raise command.Refusal(f"{point.network} has no pair that packets of {point.traffic} go between")
+    return made
+
+
+can_simulate = functools.lru_cache(maxsize=None)(lambda program: trial.has_command(program, "simulate"))
+
+
+def report_lines(point: Point, asked: List[Packet]) -> List[str]:
+    """The report on packets, by the program where it can make one."""
+    if not can_simulate(command.program_path()):
+        return stopped(point, asked)
+    with command.kept("".join(f"{traffic_draw.line(it)}\n" for it in asked).encode("ascii")) as traffic:
+        words = ["simulate", point.network, traffic, "--depth", str(point.depth), "--arbiter", point.arbiter]
+        return command.torusmem(*words, fine=(0, 1, 3)).splitlines()
+
+
+def stopped(point: Point, asked: List[Packet]) -> List[str]:
+    """The report by the model, which stops once all that is measured is delivered, or behind the last round that counts."""
+    run = Simulation(network_of(point.network), point.depth, asked, point.arbiter)
+    due = [it for it in run.courses if point.is_measured(cycles.cycle_of(it.packet.round, point.cycle))]
+    for number in range(1, point.cycles() * point.cycle + 1):
+        run.round(number)
+        if number > (point.warm_up + point.window) * point.cycle and all(it.delivered is not None for it in due):
+            break
+    return run.lines(f"not over after round {number}")
+
+
+def measured(point: Point) -> Found:
+    """Makes a run, and measures it."""
+    traffic, numbers = traffic_of(point), campaign_cases.Numbers(point.seed)
+    rounds = (cycles.first_round(it, point.cycle) for it in range(1, point.cycles() + 1))
+    asked = [it for number in rounds for it in traffic_draw.asked(traffic, numbers, point.load, point.size, number)]
+    found = traffic_report.read(network_of(point.network), report_lines(point, asked), "the report")
+    return found_of(point, found, sorted(traffic.ends))
+
+
+def found_of(point: Point, report: traffic_report.Delivered, senders: List[int]) -> Found:
+    """What the packets of the window come to; one that is delivered behind the last cycle that counts is not."""
+    ends = [cycles.cycle_if(it.delivered, point.cycle) for it in report.sent]
+    last = [it if it is not None and it <= point.cycles() else None for it in ends]
+    begins = [cycles.cycle_of(it.packet.round, point.cycle) for it in report.sent]
+    due = [(begin, end) for begin, end in zip(begins, last) if point.is_measured(begin)]
+    times = sorted(end - begin + 1 for begin, end in due if end is not None)
+    if not times:
+        raise command.Refusal("no packet is measured: --window is too short for this load")
+    arrived = Counter(it.packet.start for it, end in zip(report.sent, last) if end is not None and point.is_measured(end))
+    of_one = [arrived[it] for it in senders]
+    accepted, shares = sum(of_one) / (point.window * len(senders)), (min(of_one) / point.window, max(of_one) / point.window)
+    return Found(accepted, sum(times) / len(times), percentile(times, 95), len(times), len(times) == len(due), *shares, times[-1])
+
+
+def zero_load(point: Point) -> Optional[float]:
+    """The mean latency of a packet with nothing else under way: two rounds for each channel of its route, and two more for
+    each further flit, or three where a channel holds one; in cycles."""
+    pairs, net = traffic_of(point).pairs(), network_of(point.network)
+    more = (2 if point.depth > 1 else 3) * (point.size - 1)
+    times = sum(share * cycles.cycle_of(2 * len(route(net, i, j)) + more, point.cycle) for share, i, j in pairs)
+    return times / sum(share for share, _, _ in pairs)
+
+
+def told(point: Point) -> Any:
+    """In a process of its own: what a run came to, or why it didn't."""
+    try:
+        return measured(point)
+    except (command.Refusal, command.WrongWords, OSError, MemoryError) as why:
+        return str(why) or "there is no memory left"
