@@ -11,32 +11,26 @@ import stat
 from dataclasses import dataclass
 from typing import NoReturn
 
-HERE = os.path.dirname(os.path.realpath(__file__))
+import commands
+
 VERSION = "torusmem 0.2.0\n"
-# The positional words of each command, and its options: the limits of a number, WORD for any word, WORDS for two, or None
-# for a flag.
+# Of an option the limits of its number, or WORD for any word, WORDS for two; None for a flag.
 WORD, WORDS = (0, -1), (0, -2)
-COMMANDS: dict[str, tuple[list[str], dict[str, tuple[int, int] | None]]] = {
-    "steps": (["MACHINE", "SCRIPT", "STEPS"], {"moves": None, "explain": None}),
-    "round": (["MACHINE", "SCRIPT"], {"rounds": (1, 1000000), "clocked": None, "explain": None}),
-    "run": (["MACHINE", "SCRIPT"], {"workers": (1, 16), "turns": (1, 1000000000), "explain": None}),
-    "live": (["MACHINE"], {"explain": None}),
-    "schedule": (["MACHINE", "SCRIPT"], {"rounds": (1, 1000000), "clocked": None, "explain": None}),
-    "draw": (["MACHINE", "SCRIPT"], {"seed": (0, 2**64 - 1), "steps": (0, 2**64 - 1), "explain": None}),
-    "route": (["MACHINE", "SRC", "DST"], {"reply": None, "explain": None}),
-    "channels": (["MACHINE"], {"explain": None}),
-    "check": (["REPORT"], {"explain": None}),
-    "network": (["NETWORK"], {"run": None, "replay": WORD, "depth": (1, 8), "json": None, "explain": None}),
-    "simulate": (["NETWORK", "TRAFFIC"], {"depth": (1, 8), "arbiter": WORD, "explain": None}),
-    "linearize": (["TRACE"], {"configurations": (1, 4294967295), "report": None, "json": None, "explain": None}),
-    "watch": (["TRACE"], {"configurations": (1, 4294967295), "json": None, "explain": None}),
-    "model": (["LOG"], {"model": WORD, "order": None, "texts": WORDS, "values": None, "nodes": (1, 4294967295), "json": None, "explain": None}),
-}
-REQUIRED = {"draw": ["seed"]}  # the options that have to be given
+
+
+def limits_of(it: commands.Word) -> tuple[int, int] | None:
+    """What stands behind an option."""
+    return None if it.kind == "-" else it.limits() or (WORDS if it.is_files() else WORD)
+
+
+ROWS = [it for it in commands.table().commands.values() if it.name != "help"]
+# The positional words of each command, and its options; and the options that have to be given.
+COMMANDS = {it.name: ([word.name for word in it.arguments], {word.name: limits_of(word) for word in commands.options_of(it)}) for it in ROWS}
+REQUIRED = {it.name: [word.name for word in it.options if word.is_required] for it in ROWS}
+FILES = {word.name for it in ROWS for word in it.arguments if word.kind == "PATH"}
 TILES = (0, 4294967295)
 # Why a file can't be read, where the program has words for it.
 WHY = {errno.ENOENT: "no such file or directory", errno.EACCES: "permission denied", errno.EISDIR: "it is a directory"}
-FILES = ("MACHINE", "SCRIPT", "STEPS", "REPORT", "NETWORK", "TRAFFIC", "TRACE", "LOG")
 TRY = "\n\nFor more information, try '--help'.\n"
 
 
@@ -71,8 +65,7 @@ class Unclear(Exception):
 
 
 def help_of(name: str) -> Answer:
-    with open(f"{HERE}/help/{name}.txt", encoding="utf-8") as file:
-        return Answer(file.read(), 2, True)
+    return Answer(commands.help_text(name), 2, True)
 
 
 def usage_of(name: str) -> str:
