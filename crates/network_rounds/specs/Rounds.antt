@@ -1,5 +1,5 @@
--- Clocked rounds: each choice that is enabled when a round begins is attempted once, as clocked
--- hardware does.
+-- Clocked rounds: what an arbiter chooses of the choices that are enabled when a round begins is
+-- attempted once, as clocked hardware does.
 use Rattle.std.specs.Prelude.{ℕ, ◌%◌, List, ◌++◌, Vec, length, take, drop}
 use Rattle.std.specs.List.{flat_map}
 use Rattle.network_machine.specs.declared.moves.Move.{Move}

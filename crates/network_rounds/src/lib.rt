@@ -1,6 +1,6 @@
-//! Clocked rounds of a network that is written down: each choice that is enabled when a round begins
-//! is attempted once, and no round takes memory. The text of the packets that are sent, each from some
-//! round on: what its lines spell, or where and why it is refused.
+//! Clocked rounds of a network that is written down: what an arbiter chooses of the choices that are
+//! enabled when a round begins is attempted once, and no round takes memory. The text of the packets that
+//! are sent, each from some round on: what its lines spell, or where and why it is refused.
 #![tactic(auto)]
 
 pub mod arbiter;
