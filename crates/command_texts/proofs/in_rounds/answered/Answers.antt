@@ -1,5 +1,6 @@
 -- Each processor has its answers, which are counted too.
 use Rattle.std.proofs.Common.{◌≡◌, ◌<◌, sym, ◌∙◌, ap, arith, length}
+use Rattle.std.proofs.lemmas.Grind.{common_steps}
 use Rattle.std.specs.Option.{option_copied}
 use Rattle.torus.specs.Shape.{tiles_of}
 use Rattle.core_laws.specs.Machine.{shown}
@@ -24,3 +25,6 @@ loop-processor-preserved g c =
       | in_default w ↦ absurd (none_past (shown c.args.machine.now).answers c.loop-processor.processor inside
           (ap option_copied (sym w.in_default.is) ∙ c.answers.ensures))
     ]
+
+pub returns : goal.returns
+returns g c = grind (arith, common_steps)

@@ -1,5 +1,6 @@
 -- What was taken of a line that failed comes behind the lines before it.
 use Rattle.std.proofs.Common.{◌≡◌, ◌+◌, ◌++◌, ◌<◌, length, take, drop, get_or, List, ℕ, arith, sym, ◌∙◌, ap, subst}
+use Rattle.std.proofs.lemmas.Grind.{common_steps}
 use Rattle.std.proofs.lemmas.Result.{err_from_is_err_and}
 use Rattle.std.specs.List.{flat_map}
 use Rattle.torus.specs.declared.shape.Class.TheVariants.{Request}
@@ -26,3 +27,9 @@ returns-in_err-put_all-clause-err g c =
     ∙ sym (pieces_at line xs i none inside) in
     rw p.1 (subst F whole
     (front_behind _ _ _ _ _ (flat_map line (drop (i + 1) xs)) c.loop-channel.invariant.taken c.in_err-put_all.ensures.err))
+
+pub loop-channel-preserved : goal.loop-channel-preserved
+loop-channel-preserved g c = grind (arith, common_steps)
+
+pub returns-clause-ok : goal.returns-clause-ok
+returns-clause-ok g c = grind (arith, common_steps)
