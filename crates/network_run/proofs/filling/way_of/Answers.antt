@@ -23,4 +23,4 @@ returns-in-None g c =
     let same = own_table t c.kinds-kinds.result.now c.joins-joins.result.now c.choices-choices.result.now c.kinds-kinds.ensures.value c.joins-joins.ensures c.choices-choices.ensures in
     let less = c.loop-step-test.true in
     λ len way low. absurd (goes_on (table_of c.kinds-kinds.result.now c.joins-joins.result.now c.choices-choices.result.now) t f.from f.to l._step l.last len same
-        l.invariant.last way (omega arith) c.in-None.ensures.none)
+    l.invariant.last way (omega arith) c.in-None.ensures.none)
