@@ -1,0 +1,5 @@
+//! Laws of clocked rounds by an arbiter: with a guard no operation waits for ever, whatever hosts and
+//! scripts go on asking.
+#![tactic(auto)]
+
+pub mod laws;
