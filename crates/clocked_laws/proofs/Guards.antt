@@ -19,7 +19,7 @@ use Rattle.core_laws.proofs.Stands.{tile_at}
 use Rattle.clocked_laws.specs.Burden.{burden}
 use Rattle.clocked_laws.specs.Chores.{unsent_of, served_count, chores}
 use Rattle.clocked_laws.specs.Charges.{charge, begins_operation}
-use Rattle.clocked_laws.specs.Costs.{if_made, cost, cost_of}
+use Rattle.clocked_laws.specs.Costs.{cost_if_made, cost, cost_of}
 use Rattle.clocked_laws.specs.NetRuns.{net_run}
 use Rattle.clocked_laws.specs.Guarded.{without_begins}
 use Rattle.clocked_laws.proofs.Charges.{step_charges}
@@ -148,7 +148,7 @@ module _ (l : Load) (ok : IsAcceptedLoad l) where
       net_append (design_of l) (empty (net_of (design_of l))) (first_state l) xs (a ∷ [])
       ∙ ap (λ e. network_after (net_of (design_of l)) (net_run (design_of l) (empty (net_of (design_of l))) (first_state l) xs) e)
       (still (design_of l) (after l xs) a is) in
-      let none : cost (design_of l) (after l xs) a ≡ 0 = ap (λ o. if_made o (charge (agent_kind a.agent) a.choice)) is in
+      let none : cost (design_of l) (after l xs) a ≡ 0 = ap (λ o. cost_if_made o (charge (agent_kind a.agent) a.choice)) is in
       let same : left_to_do (xs ++ a ∷ []) ≡ left_to_do xs =
       ap (λ g. burden (net_of (design_of l)) g + 30 * sum_below (tiles_of l.shape) (λ b. unsent_of (tile_at (after l (xs ++ a ∷ [])) b).bank.to_put)) net
       ∙ ap (λ (u : State). burden (net_of (design_of l)) (net_run (design_of l) (empty (net_of (design_of l))) (first_state l) xs)
@@ -162,7 +162,7 @@ module _ (l : Load) (ok : IsAcceptedLoad l) where
       let behind : state_after l (xs ++ a ∷ []) (suc (length xs)) ≡ after l (xs ++ a ∷ []) = ap (after l) all in
       let falls = step_charges l ok (xs ++ a ∷ []) (length xs) a u (get_last xs a) (ap (λ (v : State). step (design_of l) v a) before ∙ is)
       (ap (λ (v : State). begins_operation v a) before ∙ begin) in
-      let counts : cost (design_of l) (after l xs) a ≡ charge (agent_kind a.agent) a.choice = ap (λ o. if_made o (charge (agent_kind a.agent) a.choice)) is in
+      let counts : cost (design_of l) (after l xs) a ≡ charge (agent_kind a.agent) a.choice = ap (λ o. cost_if_made o (charge (agent_kind a.agent) a.choice)) is in
       let now = chores_before xs a in
       let chores_then : chores l (xs ++ a ∷ []) (suc (length xs)) ≡ left_to_do (xs ++ a ∷ []) =
       ap (chores l (xs ++ a ∷ [])) (sym (longer xs a)) ∙ chores_are (xs ++ a ∷ []) in

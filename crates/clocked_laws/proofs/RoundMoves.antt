@@ -25,7 +25,7 @@ use Rattle.core_laws.proofs.Books.{after_append}
 use Rattle.core_laws.proofs.Steps.{IsThere}
 use Rattle.core_laws.proofs.Stands.{tile_at}
 use Rattle.clocked_laws.specs.Charges.{charge, is_begin}
-use Rattle.clocked_laws.specs.Costs.{if_made, cost, cost_of}
+use Rattle.clocked_laws.specs.Costs.{cost_if_made, cost, cost_of}
 use Rattle.clocked_laws.proofs.Ready.{IsSteady}
 use Rattle.clocked_laws.proofs.Frames.{put_told}
 use Rattle.clocked_laws.proofs.IdleWants.{idle_want}
@@ -80,7 +80,7 @@ module _ (d : Design) (a : Step) (w : Want) where
 
   -- the choice where it comes: what it costs, where it is enabled
   it_costs : (s : State) → (c : ℕ) → charge (agent_kind a.agent) a.choice ≡ c → IsThere (step d s a) → cost d s a ≡ c
-  it_costs s c counts there = ap (λ o. if_made o (charge (agent_kind a.agent) a.choice)) there.1 ∙ counts
+  it_costs s c counts there = ap (λ o. cost_if_made o (charge (agent_kind a.agent) a.choice)) there.1 ∙ counts
 
   -- a choice on a list, and what is done before it
   on_list : (Q : State → Type 0) (c : ℕ) → charge (agent_kind a.agent) a.choice ≡ c

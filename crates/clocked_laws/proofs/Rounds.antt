@@ -21,7 +21,7 @@ use Rattle.core_laws.specs.Core.{State, step, next, or_same, after_from}
 use Rattle.core_laws.proofs.Steps.{IsThere, map_there, agent_there}
 use Rattle.core_laws.proofs.Stands.{IsInPhase, tile_at, no_tile}
 use Rattle.clocked_laws.specs.Charges.{charge}
-use Rattle.clocked_laws.specs.Costs.{if_made, cost, cost_of}
+use Rattle.clocked_laws.specs.Costs.{cost_if_made, cost, cost_of}
 use Rattle.clocked_laws.proofs.Charges.{HasStepped, has_stepped}
 use Rattle.clocked_laws.proofs.Frames.{Keeps, keeps_same, Made, made, no_put}
 use Rattle.clocked_laws.proofs.Rings.{Held, Comes, held_kept, comes_kept}
@@ -140,7 +140,7 @@ along d Q Ok c each (a ∷ steps) s oks q =
     by_step None is rest = on (rest (subst Q (sym (ap (or_same s) is)) q))
     by_step (Some after) is rest = ⊎_elim
         (λ (done : c ≤ charge (agent_kind a.agent) a.choice).
-        let here : cost d s a ≡ charge (agent_kind a.agent) a.choice = ap (λ o. if_made o (charge (agent_kind a.agent) a.choice)) is in
+        let here : cost d s a ≡ charge (agent_kind a.agent) a.choice = ap (λ o. cost_if_made o (charge (agent_kind a.agent) a.choice)) is in
         inl (omega (arith, done, here)))
         (λ (kept : Q after). on (rest (subst Q (sym (ap (or_same s) is)) kept)))
         (each s a after (oks [] (a ∷ steps) refl) q is)

@@ -7,13 +7,13 @@ use Rattle.core_laws.specs.Core.{State, step, next}
 use Rattle.clocked_laws.specs.Charges.{charge}
 
 -- so much, where there is a next state
-abbrev pub if_made : Option State → ℕ → ℕ
-if_made None cost = 0
-if_made (Some s) cost = cost
+abbrev pub cost_if_made : Option State → ℕ → ℕ
+cost_if_made None cost = 0
+cost_if_made (Some s) cost = cost
 
 -- what an attempt does: nothing where it isn't enabled
 abbrev pub cost : Design → State → Step → ℕ
-cost d s a = if_made (step d s a) (charge (agent_kind a.agent) a.choice)
+cost d s a = cost_if_made (step d s a) (charge (agent_kind a.agent) a.choice)
 
 -- what a list of them does, one after the other
 abbrev pub cost_of : Design → State → List Step → ℕ
