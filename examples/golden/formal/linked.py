@@ -48,13 +48,13 @@ def of_torus(folder, given, shape):
     if sorted(tiles) != list(range(shape.tiles)):
         return wrong + ["not every tile is there once"]
     hops = 8 * shape.dims
-    receivers = {table.channel_in(shape, t, p): (t, p) for t in range(shape.tiles) for p in range(hops)}
+    receivers = {shape.input(t, p): (t, p) for t in range(shape.tiles) for p in range(hops)}
     for t in range(shape.tiles):
         if tiles[t]["clock"] != ports["clock"] or tiles[t]["reset"] != ports["reset"]:
             wrong.append(f"tile {t}: clock or reset")
         wrong += [f"tile {t}: {it}" for it, width in PARTS.items() if tiles[t][it] != sliced(ports[it], t, width)]
         for p in range(hops):
-            to, at = receivers[table.channel_out(shape, t, p)]
+            to, at = receivers[shape.output(t, p)]
             ends = [("hop_out_put", "hop_in_put", 1), ("hop_out_flit", "hop_in_flit", 64), ("hop_out_credit", "hop_in_credit", 1)]
             wrong += [f"output {p} of tile {t}: {one}" for one, other, width in ends
                       if sliced(tiles[t][one], p, width) != sliced(tiles[to][other], at, width)]

@@ -55,7 +55,7 @@ def goals_of(top, given):
         held, full = top.held(i, "held"), top.held(i, "full")
         destination = f"{held}[56:51]"
         for to in range(shape.tiles):
-            output = shape.output(given.tile, i, to, table.class_of(shape, i))
+            output = shape.way(given.tile, i, to, table.class_of(shape, i) == 1)
             head = f"{full} && {held}[62] && {held}[57] == {table.class_of(shape, i)} && {destination} == {to}"
             if table.may_own(shape, i, output):
                 bad["routes"].append(f"({head} && {top.wires[f'inputs[{i}].wanted']} != {output})")

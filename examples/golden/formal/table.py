@@ -8,7 +8,7 @@
     table.py page                                        # compares the words of table.txt with docs/FLITS-AND-PORTS.md
 
 The module has the ports and registers of ../cosim/router.v, so that the two can be stepped side by side, and compared
-register by register. Its routes are a list, taken from the model in plain Python (wrappers/python/tests/model.py). Its
+register by register. Its routes are a list, taken from the tools' model (tools/torusmem_tools/model/torus.py). Its
 output `assumed` says whether its registers are ones that a machine can leave.
 """
 
@@ -19,8 +19,8 @@ import sys
 
 HERE = os.path.dirname(os.path.realpath(__file__))
 ROOT = os.path.join(HERE, "..", "..", "..")
-sys.path.insert(0, os.path.join(ROOT, "wrappers", "python", "tests"))
-from model import Shape  # noqa: E402  (the folder of the tests of wrappers/python is no package)
+sys.path.insert(0, os.path.join(ROOT, "tools"))
+from torusmem_tools.model.torus import Shape  # noqa: E402
 
 OPERATIONS = {"swap": 1, "store": 2, "load": 3}  # as router.v numbers them
 LINES = ("does", "idle", "word", "condition", "operation", "place", "stored", "moves")
@@ -135,24 +135,12 @@ def may_own(shape, source, target):
     return target // 4 == source // 4 and target % 2 >= source % 2
 
 
-def channel_in(shape, tile, port):
-    """The channel at an input, by its place among all channels."""
-    if port >= 8 * shape.dims:
-        return shape.channel(tile, port)
-    return shape.channel(shape.neighbour(tile, port // 8, 1 - port // 4 % 2), port)
-
-
-def channel_out(shape, tile, port):
-    """The channel at an output: the ejections stand behind the injections."""
-    return shape.channel(tile, port if port < 8 * shape.dims else port + 2)
-
-
 def routes(shape, tiles):
     """The output for each tile, input and destination."""
     for tile in tiles:
         for port in range(shape.ports):
             for destination in range(shape.tiles):
-                yield tile, port, destination, shape.output(tile, port, destination, class_of(shape, port))
+                yield tile, port, destination, shape.way(tile, port, destination, class_of(shape, port) == 1)
 
 
 def function(width, name, arguments, selector, rows):
@@ -167,8 +155,8 @@ def lists(shape, tiles):
     ports = [(tile, port) for tile in tiles for port in range(shape.ports)]
     of_tile = "input [5:0] t, input [4:0] p"
     way = [(f"17'd{t << 11 | p << 6 | d}", o) for t, p, d, o in routes(shape, tiles)]
-    into = [(f"11'd{t << 5 | p}", channel_in(shape, t, p)) for t, p in ports]
-    out = [(f"11'd{t << 5 | p}", channel_out(shape, t, p)) for t, p in ports]
+    into = [(f"11'd{t << 5 | p}", shape.input(t, p)) for t, p in ports]
+    out = [(f"11'd{t << 5 | p}", shape.output(t, p)) for t, p in ports]
     classes = [(f"5'd{p}", class_of(shape, p)) for p in range(shape.ports)]
     return (function(5, "route", of_tile + ", input [5:0] d", "{t, p, d}", way)
             + function(32, "channel_in", of_tile, "{t, p}", into)
