@@ -35,3 +35,4 @@ pub mod SpanLists
 pub mod Cutting
 pub mod Fills
 pub mod Repeats
+mod SpanExamples
