@@ -84,6 +84,7 @@ NUMBERS: list[tuple[tuple[str, ...], str, Callable[[Tree], int | None]]] = [
     (INSIDE, r"no more than (\d+) for each operation", lambda t: stands("crates/core_laws/specs/ProgressMoves.antt", 241)),
     ((PROVED,), r"reaches the same (\d+) functions of C", lambda t: len(trusted("torusmem"))),
     ((PROVED,), r"`axioms=(\d+)`", lambda t: len(trusted("torusmem"))),
+    ((PROVED,), r"reaches (\d+) functions of C more", lambda t: len(threads("torusmem"))),
     ((PROVED,), r"(\d+) of `libc`", lambda t: len(trusted("torusmem", "libc::"))),
     ((PROVED,), r"(\d+) of `os`", lambda t: len(trusted("torusmem", "os::"))),
     ((PROVED,), r"of the library for C reaches (\d+)", lambda t: len(trusted("torusmem_c"))),
