@@ -1,0 +1,2 @@
+pub mod CircularJams
+pub mod Lengths
