@@ -19,7 +19,7 @@ paper, and letters of 7 points.
 
 With --network the packets of a traffic text go through a written network whose routers don't choose, in the clocked rounds of
 `tools/network simulate`: a disc is a flit in the colour of its packet, in its channel or, at the border of a router, in the
-latch behind it. At most 320 channels.
+latch behind it. At most 1024 channels (an 8x8 mesh has 352).
 """
 from __future__ import annotations
 

@@ -22,16 +22,23 @@
   mesh WxH     a router at each place; packets go along the rows first, then along the columns. `--mixed`: to
                every other router (by the sum of its digits) along the columns first
                Routers that choose: `--adaptive` (any way that brings a packet nearer, on a first channel of each link;
-               the escapes, on a second, along the rows first), `--west-first`, `--odd-even` (by these turns, on one)
+               the escapes, on a second, along the rows first), `--west-first`, `--north-last`, `--negative-first`,
+               `--odd-even` (by these turns, on one)
   ring N       one way round. `--dateline`: two channels on each link, the second from the dateline on
   torus R0xR1  the torus of `torusmem channels`, its channels in that order, with both classes and replies. `--adaptive`:
-               three channels on each link, of which the first takes any way that brings a packet nearer
+               three channels on each link, of which the first takes any way that brings a packet nearer. `--plain`: one
+               class without replies, on one channel of each link, along the dimensions in order; with `--dateline` on two
   tree N       a binary tree: up to the common ancestor, then down
+  hypercube N  routers with N binary digits: along the dimensions in order. `--adaptive`: along any on a first channel of each
+               link; the escapes, on a second, in order
+  hyperx S0xS1 routers that differ in one digit have a link: as in a hypercube
   fat-tree KxL L levels of routers with K links up and down: up by any link to a common ancestor, then down
   dragonfly A  groups of A routers, each with one link to another group: straight there, or by way of any group
   up-down FILE the topology of an `anynet` file: up towards a root by any link, then down
-  from-table   routing tables, as CSV with the header `router,destination,next,virtual,escape`: the last column is
-               empty or `escape`
+  from-table   routing tables, as CSV: a row `router,destination,next,virtual` for each choice, and maybe the columns `escape`
+               (empty or `escape`: the channel is an escape), `from` and `in`: the row is of packets that came from this
+               router (its own: of its sender), and by this virtual channel; empty: of all. The first line names the
+               columns. Routers have numbers or names
   table FILE   CSV with the header `line`: each row is a line of the text, its words as columns
   from-booksim the topology of BookSim's `anynet`: `router 0 node 0 router 1 ..`; shortest paths by the number
                of links, the router of the lowest number first
@@ -76,6 +83,8 @@ column is 252 points wide. A picture has at most 4,096 channels.
 cache coherence (request, forward, response: 3). Each class has channels of its own; with `--shared` all go over the same
 hops, and only the ends are apart.
 
+`--vcs N` puts N virtual channels in place of each hop, of which routers take any.
+
 `--names` writes lines with names, too, which change no verdict: `router R NAME X Y`, and `link CHANNEL FROM TO VIRTUAL`
 (the routers; of an injection or ejection channel both are the same). A line `name CHANNEL WORDS` is read, too.
 
@@ -100,6 +109,7 @@ from torusmem_tools.model.network import Network, channel_dependencies, parsed
 from torusmem_tools.model.network_verdict import Verdict, explained, verdict_of, verdict_read
 from torusmem_tools.model.network_words import generated, text_of
 from torusmem_tools.model.packet_rounds import ARBITERS, simulated
+from torusmem_tools.model.turn_models import TURNS
 from torusmem_tools.model.wormhole import replayed
 from torusmem_tools.texts.network_rows import table
 
@@ -164,10 +174,11 @@ def drawn(net: Network, path: str, on: Optional[paper.Paper]) -> str:
     return made
 
 
-GENERATORS = ("mesh", "ring", "torus", "tree", "fat-tree", "dragonfly", "up-down", "from-table", "from-booksim", "from-garnet")
+GENERATORS = ("mesh", "ring", "torus", "tree", "hypercube", "hyperx", "fat-tree", "dragonfly", "up-down", "from-table", "from-booksim", "from-garnet")
 # Of which words each option is of use.
 DRAWN = ("packets", "rate", "length", "pattern", "digits", "seed")
-USES = {**{it: ("traffic",) for it in DRAWN}, "mixed": ("mesh",), "adaptive": ("mesh", "torus"), "west_first": ("mesh",), "odd_even": ("mesh",), "dateline": ("ring",),
+USES = {**{it: ("traffic",) for it in DRAWN}, "mixed": ("mesh",), "adaptive": ("mesh", "torus", "hypercube", "hyperx"), **{it.replace("-", "_"): ("mesh",) for it in TURNS},
+        "dateline": ("ring", "torus"), "plain": ("torus",), "vcs": GENERATORS,
         "ordered": ("from-garnet",), "set": ("from-garnet",), "classes": GENERATORS, "shared": GENERATORS,
         "svg": (*GENERATORS, "walk"), "names": GENERATORS, "explain": ("walk",),
         "verdict": (*GENERATORS, "walk", "run"), "depth": ("run", "replay", "simulate"), "arbiter": ("simulate",), "moves": ("replay", "simulate")}
@@ -180,10 +191,12 @@ def asked() -> Namespace:
     words.add_argument("which", metavar="SIZE|FILE")
     words.add_argument("moves", metavar="RUN|TRAFFIC", nargs="?", help="of replay: the moves; of simulate: the packets")
     words.add_argument("--mixed", action="store_true", help="of a mesh: to some routers the columns first")
-    words.add_argument("--adaptive", action="store_true", help="of a mesh or a torus: any way that brings packets nearer")
-    words.add_argument("--west-first", action="store_true", help="of a mesh: any way, to the west first")
-    words.add_argument("--odd-even", action="store_true", help="of a mesh: any way, by the odd-even turns")
-    words.add_argument("--dateline", action="store_true", help="of a ring: two channels on each link")
+    words.add_argument("--adaptive", action="store_true", help="of a mesh, torus, hypercube or hyperx: any way that brings packets nearer")
+    for name in TURNS:
+        words.add_argument(f"--{name}", action="store_true", help=f"of a mesh: any way, by the {name} turns")
+    words.add_argument("--plain", action="store_true", help="of a torus: one class of packets, without replies")
+    words.add_argument("--dateline", action="store_true", help="of a ring, or of torus --plain: two channels on each link")
+    words.add_argument("--vcs", type=command.whole(2, 16), metavar="N", help="so many virtual channels for each hop, 2 to 16, of which routers take any")
     words.add_argument("--ordered", action="store_true", help="of from-garnet: the first of the links that it may take")
     words.add_argument("--set", action="append", metavar="NAME=VALUE", help="of from-garnet: an option of the description")
     words.add_argument("--classes", type=command.whole(2, 16), metavar="N", help="so many message classes, 2 to 16")
@@ -218,8 +231,13 @@ def check_together(given: Namespace) -> None:
         raise command.WrongWords("--shared is of use with --classes alone (--help says more)")
     if given.verdict and given.what in GENERATORS and not given.svg:
         raise command.WrongWords("--verdict is of use with --svg, walk and run alone (--help says more)")
-    if sum((given.mixed, given.adaptive, given.west_first, given.odd_even)) > 1:
-        raise command.WrongWords("--mixed, --adaptive, --west-first and --odd-even exclude one another (--help says more)")
+    ways = ["mixed", "adaptive", *TURNS]
+    if sum(getattr(given, it.replace("-", "_")) for it in ways) > 1:
+        raise command.WrongWords(f"{', '.join(f'--{it}' for it in ways[:-1])} and --{ways[-1]} exclude one another (--help says more)")
+    if given.plain and given.adaptive:
+        raise command.WrongWords("--plain is of no use with --adaptive (--help says more)")
+    if given.dateline and given.what == "torus" and not given.plain:
+        raise command.WrongWords("--dateline is of use with ring and torus --plain alone (--help says more)")
     command.refuse_twice(given.which, given.moves, given.verdict)
 
 

@@ -17,7 +17,7 @@ from torusmem_tools.model.network import Network
 from torusmem_tools.model.packet_rounds import MOST_ROUNDS as MOST_MADE, Course, Packet, Simulation
 
 # Of no network with more channels a page is made.
-MOST_CHANNELS = 320
+MOST_CHANNELS = 1024
 # How much larger than on paper the network is drawn where the page has no width, and how long its links are.
 LARGER, LINK = 1.75, 46.0
 # How far the flits in a sender or a latch stand from each other, in the picture's units.

@@ -3,15 +3,14 @@ from __future__ import annotations
 
 import math
 from collections import deque
-from typing import Callable, Dict, Iterable, List, Set, Tuple
+from typing import Dict, Iterable, List, Set, Tuple
 
 from torusmem_tools.command import Refusal
-from torusmem_tools.model.network import Network, Router, number_of
+from torusmem_tools.model.network import Network, Router
 from torusmem_tools.model.router_places import grid, torus_router
 
 # Directions of a mesh: east, west, north (the row number falls), south.
 STEPS = {"E": (1, 0), "W": (-1, 0), "N": (0, -1), "S": (0, 1)}
-Turn = Callable[[int, str, str], bool]
 # The channels of hops, by two routers or groups and a virtual channel.
 Hops = Dict[Tuple[int, int, int], int]
 
@@ -65,42 +64,6 @@ def inputs(net: Network, inject: Dict[int, int]) -> Dict[int, List[int]]:
         if net.kinds[x] == "hop":
             found.setdefault(link.end, []).append(x)
     return found
-
-
-def west_first(column: int, came: str, goes: str) -> bool:
-    """No turn into the west (Glass and Ni, The turn model for adaptive routing, ISCA 1992)."""
-    return goes != "W" or came in ("W", "")
-
-
-def odd_even(column: int, came: str, goes: str) -> bool:
-    """No turn from the east to the north or south in an even column, and none from there to the west in an odd one
-    (Chiu, The odd-even turn model for adaptive routing, IEEE TPDS 11(7), 2000)."""
-    if came == "E" and goes in ("N", "S"):
-        return column % 2 == 1
-    return not (came in ("N", "S") and goes == "W" and column % 2 == 1)
-
-
-def turned(width: int, height: int, may: Turn) -> Network:
-    """A mesh with one channel on each link, minimal, by a rule for turns: all that still lead to the destination."""
-    net = Network()
-    routers = range(width * height)
-    inject, eject = ends(net, routers)
-    hops = {(r, d): net.channel("hop", r, neighbour(width, height, r, d))
-            for r in routers for d in STEPS if neighbour(width, height, r, d) >= 0}
-    grid(net, width, height)
-    for goal in routers:
-        open_: Dict[Tuple[int, str], List[str]] = {}
-        # nearest routers first, so that those behind a choice are known
-        for r in sorted(routers, key=lambda it: abs(it % width - goal % width) + abs(it // width - goal // width)):
-            for came in ("", *STEPS):
-                open_[r, came] = [d for d in nearer(width, r, goal) if may(r % width, came, d)
-                                  and (neighbour(width, height, r, d) == goal or open_[neighbour(width, height, r, d), d])]
-        for r in routers:
-            net.choose(inject[r], eject[goal], [eject[goal]] if r == goal else [hops[r, d] for d in open_[r, ""]])
-        for (r, d), x in hops.items():
-            s = neighbour(width, height, r, d)
-            net.choose(x, eject[goal], [eject[goal]] if s == goal else [hops[s, e] for e in open_[s, d]])
-    return net
 
 
 def adaptive_torus(radices: List[int]) -> Network:
@@ -252,34 +215,3 @@ def leave(local: Hops, world: Hops, door: Dict[Tuple[int, int], int], r: int, go
         elif not stays:
             found.append(local[r, door[g, h], level])
     return sorted(set(found))
-
-
-def from_table(rows: List[List[str]], path: str) -> Network:
-    """Routing tables: rows of router, destination, next router, virtual channel, and whether it is an escape."""
-    net = Network()
-    hops: Dict[Tuple[int, int, int], int] = {}
-    taken: Dict[Tuple[int, int], List[Tuple[int, int]]] = {}
-    escapes = set()
-    for number, row in enumerate(rows, 2):
-        figures = [number_of(word) for word in row[:4]]
-        if len(row) not in (4, 5) or min(figures) < 0 or row[4:] not in ([], [""], ["escape"]):
-            raise Refusal(f"{path}, line {number}: it is no row `router,destination,next,virtual`, or with `escape` behind it")
-        r, goal, s, v = figures
-        taken.setdefault((r, goal), []).append((s, v))
-        if row[4:] == ["escape"]:
-            escapes.add((r, s, v))
-    routers = sorted({r for r, _ in taken} | {goal for _, goal in taken} | {s for it in taken.values() for s, _ in it})
-    inject, eject = ends(net, routers)
-    net.routers = {r: Router(str(r)) for r in routers}
-    for (r, _), it in sorted(taken.items()):
-        for s, v in it:
-            if (r, s, v) not in hops:
-                hops[r, s, v] = net.channel("hop", r, s, v)
-    net.escapes = {hops[it] for it in escapes}
-    into = inputs(net, inject)
-    for goal in routers:
-        for r in routers:
-            chosen = [eject[goal]] if r == goal else [hops[r, s, v] for s, v in taken.get((r, goal), [])]
-            for x in into[r]:
-                net.choose(x, eject[goal], chosen)
-    return net

@@ -5,12 +5,14 @@ from argparse import Namespace
 from typing import Dict, List
 
 from torusmem_tools import command
-from torusmem_tools.model import adaptive_networks, deterministic_networks
+from torusmem_tools.model import adaptive_networks, cubes, deterministic_networks
 from torusmem_tools.model.message_classes import classed
 from torusmem_tools.model.network import Network, number_of
+from torusmem_tools.model.turn_models import TURNS, turned
+from torusmem_tools.model.virtual_channels import multiplied
 from torusmem_tools.texts.anynet import anynet, booksim
 from torusmem_tools.texts.garnet import garnet
-from torusmem_tools.texts.network_rows import rows_of
+from torusmem_tools.texts.routing_table import from_table
 
 
 def sizes(word: str, most: int) -> List[int]:
@@ -39,8 +41,10 @@ def options_of(words: List[str]) -> Dict[str, object]:
 
 
 def generated(given: Namespace) -> Network:
-    """The network that the command line describes, with its message classes."""
+    """The network that the command line describes, with its virtual channels and message classes."""
     net = described(given)
+    if given.vcs:
+        net = multiplied(net, given.vcs)
     return classed(net, given.classes, given.shared) if given.classes else net
 
 
@@ -53,20 +57,41 @@ def described(given: Namespace) -> Network:
     if given.what == "up-down":
         return adaptive_networks.up_down(*anynet(text_of(given.which), given.which))
     if given.what == "from-table":
-        rows = rows_of(text_of(given.which), given.which, "router", "destination", "next", "virtual", "escape")
-        return adaptive_networks.from_table(rows, given.which)
+        return from_table(text_of(given.which), given.which)
+    return of_size(given)
+
+
+def of_size(given: Namespace) -> Network:
+    """The network of a size that the command line gives."""
+    most = {"mesh": 2, "fat-tree": 2, "torus": 3, "hyperx": 3}.get(given.what, 1)
+    size = sizes(given.which, most)
     if given.what == "mesh":
-        width, height = (*sizes(given.which, 2), *sizes(given.which, 2))[:2]
-        if given.adaptive:
-            return adaptive_networks.adaptive_mesh(width, height)
-        if given.west_first or given.odd_even:
-            return adaptive_networks.turned(width, height, adaptive_networks.west_first if given.west_first else adaptive_networks.odd_even)
-        return deterministic_networks.mesh(width, height, given.mixed)
+        return mesh(given, *(*size, *size)[:2])
     if given.what == "torus":
-        return adaptive_networks.adaptive_torus(sizes(given.which, 3)) if given.adaptive else deterministic_networks.torus(sizes(given.which, 3))
+        return torus(given, size)
     if given.what == "fat-tree":
-        return adaptive_networks.fat_tree(*(*sizes(given.which, 2), 2)[:2])
-    (count,) = sizes(given.which, 1)
+        return adaptive_networks.fat_tree(*(*size, 2)[:2])
+    if given.what == "hyperx":
+        return cubes.hyperx(size, given.adaptive)
+    if given.what == "hypercube":
+        return cubes.hypercube(size[0], given.adaptive)
     if given.what == "dragonfly":
-        return adaptive_networks.dragonfly(count)
-    return deterministic_networks.ring(count, given.dateline) if given.what == "ring" else deterministic_networks.tree(count)
+        return adaptive_networks.dragonfly(size[0])
+    return deterministic_networks.ring(size[0], given.dateline) if given.what == "ring" else deterministic_networks.tree(size[0])
+
+
+def mesh(given: Namespace, width: int, height: int) -> Network:
+    """A mesh by its option."""
+    if given.adaptive:
+        return adaptive_networks.adaptive_mesh(width, height)
+    for name, may in TURNS.items():
+        if getattr(given, name.replace("-", "_")):
+            return turned(width, height, may)
+    return deterministic_networks.mesh(width, height, given.mixed)
+
+
+def torus(given: Namespace, radices: List[int]) -> Network:
+    """A torus by its option."""
+    if given.adaptive:
+        return adaptive_networks.adaptive_torus(radices)
+    return cubes.plain_torus(radices, given.dateline) if given.plain else deterministic_networks.torus(radices)
