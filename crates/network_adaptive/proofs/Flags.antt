@@ -1,12 +1,12 @@
 -- Flags that are raised, and what is up then.
-use Rattle.std.proofs.Common.{◌≡◌, ◌≢◌, ◌⊎◌, inl, inr, ⊎_elim, ℕ, zero, suc, ◌+◌, ◌*◌, ◌<◌, ◌≤◌, ◌&&◌, ◌||◌, not, Bool, true, false, cond, List, [], ◌∷◌, length, set, refl, sym, ◌∙◌, ap, subst, arith, eq-eqb}
+use Rattle.std.proofs.Common.{◌≡◌, ◌≢◌, ◌⊎◌, inl, inr, ⊎_elim, ℕ, zero, suc, ◌+◌, ◌*◌, ◌<◌, ◌≤◌, ◌&&◌, ◌||◌, not, Bool, true, false, cond, List, [], ◌∷◌, ◌++◌, length, set, get_or, refl, sym, ◌∙◌, ap, subst, arith, eq-eqb}
 use Rattle.std.specs.Prelude.{nat_lt, slice_index, ◌==◌}
 use Rattle.std.proofs.lemmas.Bool.{cases_eq, cases_lt, eqb-true, ltb-true, lt-ltb, and_parts, and_from, or_left, or_right}
-use Rattle.std.proofs.lemmas.List.{get_or-set_same, get_or-set_other, length-set}
+use Rattle.std.proofs.lemmas.List.{get_or-set_same, get_or-set_other, length-set, get_or_read, length_push, get_or_push, get_or_append_left}
 use Rattle.std.proofs.lemmas.List.Sums.{sum_by-set}
 use Rattle.network_judge.specs.declared.table.Kind.{Kind}
 use Rattle.network_judge.specs.Marks.{is_marked_at}
-use Rattle.network_adaptive.specs.Spread.{Path, Stop, Go, any_below, names, opens, leads_on, choice_step, down, HasMore, HasPassed, AreLed}
+use Rattle.network_adaptive.specs.Spread.{Path, Stop, Go, any_below, names, opens, leads_on, choice_step, down, AreListed, HasMore, AreLed, HasSpread}
 
 pub or_cases : (a b : Bool) → (a || b) ≡ true → (a ≡ true) ⊎ (b ≡ true)
 or_cases true b e = inl refl
@@ -61,6 +61,69 @@ fewer_down flags y low e =
     let was : cond {A = ℕ} (not (is_marked_at flags y)) 1 0 ≡ 1 = ap (λ b. cond {A = ℕ} (not b) 1 0) e in
     omega (arith, s, was)
 
+-- one number more in a list, and its flag
+pub listed_push : (flags : List Bool) (list : List ℕ) (y : ℕ) → y < length flags → AreListed flags list
+    → AreListed (set flags y true) (list ++ y ∷ [])
+listed_push flags list y low a = record {
+  each = λ k l. elim (cases_lt k (length list)) [
+    | inl less ↦ ap (is_marked_at (set flags y true)) (get_or_append_left list (y ∷ []) 0 k less) ∙ set_keeps flags y (slice_index list k) low (a.each k less)
+    | inr high ↦ (let n = length_push list y in
+        let here : length list ≡ k = omega arith in
+        ap (is_marked_at (set flags y true)) (get_or_push list y 0 k here) ∙ set_here flags y low)
+  ];
+  all = λ x up. ⊎_elim
+      (λ (here : x ≡ y). let n = length_push list y in (length list, omega arith, get_or_push list y 0 (length list) refl ∙ sym here))
+      (λ (was : is_marked_at flags x ≡ true).
+      let r = a.all x was in
+      let less = r.1 in
+      let n = length_push list y in
+      (r.0, omega arith, get_or_append_left list (y ∷ []) 0 r.0 less ∙ r.2))
+      (set_only flags y x up);
+}
+
+-- one flag, and its channel in a list
+pub listed_one : (none : List Bool) (x : ℕ) → ((y : ℕ) → is_marked_at none y ≡ false) → x < length none → AreListed (set none x true) ([] ++ x ∷ [])
+listed_one none x down low = listed_push none [] x low (record {
+  each = λ k l. absurd (omega arith);
+  all = λ y up. (let bad : true ≡ false = sym up ∙ down y in absurd (cc));
+})
+
+-- the flags below m are listed
+pub record AreListedSo (flags : List Bool) (list : List ℕ) (m : ℕ) : Type 0 where
+  pub each : (k : ℕ) → k < length list → is_marked_at flags (slice_index list k) ≡ true
+  pub all : (x : ℕ) → x < m → is_marked_at flags x ≡ true → (k : ℕ) × (k < length list) × (slice_index list k ≡ x)
+
+pub list_begin : (flags : List Bool) → AreListedSo flags [] 0
+list_begin flags = record { each = λ k l. absurd (omega arith); all = λ x l. absurd (omega arith) }
+
+pub list_skip : (flags : List Bool) (list : List ℕ) (x m : ℕ) → m ≡ suc x → is_marked_at flags x ≡ false → AreListedSo flags list x
+    → AreListedSo flags list m
+list_skip flags list x m e down a = record {
+  each = a.each;
+  all = λ y l up. elim (cases_lt y x) [
+    | inl less ↦ a.all y less up
+    | inr high ↦ (let here : y ≡ x = omega arith in
+        let bad : true ≡ false = sym up ∙ (ap (is_marked_at flags) here ∙ down) in absurd (cc))
+  ];
+}
+
+pub list_more : (flags : List Bool) (list : List ℕ) (x m : ℕ) → m ≡ suc x → is_marked_at flags x ≡ true → AreListedSo flags list x
+    → AreListedSo flags (list ++ x ∷ []) m
+list_more flags list x m e up a =
+    let n = length_push list x in
+    record {
+      each = λ k l. elim (cases_lt k (length list)) [
+        | inl less ↦ ap (is_marked_at flags) (get_or_append_left list (x ∷ []) 0 k less) ∙ a.each k less
+        | inr high ↦ (let here : length list ≡ k = omega arith in ap (is_marked_at flags) (get_or_push list x 0 k here) ∙ up)
+      ];
+      all = λ y l was. elim (cases_lt y x) [
+        | inl less ↦ (let r = a.all y less was in
+            let low = r.1 in
+            (r.0, omega arith, get_or_append_left list (x ∷ []) 0 r.0 low ∙ r.2))
+        | inr high ↦ (let here : y ≡ x = omega arith in (length list, omega arith, get_or_push list x 0 (length list) refl ∙ sym here))
+      ];
+    }
+
 module _ (count : ℕ) (choices : List ℕ) (start : ℕ) (shut : List Bool) where
   -- what is chosen at one place more
   open_more : (k z : ℕ) → opens count choices start k shut z ≡ true → opens count choices start (suc k) shut z ≡ true
@@ -87,10 +150,10 @@ module _ (count : ℕ) (choices : List ℕ) (start : ℕ) (shut : List Bool) whe
       (and_from (not (is_marked_at shut z)) (names choices start k z) b.0 rest)))
       (or_cases (slice_index choices (start + k) == z) (names choices start k z) b.1)
 
-  module _ (old seen : List Bool) (changed : Bool) (k y : ℕ) (same : slice_index choices (start + k) ≡ y) (low : y < count)
+  module _ (old seen : List Bool) (list longer : List ℕ) (k y : ℕ) (same : slice_index choices (start + k) ≡ y) (low : y < count)
       (free : is_marked_at shut y ≡ false) (size : length seen ≡ count)
-      (h : HasMore (opens count choices start k shut) old seen changed) where
-    raised : is_marked_at seen y ≡ false → HasMore (opens count choices start (suc k) shut) old (set seen y true) true
+      (h : HasMore (opens count choices start k shut) old seen list longer) where
+    raised : is_marked_at seen y ≡ false → HasMore (opens count choices start (suc k) shut) old (set seen y true) list (longer ++ y ∷ [])
     raised was = record {
       size = length-set seen y true ∙ h.size;
       kept = λ z e. set_keeps seen y z (omega arith) (h.kept z e);
@@ -105,11 +168,13 @@ module _ (count : ℕ) (choices : List ℕ) (start : ℕ) (shut : List Bool) whe
           (λ (here : z ≡ y). ap (is_marked_at (set seen y true)) here ∙ set_here seen y (omega arith))
           (λ (b : opens count choices start k shut z ≡ true). set_keeps seen y z (omega arith) (h.all z b))
           (open_next k y z same e);
-      same = λ e. cc;
-      fewer = (let one = fewer_down seen y (omega arith) was in let rest = h.fewer in omega arith);
+      listed = λ a. listed_push seen longer y (omega arith) (h.listed a);
+      long = (let m = h.long in let n = length_push longer y in omega arith);
+      front = λ i l. get_or_append_left longer (y ∷ []) 0 i (let m = h.long in omega arith) ∙ h.front i l;
+      fewer = (let one = fewer_down seen y (omega arith) was in let rest = h.fewer in let n = length_push longer y in omega arith);
     }
 
-    stayed : is_marked_at seen y ≡ true → HasMore (opens count choices start (suc k) shut) old seen changed
+    stayed : is_marked_at seen y ≡ true → HasMore (opens count choices start (suc k) shut) old seen list longer
     stayed up = record {
       size = h.size;
       kept = h.kept;
@@ -121,21 +186,25 @@ module _ (count : ℕ) (choices : List ℕ) (start : ℕ) (shut : List Bool) whe
           (λ (here : z ≡ y). ap (is_marked_at seen) here ∙ up)
           (λ (b : opens count choices start k shut z ≡ true). h.all z b)
           (open_next k y z same e);
-      same = h.same;
+      listed = h.listed;
+      long = h.long;
+      front = h.front;
       fewer = h.fewer;
     }
 
-    pub raised_at : (m : ℕ) → m ≡ suc k → is_marked_at seen y ≡ false → HasMore (opens count choices start m shut) old (set seen y true) true
-    raised_at m e was = subst (λ z. HasMore (opens count choices start z shut) old (set seen y true) true) (sym e) (raised was)
+    pub raised_at : (m : ℕ) (new : List ℕ) → m ≡ suc k → new ≡ longer ++ y ∷ [] → is_marked_at seen y ≡ false
+        → HasMore (opens count choices start m shut) old (set seen y true) list new
+    raised_at m new e f was = subst (λ z. HasMore (opens count choices start z shut) old (set seen y true) list new) (sym e)
+        (subst (λ (v : List ℕ). HasMore (opens count choices start (suc k) shut) old (set seen y true) list v) (sym f) (raised was))
 
-    pub stayed_at : (m : ℕ) → m ≡ suc k → is_marked_at seen y ≡ true → HasMore (opens count choices start m shut) old seen changed
-    stayed_at m e up = subst (λ z. HasMore (opens count choices start z shut) old seen changed) (sym e) (stayed up)
+    pub stayed_at : (m : ℕ) → m ≡ suc k → is_marked_at seen y ≡ true → HasMore (opens count choices start m shut) old seen list longer
+    stayed_at m e up = subst (λ z. HasMore (opens count choices start z shut) old seen list longer) (sym e) (stayed up)
 
   -- a choice that is shut, or no channel
-  pub skipped : (old seen : List Bool) (changed : Bool) (k m : ℕ) → m ≡ suc k
+  pub skipped : (old seen : List Bool) (list longer : List ℕ) (k m : ℕ) → m ≡ suc k
       → (slice_index choices (start + k) < count → is_marked_at shut (slice_index choices (start + k)) ≡ true)
-      → HasMore (opens count choices start k shut) old seen changed → HasMore (opens count choices start m shut) old seen changed
-  skipped old seen changed k m e closed h = subst (λ z. HasMore (opens count choices start z shut) old seen changed) (sym e) (record {
+      → HasMore (opens count choices start k shut) old seen list longer → HasMore (opens count choices start m shut) old seen list longer
+  skipped old seen list longer k m e closed h = subst (λ z. HasMore (opens count choices start z shut) old seen list longer) (sym e) (record {
     size = h.size;
     kept = h.kept;
     only = λ z up. ⊎_elim
@@ -152,15 +221,27 @@ module _ (count : ℕ) (choices : List ℕ) (start : ℕ) (shut : List Bool) whe
         cc)
         (λ (b : opens count choices start k shut z ≡ true). h.all z b)
         (open_next k (slice_index choices (start + k)) z refl up);
-    same = h.same;
+    listed = h.listed;
+    long = h.long;
+    front = h.front;
     fewer = h.fewer;
   })
 
--- what HasMore says of flags, by another name of the flags and of whether they changed
-pub as_more : (test : ℕ → Bool) (old seen new : List Bool) (changed after : Bool) → new ≡ seen → after ≡ changed → HasMore test old seen changed
-    → HasMore test old new after
-as_more test old seen new changed after e f h =
-    subst (λ (v : List Bool). HasMore test old v after) (sym e) (subst (λ v. HasMore test old seen v) (sym f) h)
+  -- no choice is looked at
+  pub none_more : (old : List Bool) (list : List ℕ) → HasMore (opens count choices start 0 shut) old old list list
+  none_more old list = record {
+    size = refl;
+    kept = λ z e. e;
+    only = λ z e. inl e;
+    all = λ z e. (let a = and_parts (nat_lt z count) (not (is_marked_at shut z) && names choices start 0 z) e in
+        let b = and_parts (not (is_marked_at shut z)) (names choices start 0 z) a.1 in
+        let bad : false ≡ true = b.1 in
+        absurd (cc));
+    listed = λ a. a;
+    long = omega arith;
+    front = λ i l. refl;
+    fewer = omega arith;
+  }
 
 -- a path goes on by a path
 pub path_append : (step : ℕ → ℕ → Bool) (x y z : ℕ) → Path step x y → Path step y z → Path step x z
@@ -180,75 +261,73 @@ module _ (kinds : List Kind) (choices : List ℕ) (base ways : ℕ) (shut : List
   opens_step : (x y : ℕ) → leads_on kinds x ≡ true → opens (length kinds) choices (base + x * ways) ways shut y ≡ true → step x y ≡ true
   opens_step x y e f = and_from (leads_on kinds x) (opens (length kinds) choices (base + x * ways) ways shut y) e f
 
-  -- the channels below m are looked at
-  pub record HasLooked (m : ℕ) (old new : List Bool) (changed : Bool) : Type 0 where
+  -- the channels below a place of the list are looked at
+  pub record HasLooked (at : ℕ) (old new : List Bool) (list : List ℕ) : Type 0 where
     pub size : length new ≡ length old
     pub kept : (y : ℕ) → is_marked_at old y ≡ true → is_marked_at new y ≡ true
     pub led : AreLed step old new
-    pub closed : changed ≡ false → (x y : ℕ) → x < m → is_marked_at new x ≡ true → step x y ≡ true → is_marked_at new y ≡ true
-    pub fewer : down new + cond changed 1 0 ≤ down old
+    pub listed : AreListed new list
+    pub there : at ≤ length list
+    pub closed : (k y : ℕ) → k < at → step (slice_index list k) y ≡ true → is_marked_at new y ≡ true
 
-  pub look_begin : (old : List Bool) → HasLooked 0 old old false
-  look_begin old = record {
+  pub look_begin : (old : List Bool) (list : List ℕ) → AreListed old list → HasLooked 0 old old list
+  look_begin old list are = record {
     size = refl;
     kept = λ y e. e;
     led = λ y e. (y, e, Stop);
-    closed = λ e x y l. absurd (omega arith);
-    fewer = omega arith;
+    listed = are;
+    there = omega arith;
+    closed = λ k y l. absurd (omega arith);
   }
 
-  -- a channel that leads nowhere, or whose flag is down
-  pub look_none : (x m : ℕ) (old seen : List Bool) (changed : Bool) → m ≡ suc x → (is_marked_at seen x ≡ true → leads_on kinds x ≡ false)
-      → HasLooked x old seen changed → HasLooked m old seen changed
-  look_none x m old seen changed same none h = record {
+  -- a channel that leads nowhere
+  pub look_none : (at m : ℕ) (old new : List Bool) (list : List ℕ) → m ≡ suc at → at < length list → leads_on kinds (slice_index list at) ≡ false
+      → HasLooked at old new list → HasLooked m old new list
+  look_none at m old new list e low none h = record {
     size = h.size;
     kept = h.kept;
     led = h.led;
-    closed = λ e u y l up s. elim (cases_lt u x) [
-      | inl low ↦ h.closed e u y low up s
-      | inr high ↦
-          let here : u ≡ x = omega arith in
-          let bad : true ≡ false = sym (step_leads u y s) ∙ (ap (leads_on kinds) here ∙ none (ap (is_marked_at seen) (sym here) ∙ up)) in
-          absurd (cc)
+    listed = h.listed;
+    there = omega arith;
+    closed = λ k y l s. elim (cases_lt k at) [
+      | inl less ↦ h.closed k y less s
+      | inr high ↦ (let here : k ≡ at = omega arith in
+          let bad : true ≡ false = sym (step_leads (slice_index list k) y s) ∙ (ap (λ z. leads_on kinds (slice_index list z)) here ∙ none) in absurd (cc))
     ];
-    fewer = h.fewer;
   }
 
-  pub look_more : (x m : ℕ) (old seen new : List Bool) (changed more after : Bool) → m ≡ suc x → is_marked_at seen x ≡ true → leads_on kinds x ≡ true
-      → ((more ≡ true) × (after ≡ true)) ⊎ ((more ≡ false) × (after ≡ changed))
-      → HasLooked x old seen changed → HasMore (opens (length kinds) choices (base + x * ways) ways shut) seen new more → HasLooked m old new after
-  look_more x m old seen new changed more after same up leads which h a = record {
-    size = a.size ∙ h.size;
-    kept = λ y e. a.kept y (h.kept y e);
-    led = λ y e. ⊎_elim
-        (λ (was : is_marked_at seen y ≡ true). h.led y was)
-        (λ (o : opens (length kinds) choices (base + x * ways) ways shut y ≡ true).
-        let r = h.led x up in (r.0, r.1, Go x y r.2 (opens_step x y leads o)))
-        (a.only y e);
-    closed = λ e u y l on s. ⊎_elim
-        (λ (b : (more ≡ true) × (after ≡ true)). let bad : true ≡ false = sym b.1 ∙ e in absurd (cc))
-        (λ (b : (more ≡ false) × (after ≡ changed)). elim (cases_lt u x) [
-          | inl low ↦ a.kept y (h.closed (sym b.1 ∙ e) u y low (a.same b.0 u on) s)
-          | inr high ↦ let here : u ≡ x = omega arith in
-              a.all y (subst (λ v. opens (length kinds) choices (base + v * ways) ways shut y ≡ true) here (step_opens u y s))
-        ])
-        which;
-    fewer = (let p = h.fewer in let q = a.fewer in ⊎_elim
-        (λ (b : (more ≡ true) × (after ≡ true)).
-        let c : cond {A = ℕ} more 1 0 ≡ 1 = ap (λ z. cond {A = ℕ} z 1 0) b.0 in let d : cond {A = ℕ} after 1 0 ≡ 1 = ap (λ z. cond {A = ℕ} z 1 0) b.1 in omega arith)
-        (λ (b : (more ≡ false) × (after ≡ changed)).
-        let d : cond {A = ℕ} after 1 0 ≡ cond {A = ℕ} changed 1 0 = ap (λ z. cond {A = ℕ} z 1 0) b.1 in omega arith)
-        which);
-  }
+  pub look_more : (at m x : ℕ) (old seen new : List Bool) (list longer : List ℕ) → m ≡ suc at → at < length list → slice_index list at ≡ x
+      → leads_on kinds x ≡ true → HasLooked at old seen list → HasMore (opens (length kinds) choices (base + x * ways) ways shut) seen new list longer
+      → HasLooked m old new longer
+  look_more at m x old seen new list longer e low is leads h a =
+      let long = a.long in
+      record {
+        size = a.size ∙ h.size;
+        kept = λ y up. a.kept y (h.kept y up);
+        led = λ y up. ⊎_elim
+            (λ (was : is_marked_at seen y ≡ true). h.led y was)
+            (λ (o : opens (length kinds) choices (base + x * ways) ways shut y ≡ true).
+            let r = h.led x (ap (is_marked_at seen) (sym is) ∙ h.listed.each at low) in (r.0, r.1, Go x y r.2 (opens_step x y leads o)))
+            (a.only y up);
+        listed = a.listed h.listed;
+        there = omega arith;
+        closed = λ k y l s. (let same : slice_index longer k ≡ slice_index list k = a.front k (omega arith) in
+            let t : step (slice_index list k) y ≡ true = ap (λ z. step z y) (sym same) ∙ s in
+            elim (cases_lt k at) [
+              | inl less ↦ a.kept y (h.closed k y less t)
+              | inr high ↦ (let here : k ≡ at = omega arith in
+                  a.all y (step_opens x y (ap (λ z. step z y) (sym is ∙ ap (slice_index list) (sym here)) ∙ t)))
+            ]);
+      }
 
-  pub look_end : (m : ℕ) (old new : List Bool) (changed : Bool) → m ≡ length kinds → length old ≡ length kinds → HasLooked m old new changed
-      → ((x : ℕ) → is_marked_at new x ≡ true → x < length new) → HasPassed step old new changed
-  look_end m old new changed e size h inside = record {
+  pub look_end : (at : ℕ) (old new : List Bool) (list : List ℕ) → length list ≤ at → HasLooked at old new list → HasSpread step old new
+  look_end at old new list e h = record {
     size = h.size;
     kept = h.kept;
     led = h.led;
-    closed = λ f x y up s. (let low = inside x up in let same = h.size in h.closed f x y (omega arith) up s);
-    fewer = h.fewer;
+    closed = λ x y up s. (let r = h.listed.all x up in
+        let low = r.1 in
+        h.closed r.0 y (omega arith) (ap (λ z. step z y) r.2 ∙ s));
   }
 
 -- a flag that is up is there
@@ -256,3 +335,15 @@ pub up_inside : (flags : List Bool) (x : ℕ) → is_marked_at flags x ≡ true 
 up_inside [] x e = cc
 up_inside (b ∷ flags) zero e = omega arith
 up_inside (b ∷ flags) (suc x) e = let r = up_inside flags x e in omega arith
+
+pub list_end : (flags : List Bool) (list : List ℕ) (m : ℕ) → length flags ≤ m → AreListedSo flags list m → AreListed flags list
+list_end flags list m e a = record {
+  each = a.each;
+  all = λ x up. a.all x (let low = up_inside flags x up in omega arith) up;
+}
+
+-- what is read of the list is a channel
+pub listed_low : (flags : List Bool) (list : List ℕ) (at x : ℕ) → AreListed flags list → at < length list → x ≡ get_or list at x → x < length flags
+listed_low flags list at x a low e =
+    let same : slice_index list at ≡ x = sym (get_or_read list at x low e 0) in
+    up_inside flags x (ap (is_marked_at flags) (sym same) ∙ a.each at low)

@@ -2,6 +2,7 @@ pub mod Flags
 pub mod Begins
 pub mod Bare
 pub mod Puts
+pub mod Turned
 pub mod Ends
 pub mod Bridge
 pub mod Circles

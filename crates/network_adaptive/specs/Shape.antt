@@ -19,7 +19,7 @@ use Rattle.network_adaptive.specs.declared.shape.Misfit.{Misfit}
 use Rattle.network_adaptive.specs.declared.shape.Misfit.TheVariants.{Itself, Injects, Ejects}
 use Rattle.network_adaptive.specs.declared.shape.NoChoice as no_choice
 use Rattle.network_adaptive.specs.Choosing.{ChoiceTable, IsShaped}
-use Rattle.network_adaptive.specs.Judged.{IsAdaptiveVerdict}
+use Rattle.network_adaptive.specs.Judged.{IsAdaptiveVerdict, Promises}
 
 -- why channel y of this kind, if any, is no choice for packets to channel j
 abbrev pub misfit_by_kind : Option Kind → ℕ → ℕ → Option Misfit
@@ -113,9 +113,10 @@ EndsAreMarked kinds marks = (x : ℕ)
     → is_marked_at marks x ≡ true
 
 -- what is judged of any lists: the first pair with a wrong end; or with none, the first choice that
--- can't stand; or with none, the verdict on the network
+-- can't stand; or with none, the verdict on the network, and what it promises
 abbrev pub IsJudgedNet : {A : Type 0} → ChoiceTable → List Reply → JudgedNet A → Type 0
 IsJudgedNet t replies (WrongPair r) = IsFirstWrongPair t.kinds t.joins r
 IsJudgedNet t replies (WrongChoice c) =
     PairsFit t.kinds t.joins (length t.joins) × IsFirstMisfit t.kinds t.choices t.ways c
-IsJudgedNet t replies (Judged v) = IsShaped t × IsAdaptiveVerdict t replies v
+IsJudgedNet t replies (Judged v) =
+    IsShaped t × IsAdaptiveVerdict t replies v × Promises t replies v

@@ -11,7 +11,7 @@ use crate::between::{leads_to_wait, way_between};
 use crate::comes::comes_to;
 use crate::verdict::{Dependency, How};
 use network_judge::{Join, Kind, Reply};
-use rising::Look;
+use rising::{Edge, Look};
 use std::alloc::{AllocError, Allocator};
 
 /// How a packet that holds a channel comes to wait for another: the first channel that such a packet
@@ -53,7 +53,8 @@ fn how_it_waits<A: Allocator + Copy>(
     unreachable!()
 }
 
-/// A channel of a search, and how it leads on in its column.
+/// A channel of a search, and how it leads on in its column: the columns are the edges of what packets
+/// wait for, and behind them the replies.
 ///
 /// Errors: out of memory.
 fn dependency_of<A: Allocator + Copy>(
@@ -65,6 +66,7 @@ fn dependency_of<A: Allocator + Copy>(
     ways: usize,
     marks: &[bool],
     none: &[bool],
+    waits: &[Edge],
     look: Look,
 ) -> Result<Dependency<A>, AllocError>
     requires room { length kinds.now * (length kinds.now * ways) ≤ length choices.now }
@@ -73,11 +75,11 @@ fn dependency_of<A: Allocator + Copy>(
     requires within { (i j : ℕ) → joins_of (table_of [] joins.now []) i j ≡ true
         → i < length kinds.now }
     requires look { IsWaitingLook kinds.now joins.now replies.now choices.now ways marks.now
-        none.now look }
+        none.now waits.now look }
     ensures { IfOk result (IsDependencyOf kinds.now joins.now replies.now choices.now ways
-        marks.now none.now look) }
+        marks.now none.now waits.now look) }
 {
-    if look.column < kinds.len() {
+    if look.column < waits.len() {
         let how = how_it_waits(
             alloc,
             kinds,
@@ -87,7 +89,7 @@ fn dependency_of<A: Allocator + Copy>(
             marks,
             none,
             look.node,
-            look.column,
+            waits[look.column].to,
         )?;
         Ok(Dependency {
             channel: look.node,
@@ -96,7 +98,7 @@ fn dependency_of<A: Allocator + Copy>(
     } else {
         Ok(Dependency {
             channel: look.node,
-            how: How::Replied(replies[look.column - kinds.len()].to),
+            how: How::Replied(replies[look.column - waits.len()].to),
         })
     }
 }
@@ -113,6 +115,7 @@ pub fn dependencies_of<A: Allocator + Copy>(
     ways: usize,
     marks: &[bool],
     none: &[bool],
+    waits: &[Edge],
     looks: &[Look],
 ) -> Result<Vec<Dependency<A>, A>, AllocError>
     requires room { length kinds.now * (length kinds.now * ways) ≤ length choices.now }
@@ -122,15 +125,15 @@ pub fn dependencies_of<A: Allocator + Copy>(
         → i < length kinds.now }
     requires looks { (k : ℕ) → k < length looks.now
         → IsWaitingLook kinds.now joins.now replies.now choices.now ways marks.now none.now
-        (path_look looks.now k) }
+        waits.now (path_look looks.now k) }
     ensures { IfOk result (λ edges.
         AreDependencies kinds.now joins.now replies.now choices.now ways marks.now none.now
-        looks.now edges.items) }
+        waits.now looks.now edges.items) }
 {
     let mut edges = Vec::with_capacity(alloc, looks.len())?;
     for k in 0..looks.len() {
         edges.push(dependency_of(
-            alloc, kinds, joins, replies, choices, ways, marks, none, looks[k],
+            alloc, kinds, joins, replies, choices, ways, marks, none, waits, looks[k],
         )?)?;
     }
     Ok(edges)

@@ -5,4 +5,4 @@ use Rattle.network_adaptive.proofs.waits.row_from.Given as goal
 
 -- the choices so far
 abbrev pub invariant-loop-k : goal.invariant-loop-k
-invariant-loop-k l = HasPut (IsInRowSo l.count l.choices (l.base + l.x * l.ways) l.marks l.row l.k) l.initial.edges l.edges
+invariant-loop-k g l = HasPut (IsInRowSo l.count l.choices (l.base + l.x * l.ways) l.marks l.from l.k) l.initial.edges.items l.edges.items
