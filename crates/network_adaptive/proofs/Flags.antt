@@ -6,7 +6,7 @@ use Rattle.std.proofs.lemmas.List.{get_or-set_same, get_or-set_other, length-set
 use Rattle.std.proofs.lemmas.List.Sums.{sum_by-set}
 use Rattle.network_judge.specs.declared.table.Kind.{Kind}
 use Rattle.network_judge.specs.Marks.{is_marked_at}
-use Rattle.network_adaptive.specs.Spread.{Path, Stop, Go, any_below, names, opens, leads_on, choice_step, down, AreListed, HasMore, AreLed, HasSpread}
+use Rattle.network_adaptive.specs.Spread.{Path, Stop, Go, any_below, names, opens, leads_on, choice_step, down, AreFlagsOf, HasMore, AreLed, HasSpread}
 
 pub or_cases : (a b : Bool) → (a || b) ≡ true → (a ≡ true) ⊎ (b ≡ true)
 or_cases true b e = inl refl
@@ -62,8 +62,8 @@ fewer_down flags y low e =
     omega (arith, s, was)
 
 -- one number more in a list, and its flag
-pub listed_push : (flags : List Bool) (list : List ℕ) (y : ℕ) → y < length flags → AreListed flags list
-    → AreListed (set flags y true) (list ++ y ∷ [])
+pub listed_push : (flags : List Bool) (list : List ℕ) (y : ℕ) → y < length flags → AreFlagsOf flags list
+    → AreFlagsOf (set flags y true) (list ++ y ∷ [])
 listed_push flags list y low a = record {
   each = λ k l. elim (cases_lt k (length list)) [
     | inl less ↦ ap (is_marked_at (set flags y true)) (get_or_append_left list (y ∷ []) 0 k less) ∙ set_keeps flags y (slice_index list k) low (a.each k less)
@@ -82,7 +82,7 @@ listed_push flags list y low a = record {
 }
 
 -- one flag, and its channel in a list
-pub listed_one : (none : List Bool) (x : ℕ) → ((y : ℕ) → is_marked_at none y ≡ false) → x < length none → AreListed (set none x true) ([] ++ x ∷ [])
+pub listed_one : (none : List Bool) (x : ℕ) → ((y : ℕ) → is_marked_at none y ≡ false) → x < length none → AreFlagsOf (set none x true) ([] ++ x ∷ [])
 listed_one none x down low = listed_push none [] x low (record {
   each = λ k l. absurd (omega arith);
   all = λ y up. (let bad : true ≡ false = sym up ∙ down y in absurd (cc));
@@ -266,11 +266,11 @@ module _ (kinds : List Kind) (choices : List ℕ) (base ways : ℕ) (shut : List
     pub size : length new ≡ length old
     pub kept : (y : ℕ) → is_marked_at old y ≡ true → is_marked_at new y ≡ true
     pub led : AreLed step old new
-    pub listed : AreListed new list
+    pub listed : AreFlagsOf new list
     pub there : at ≤ length list
     pub closed : (k y : ℕ) → k < at → step (slice_index list k) y ≡ true → is_marked_at new y ≡ true
 
-  pub look_begin : (old : List Bool) (list : List ℕ) → AreListed old list → HasLooked 0 old old list
+  pub look_begin : (old : List Bool) (list : List ℕ) → AreFlagsOf old list → HasLooked 0 old old list
   look_begin old list are = record {
     size = refl;
     kept = λ y e. e;
@@ -336,14 +336,14 @@ up_inside [] x e = cc
 up_inside (b ∷ flags) zero e = omega arith
 up_inside (b ∷ flags) (suc x) e = let r = up_inside flags x e in omega arith
 
-pub list_end : (flags : List Bool) (list : List ℕ) (m : ℕ) → length flags ≤ m → AreListedSo flags list m → AreListed flags list
+pub list_end : (flags : List Bool) (list : List ℕ) (m : ℕ) → length flags ≤ m → AreListedSo flags list m → AreFlagsOf flags list
 list_end flags list m e a = record {
   each = a.each;
   all = λ x up. a.all x (let low = up_inside flags x up in omega arith) up;
 }
 
 -- what is read of the list is a channel
-pub listed_low : (flags : List Bool) (list : List ℕ) (at x : ℕ) → AreListed flags list → at < length list → x ≡ get_or list at x → x < length flags
+pub listed_low : (flags : List Bool) (list : List ℕ) (at x : ℕ) → AreFlagsOf flags list → at < length list → x ≡ get_or list at x → x < length flags
 listed_low flags list at x a low e =
     let same : slice_index list at ≡ x = sym (get_or_read list at x low e 0) in
     up_inside flags x (ap (is_marked_at flags) (sym same) ∙ a.each at low)

@@ -7,7 +7,7 @@ use Rattle.rising.specs.declared.edge.Edge.{Edge}
 use Rattle.rising.specs.Graph.{edge_at, EdgesAreWithin}
 use Rattle.network_judge.specs.declared.table.Kind.{Kind}
 use Rattle.network_judge.specs.Marks.{is_marked_at}
-use Rattle.network_adaptive.specs.Spread.{Path, Stop, Go, leads_on, choice_step, AreClosed, AreListed}
+use Rattle.network_adaptive.specs.Spread.{Path, Stop, Go, leads_on, choice_step, AreClosed, AreFlagsOf}
 use Rattle.network_adaptive.specs.Flags.{IsEdgeOf, HasPut, escapes_to, IsAwaited, IsWait, AreBehind}
 use Rattle.network_adaptive.specs.Edges.{AreSame}
 use Rattle.network_adaptive.proofs.Flags.{up_inside}
@@ -264,7 +264,7 @@ module _ (kinds : List Kind) (choices : List ℕ) (base ways : ℕ) (marks seen 
   beyond k i x y e p = record { wait = p.wait; low = (let l = p.low in omega arith) }
 
   pub waits_put : (h i : ℕ) (flags : List Bool) (held : List ℕ) (old edges new : List Edge) → i ≡ suc h → is_marked_at seen h ≡ true
-      → is_marked_at marks h ≡ true → AreBehind kinds step h flags → AreListed flags held → HasPut (Held h) old edges
+      → is_marked_at marks h ≡ true → AreBehind kinds step h flags → AreFlagsOf flags held → HasPut (Held h) old edges
       → HasPut (IsAwaited kinds choices base ways marks held h) edges new → HasPut (Held i) old new
   waits_put h i flags held old edges new e up mark are listed p q =
       put_then (Held h) (IsAwaited kinds choices base ways marks held h) (Held i) old edges new

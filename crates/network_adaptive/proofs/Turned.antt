@@ -5,7 +5,7 @@ use Rattle.rising.specs.declared.edge.Edge.{Edge}
 use Rattle.rising.specs.Graph.{edge_at, digraph_of, EdgesAreWithin}
 use Rattle.rising.specs.Chains.{IsNextColumn}
 use Rattle.network_adaptive.specs.Flags.{IsEdgeOf, HasPut}
-use Rattle.network_adaptive.specs.Edges.{AreTurned, AreSame}
+use Rattle.network_adaptive.specs.Edges.{AreReversed, AreSame}
 use Rattle.network_adaptive.proofs.Puts.{IsThis, put_none, put_then, put_map, no_edge_of, edge_within, within_edges}
 
 module _ (nodes : ℕ) (edges : List Edge) (x : ℕ) where
@@ -64,7 +64,7 @@ all_more edges x m old mid new e p q = put_then (IsFromBelow edges x) (λ u v. (
     ])
     p q
 
-pub all_end : (edges new : List Edge) (nodes m : ℕ) → m ≡ nodes → EdgesAreWithin nodes edges → HasPut (IsFromBelow edges m) [] new → AreTurned edges new
+pub all_end : (edges new : List Edge) (nodes m : ℕ) → m ≡ nodes → EdgesAreWithin nodes edges → HasPut (IsFromBelow edges m) [] new → AreReversed edges new
 all_end edges new nodes m e within p = record {
   all = λ x y is. p.all y x (let low = (edge_within nodes edges within x y is).0 in omega arith, is);
   only = λ x y is. ⊎_elim
@@ -73,11 +73,11 @@ all_end edges new nodes m e within p = record {
       (p.only y x is);
 }
 
-pub turned_within : (nodes : ℕ) (edges half : List Edge) → EdgesAreWithin nodes edges → AreTurned edges half → EdgesAreWithin nodes half
+pub turned_within : (nodes : ℕ) (edges half : List Edge) → EdgesAreWithin nodes edges → AreReversed edges half → EdgesAreWithin nodes half
 turned_within nodes edges half within t = within_edges nodes half (λ x y e.
     (let r = edge_within nodes edges within y x (t.only y x e) in (r.1, r.0)))
 
-pub turned_twice : (edges half whole : List Edge) → AreTurned edges half → AreTurned half whole → AreSame edges whole
+pub turned_twice : (edges half whole : List Edge) → AreReversed edges half → AreReversed half whole → AreSame edges whole
 turned_twice edges half whole s t = record {
   all = λ x y e. t.all y x (s.all x y e);
   only = λ x y e. s.only x y (t.only y x e);

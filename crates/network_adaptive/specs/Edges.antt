@@ -5,7 +5,7 @@ use Rattle.network_judge.specs.declared.table.Reply.{Reply}
 use Rattle.network_adaptive.specs.Flags.{IsEdgeOf}
 
 -- edges lead from y to x where others lead from x to y
-pub record AreTurned (edges turned : List Edge) : Type 0 where
+pub record AreReversed (edges turned : List Edge) : Type 0 where
   pub all : (x y : ℕ) → IsEdgeOf edges x y → IsEdgeOf turned y x
   pub only : (x y : ℕ) → IsEdgeOf turned y x → IsEdgeOf edges x y
 

@@ -39,7 +39,7 @@ abbrev pub down : List Bool → ℕ
 down flags = count_by not flags
 
 -- flags are up for the numbers of a list, and for no others
-pub record AreListed (flags : List Bool) (list : List ℕ) : Type 0 where
+pub record AreFlagsOf (flags : List Bool) (list : List ℕ) : Type 0 where
   pub each : (k : ℕ) → k < length list → is_marked_at flags (slice_index list k) ≡ true
   pub all : (x : ℕ) → is_marked_at flags x ≡ true
       → (k : ℕ) × (k < length list) × (slice_index list k ≡ x)
@@ -50,7 +50,7 @@ pub record HasMore (test : ℕ → Bool) (old new : List Bool) (list longer : Li
   pub kept : (y : ℕ) → is_marked_at old y ≡ true → is_marked_at new y ≡ true
   pub only : (y : ℕ) → is_marked_at new y ≡ true → (is_marked_at old y ≡ true) ⊎ (test y ≡ true)
   pub all : (y : ℕ) → test y ≡ true → is_marked_at new y ≡ true
-  pub listed : AreListed old list → AreListed new longer
+  pub listed : AreFlagsOf old list → AreFlagsOf new longer
   pub long : length list ≤ length longer
   pub front : (k : ℕ) → k < length list → slice_index longer k ≡ slice_index list k
   pub fewer : down new + length longer ≤ down old + length list

@@ -3,7 +3,7 @@
 ghost use Rattle.std.specs.Prelude.{◌≡◌, ◌+◌, ◌*◌, ◌<◌, ◌≤◌, ◌⊎◌, ℕ, Bool, true, false, []};
 ghost use Rattle.std.specs.Prelude.{length, IfOk, MatchOption};
 ghost use Rattle.network_judge.specs.Table.{table_of, joins_of};
-ghost use Rattle.network_adaptive.specs.Spread.{choice_step, AreListed};
+ghost use Rattle.network_adaptive.specs.Spread.{choice_step, AreFlagsOf};
 ghost use Rattle.network_adaptive.specs.Flags.{HasBegun, AreDown, AreComes, AreBehind, IsEscape};
 ghost use Rattle.network_adaptive.specs.Flags.{IsFirstBare, HasNoBare};
 
@@ -80,7 +80,7 @@ pub fn behind<A: Allocator + Copy>(
     requires x { x < length kinds.now }
     ensures flags { IfOk result (λ r. AreBehind kinds.now
         (choice_step kinds.now choices.now base ways marks.now) x r.flags.items) }
-    ensures list { IfOk result (λ r. AreListed r.flags.items r.list.items) }
+    ensures list { IfOk result (λ r. AreFlagsOf r.flags.items r.list.items) }
 {
     let mut flags = vec![in alloc; false; kinds.len()]?;
     flags[x] = true;

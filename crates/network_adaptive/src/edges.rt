@@ -3,7 +3,7 @@
 ghost use Rattle.std.specs.Prelude.{◌≡◌, ◌<◌, ℕ, ◌++◌, map, length, IfOk, OnOk};
 ghost use Rattle.rising.specs.Graph.{EdgesAreWithin};
 ghost use Rattle.network_adaptive.specs.Flags.{HasPut, IsEdgeOf};
-ghost use Rattle.network_adaptive.specs.Edges.{AreTurned, AreSame, reply_edge};
+ghost use Rattle.network_adaptive.specs.Edges.{AreReversed, AreSame, reply_edge};
 
 use network_judge::Reply;
 use rising::chains::{Chains, chains_of};
@@ -60,7 +60,7 @@ fn turned<A: Allocator + Copy>(
     edges: &[Edge],
 ) -> Result<Vec<Edge, A>, AllocError>
     requires { EdgesAreWithin nodes edges.now }
-    ensures { IfOk result (λ out. AreTurned edges.now out.items) }
+    ensures { IfOk result (λ out. AreReversed edges.now out.items) }
 {
     let chains = chains_of(alloc, nodes, edges)?;
     let mut out = Vec::new(alloc);

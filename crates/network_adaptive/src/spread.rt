@@ -1,7 +1,7 @@
 //! Flags that spread over the routers' choices.
 
 ghost use Rattle.std.specs.Prelude.{◌≡◌, ◌+◌, ◌*◌, ◌<◌, ◌≤◌, length, IfOk, OnOk};
-ghost use Rattle.network_adaptive.specs.Spread.{leads_on, opens, choice_step, HasMore, AreListed};
+ghost use Rattle.network_adaptive.specs.Spread.{leads_on, opens, choice_step, HasMore, AreFlagsOf};
 ghost use Rattle.network_adaptive.specs.Spread.{HasSpread};
 
 use network_judge::Kind;
@@ -24,7 +24,7 @@ pub fn goes_on(kinds: &[Kind], x: usize) -> bool
 ///
 /// Errors: out of memory.
 pub fn list_of<A: Allocator + Copy>(alloc: A, flags: &[bool]) -> Result<Vec<usize, A>, AllocError>
-    ensures { IfOk result (λ list. AreListed flags.now list.items) }
+    ensures { IfOk result (λ list. AreFlagsOf flags.now list.items) }
 {
     let mut list = Vec::new(alloc);
     for x in 0..flags.len() {
@@ -90,10 +90,10 @@ pub fn spread<A: Allocator>(
     requires room { base + length kinds.now * ways ≤ length choices.now }
     requires shut { length shut.now ≡ length kinds.now }
     requires size { length seen.old ≡ length kinds.now }
-    requires listed { AreListed seen.old list.old.items }
+    requires listed { AreFlagsOf seen.old list.old.items }
     ensures spread { OnOk result
         (HasSpread (choice_step kinds.now choices.now base ways shut.now) seen.old seen.new) }
-    ensures listed { OnOk result (AreListed seen.new list.new.items) }
+    ensures listed { OnOk result (AreFlagsOf seen.new list.new.items) }
 {
     let mut at = 0;
     'steps: while at < list.len() {
