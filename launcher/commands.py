@@ -1,5 +1,5 @@
 """The commands of the program with their words, and the help that it prints of them, made of launcher/commands.txt; the built
-program is compared with these (checks/program).
+program is compared with these (checks/program). The parser of the words adds the command `help` by itself.
 
     python3 launcher/commands.py         prints the names of the commands
     python3 launcher/commands.py NAME    prints the help of a command, or, for `torusmem`, of the program
@@ -63,13 +63,17 @@ class Table:
     common: list[Word] = field(default_factory=list)
 
 
+def text() -> str:
+    """What `torusmem --commands` prints."""
+    with open(f"{HERE}/commands.txt", encoding="utf-8") as file:
+        return "".join(it for it in file if not it.startswith("#"))
+
+
 @functools.lru_cache(maxsize=None)
 def table() -> Table:
     """The table of launcher/commands.txt."""
     made, last = Table(), Command("", "")
-    with open(f"{HERE}/commands.txt", encoding="utf-8") as file:
-        lines = [it.rstrip("\n") for it in file if it.strip() and not it.startswith("#")]
-    for line in lines:
+    for line in filter(None, text().split("\n")):
         word, rest = line.split(" ", 1)
         if word == "program":
             made.about = rest
@@ -77,9 +81,13 @@ def table() -> Table:
             name, about = rest.split(" ", 1)
             last = made.commands[name] = Command(name, about)
         else:
+            rows = last.arguments if word == "argument" else last.options
+            if word == "common":
+                rows, rest = made.common, rest.split(" ", 1)[1]
             name, kind, about = rest.split(" ", 2)
-            row = Word(name, kind, about, word == "required")
-            (made.common if word == "common" else last.arguments if word == "argument" else last.options).append(row)
+            rows.append(Word(name, kind, about, word == "required"))
+    topic = Word("[COMMAND]...", "COMMAND", "Print help for the subcommand(s)")
+    made.commands["help"] = Command("help", "Print this message or the help of the given subcommand(s)", [topic])
     return made
 
 

@@ -144,6 +144,8 @@ def top(words: list[str]) -> Answer | Job:
         return help_of("torusmem")
     if first in ("-V", "--version"):
         return Answer(VERSION, 2 if rest else 0, True)
+    if first == "--commands" and not rest:
+        return Answer(commands.text(), 0, True)
     if first == "help":
         return help_on(rest)
     if first in COMMANDS:

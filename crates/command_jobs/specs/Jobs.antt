@@ -9,12 +9,9 @@ use Rattle.command_texts.specs.Run.{PrintsRun, asked_of}
 use Rattle.command_texts.specs.Rounds.{PrintsRounds}
 use Rattle.command_texts.specs.Done.{PrintsRoute, PrintsChannels, PrintsVerdict}
 use Rattle.command_line.specs.declared.command.Job.{Job}
-use Rattle.command_line.specs.declared.command.Job.TheVariants.{Steps, Round, Run, Live, Route}
+use Rattle.command_line.specs.declared.command.Job.TheVariants.{Steps, Round, Route}
 use Rattle.command_line.specs.declared.command.Job.TheVariants.{Channels, Check}
-use Rattle.command_line.specs.declared.command.Job.TheVariants.{Network, LockUp, Replay, Simulate}
-use Rattle.command_line.specs.declared.command.Job.TheVariants.{Linearize, Report, Watch, Model, RunModel}
-use Rattle.command_line.specs.declared.command.Job.TheVariants.{ValueModel}
-use Rattle.command_line.specs.declared.command.Job.TheVariants.{Schedule, Draw, Moves}
+use Rattle.command_line.specs.Printed.{commands_text}
 use Rattle.command_jobs.specs.declared.answering.Ended.{Ended}
 
 -- whether the work of a job stands in `commands`
@@ -24,21 +21,7 @@ is_of_commands (Round machine script rounds clocked) = true
 is_of_commands (Route machine src dst class) = true
 is_of_commands (Channels machine) = true
 is_of_commands (Check report) = true
-is_of_commands (Run machine script workers turns) = false
-is_of_commands (Live machine) = false
-is_of_commands (Network network) = false
-is_of_commands (LockUp network depth) = false
-is_of_commands (Replay network run depth) = false
-is_of_commands (Simulate network traffic depth arbiter) = false
-is_of_commands (Linearize trace configurations) = false
-is_of_commands (Report trace configurations) = false
-is_of_commands (Watch trace configurations) = false
-is_of_commands (Model log model order) = false
-is_of_commands (RunModel log model order machine script) = false
-is_of_commands (ValueModel log model order nodes) = false
-is_of_commands (Schedule machine script rounds clocked) = false
-is_of_commands (Draw machine script seed steps) = false
-is_of_commands (Moves machine script steps) = false
+is_of_commands _ = false
 
 -- whether every script is finished, where there is no fault
 abbrev pub finished_in : Result Ended ProgramFault → Result Bool ProgramFault
@@ -75,3 +58,7 @@ AnswersJob _ texts old new result = Unit {0}
 -- the version of the program was printed
 abbrev pub PrintsVersion : {A : Type 0} → Output → Output → Result A ProgramFault → Type 0
 PrintsVersion = Does (λ done text. text ≡ codes "torusmem 0.2.0\n") (λ fault. ⊥)
+
+-- the table of the commands was printed
+abbrev pub PrintsCommands : {A : Type 0} → Output → Output → Result A ProgramFault → Type 0
+PrintsCommands = Does (λ done text. text ≡ commands_text) (λ fault. ⊥)

@@ -19,4 +19,4 @@ pub use printing::{all_printed, fault_told, flushed, tell_end_of, writer};
 pub use progress_line::ProgressLine;
 pub use reading::{texts_of, texts_read, unread_told};
 pub use run_end::RunEnd;
-pub use version::{version_text, version_told};
+pub use version::{commands_text, commands_told, version_text, version_told};

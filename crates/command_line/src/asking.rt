@@ -1,11 +1,12 @@
 //! What the words of the program's own command line ask for, or what is told of them.
 
-ghost use Rattle.std.specs.Prelude.{◌≡◌, ◌↔◌, IfSome, Some, map, codes, true};
-ghost use Rattle.command_line.specs.CommandLine.{AsksVersion, name_by, rows_by};
+ghost use Rattle.std.specs.Prelude.{◌≡◌, ◌↔◌, IfErr, IfOk, IfSome, Some, map, codes, true};
+ghost use Rattle.command_line.specs.CommandLine.{AsksCommands, AsksVersion, name_by, rows_by};
 ghost use Rattle.command_line.specs.Job.{AreOfJob, IsFlag, IsGiven, AreJobLimits, name_of};
+ghost use Rattle.command_line.specs.Refused.{TellsNoRequest};
 
 use crate::command::{Request, read_request};
-use crate::refused::{NoRequest, misuse_text};
+use crate::refused::{NoJob, NoRequest, misuse_text};
 use std::convert::AsStr;
 use std::rt::Env;
 use std::{env, io};
@@ -36,30 +37,40 @@ pub fn asks_version<S: AsStr>(words: &[S]) -> bool
     }
 }
 
-/// What the words of a command line ask for; `None` where `read_request` answers an error, which is
-/// told: help and the version, which were asked for, to standard output, and what is wrong with the
-/// words to standard error.
+/// Whether the words of a command line ask for the table of the commands and for nothing else.
+pub fn asks_commands<S: AsStr>(words: &[S]) -> bool
+    ensures { (result ≡ true) ↔ AsksCommands (map S.text words.entry.now) }
+{
+    match words {
+        [_, word] => matches!(word.as_str(), "--commands"),
+        _ => false,
+    }
+}
+
+/// What the words of a command line ask for.
+///
+/// Errors: those of `read_request`, which are told: help, which was asked for, to standard output, and
+/// what is wrong with the words to standard error.
 pub fn request_told<'a, R: Print + Eprint + AllocGlobal, S: AsStr>(
     rt: &R,
     words: &'a [S],
-) -> Option<Request<'a>>
-    ensures named { IfSome result
+) -> Result<Request<'a>, NoRequest>
+    ensures named { IfOk result
         (λ r. name_by (map S.text words.entry.now) ≡ Some (name_of r.job)) }
-    ensures given { IfSome result
+    ensures given { IfOk result
         (λ r. IfSome (rows_by (map S.text words.entry.now)) (AreOfJob r.job)) }
-    ensures explain { IfSome result
+    ensures explain { IfOk result
         (λ r. IfSome (rows_by (map S.text words.entry.now)) (IsFlag (codes "explain") r.explain)) }
-    ensures json { IfSome result
+    ensures json { IfOk result
         (λ r. IfSome (rows_by (map S.text words.entry.now)) (IsGiven (codes "json") r.json)) }
-    ensures limits { IfSome result (λ r. AreJobLimits r.job) }
+    ensures limits { IfOk result (λ r. AreJobLimits r.job) }
+    ensures refused { IfErr result (TellsNoRequest (map S.text words.entry.now)) }
 {
-    match read_request(rt.alloc(), words) {
-        Ok(request) => Some(request),
-        Err(why) => {
-            tell_refused(rt, &why);
-            None
-        }
+    let request = read_request(rt.alloc(), words);
+    if let Err(why) = &request {
+        tell_refused(rt, why);
     }
+    request
 }
 
 /// Says why the words are no request.
@@ -68,11 +79,11 @@ fn tell_refused<R: Print + Eprint>(rt: &R, why: &NoRequest) {
         NoRequest::Parser(error) => {
             let _ = error.print(rt);
         }
-        NoRequest::Options(misuse) => {
+        NoRequest::Values(NoJob::Options(misuse)) => {
             let text = misuse_text(*misuse);
             let _ = eprintln!(rt; "{text}");
         }
-        NoRequest::Missing => {
+        NoRequest::Values(NoJob::Missing) => {
             let _ = eprintln!(rt; "a value is missing");
         }
     }

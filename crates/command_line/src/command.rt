@@ -1,17 +1,18 @@
-ghost use Rattle.std.specs.Prelude.{◌≡◌, IfErr, IfOk, IfSome, Some, map, codes};
-ghost use Rattle.clap.specs.Words.{HasMatchesOf, found_of, rows_of};
+ghost use Rattle.std.specs.Prelude.{◌≡◌, ◌⊎◌, IfErr, IfOk, IfSome, None, Some, map, codes};
+ghost use Rattle.clap.specs.Words.{HasKind, HasMatchesOf, fault_of, found_of, rows_of};
 ghost use Rattle.clap.specs.Words.{subcommand_name_of, subcommand_rows_of};
 ghost use Rattle.command_line.specs.CommandLine.{name_by, rows_by, torusmem_app};
-ghost use Rattle.command_line.specs.Job.{AreOfJob, IsFlag, IsGiven, NamesJob, AreJobLimits, name_of};
+ghost use Rattle.command_line.specs.Job.{AreOfJob, IsFlag, IsGiven, AreJobLimits, name_of};
 ghost use Rattle.command_line.specs.Job.{rows_in};
-ghost use Rattle.command_line.specs.Refused.{TellsNoRequest};
+ghost use Rattle.command_line.specs.Refused.{AnswersBy, TellsNoJob, TellsNoRequest};
+ghost use Rattle.command_line.specs.Values.{IsNoCommand};
 
-use crate::building::command;
 use crate::jobs::{
-    channels_job, check_job, draw_job, linearize_job, live_job, model_job, network_job, round_job,
-    route_job, run_job, schedule_job, simulate_job, steps_job, watch_job,
+    Answer, channels_job, check_job, draw_job, linearize_job, live_job, model_job, network_job,
+    round_job, route_job, run_job, schedule_job, simulate_job, steps_job, watch_job,
 };
-use crate::refused::{NoRequest, no_request};
+use crate::making::command;
+use crate::refused::{NoJob, NoRequest};
 use crate::values::{flag_of, is_given};
 use clap::{ArgMatches, Error};
 use std::alloc::Global;
@@ -193,8 +194,7 @@ pub fn read_command<'a, S: AsStr>(alloc: Global, words: &'a [S]) -> Result<Job<'
     ensures named { IfOk result (λ job. name_by (map S.text words.entry.now) ≡ Some (name_of job)) }
     ensures given { IfOk result (λ job. IfSome (rows_by (map S.text words.entry.now)) (AreOfJob job)) }
     ensures limits { IfOk result AreJobLimits }
-    ensures refused { IfErr result (TellsNoRequest (name_by (map S.text words.entry.now))
-        (rows_by (map S.text words.entry.now))) }
+    ensures refused { IfErr result (TellsNoRequest (map S.text words.entry.now)) }
 {
     Ok(read_request(alloc, words)?.job)
 }
@@ -212,13 +212,12 @@ pub fn read_request<'a, S: AsStr>(alloc: Global, words: &'a [S]) -> Result<Reque
     ensures json { IfOk result
         (λ r. IfSome (rows_by (map S.text words.entry.now)) (IsGiven (codes "json") r.json)) }
     ensures limits { IfOk result (λ r. AreJobLimits r.job) }
-    ensures refused { IfErr result (TellsNoRequest (name_by (map S.text words.entry.now))
-        (rows_by (map S.text words.entry.now))) }
+    ensures refused { IfErr result (TellsNoRequest (map S.text words.entry.now)) }
 {
     match parsed(alloc, words) {
         Ok(matches) => match request_of(&matches) {
-            Some(request) => Ok(request),
-            None => Err(no_request(&matches)),
+            Ok(request) => Ok(request),
+            Err(why) => Err(NoRequest::Values(why)),
         },
         Err(error) => Err(NoRequest::Parser(error)),
     }
@@ -228,35 +227,50 @@ pub fn read_request<'a, S: AsStr>(alloc: Global, words: &'a [S]) -> Result<Reque
 ///
 /// Errors: what it says of them, or that memory ran out.
 fn parsed<'a, S: AsStr>(alloc: Global, words: &'a [S]) -> Result<ArgMatches<'a>, Error>
-    ensures { IfOk result (HasMatchesOf torusmem_app (map S.text words.entry.now)) }
+    ensures matches { IfOk result (HasMatchesOf torusmem_app (map S.text words.entry.now)) }
+    ensures parser { IfErr result
+        (HasKind (fault_of torusmem_app (map S.text words.entry.now))) }
 {
     let mut command = command(alloc)?;
-    let matches = command.try_get_matches_from_mut(words)?;
-    Ok(matches)
+    command.try_get_matches_from_mut(words)
 }
 
 /// The job that the matches name, and whether they have `--explain`, and `--json`.
-fn request_of<'a>(matches: &ArgMatches<'a>) -> Option<Request<'a>>
-    ensures named { IfSome result (λ r. subcommand_name_of matches.now ≡ Some (name_of r.job)) }
-    ensures given { IfSome result
+///
+/// Errors: options are misused, or a value is missing.
+fn request_of<'a>(matches: &ArgMatches<'a>) -> Result<Request<'a>, NoJob>
+    ensures named { IfOk result (λ r. subcommand_name_of matches.now ≡ Some (name_of r.job)) }
+    ensures given { IfOk result
         (λ r. IfSome (rows_in (subcommand_rows_of matches.now)) (AreOfJob r.job)) }
-    ensures explain { IfSome result
-        (λ r. IfSome (rows_in (subcommand_rows_of matches.now))
+    ensures explain { IfOk result (λ r. IfSome (rows_in (subcommand_rows_of matches.now))
         (IsFlag (codes "explain") r.explain)) }
-    ensures json { IfSome result
+    ensures json { IfOk result
         (λ r. IfSome (rows_in (subcommand_rows_of matches.now)) (IsGiven (codes "json") r.json)) }
-    ensures limits { IfSome result (λ r. AreJobLimits r.job) }
+    ensures limits { IfOk result (λ r. AreJobLimits r.job) }
+    ensures refused { IfErr result (TellsNoJob (subcommand_name_of matches.now)
+        (rows_in (subcommand_rows_of matches.now))) }
 {
-    let (name, given) = matches.subcommand()?;
-    let job = job_by(name, given)?;
-    let explain = flag_of(given, "explain")?;
+    let Some((name, given)) = matches.subcommand() else {
+        return Err(NoJob::Missing);
+    };
+    let Some(answer) = job_by(name, given) else {
+        return Err(NoJob::Missing);
+    };
+    let Some(explain) = flag_of(given, "explain") else {
+        return Err(NoJob::Missing);
+    };
     let json = is_given(given, "json");
-    Some(Request { job, explain, json })
+    match answer {
+        Ok(job) => Ok(Request { job, explain, json }),
+        Err(misuse) => Err(NoJob::Options(misuse)),
+    }
 }
 
-/// The job of the subcommand of this name, from what was given for its arguments.
-fn job_by<'a>(name: &str, given: &ArgMatches<'a>) -> Option<Job<'a>>
-    ensures { IfSome result (NamesJob name.now (rows_of (found_of given.now))) }
+/// What the subcommand of this name answers, from what was given for its arguments; `None` where a
+/// value is missing, or there is no such subcommand.
+fn job_by<'a>(name: &str, given: &ArgMatches<'a>) -> Answer<'a>
+    ensures { AnswersBy name.now (rows_of (found_of given.now)) result
+        ⊎ ((result ≡ None) × IsNoCommand name.now) }
 {
     match name {
         "steps" => steps_job(given),

@@ -1,207 +1,212 @@
 //! The job of each subcommand, from what was given for its arguments.
-ghost use Rattle.std.specs.Prelude.{IfSome, codes};
+ghost use Rattle.std.specs.Prelude.{codes};
 ghost use Rattle.clap.specs.Words.{found_of, rows_of};
-ghost use Rattle.command_line.specs.Job.{NamesJob};
+ghost use Rattle.command_line.specs.Refused.{AnswersBy};
 
 use crate::command::Job;
+use crate::refused::Misuse;
+use crate::table::{MOST_DEPTH, MOST_ROUNDS, MOST_TURNS, MOST_WORKERS};
 use crate::values::{
-    class, flag_of, long_number, long_number_if_given, number, number_if_given, number_within,
-    two_words, word,
+    class, flag_of, long_number, long_number_if_given, number, number_if_given, two_words, word,
 };
 use clap::ArgMatches;
 
+/// A job, or how the options of its command are misused; `None` where a value is missing.
+pub(crate) type Answer<'a> = Option<Result<Job<'a>, Misuse>>;
+
 /// The steps of `steps`, of which the report or the moves are asked for.
-pub(crate) fn steps_job<'a>(given: &ArgMatches<'a>) -> Option<Job<'a>>
-    ensures { IfSome result (NamesJob (codes "steps") (rows_of (found_of given.now))) }
+pub(crate) fn steps_job<'a>(given: &ArgMatches<'a>) -> Answer<'a>
+    ensures { AnswersBy (codes "steps") (rows_of (found_of given.now)) result }
 {
     let machine = word(given, "MACHINE")?;
     let script = word(given, "SCRIPT")?;
     let steps = word(given, "STEPS")?;
     if flag_of(given, "moves")? {
-        Some(Job::Moves {
+        Some(Ok(Job::Moves {
             machine,
             script,
             steps,
-        })
+        }))
     } else {
-        Some(Job::Steps {
+        Some(Ok(Job::Steps {
             machine,
             script,
             steps,
-        })
+        }))
     }
 }
 
-pub(crate) fn round_job<'a>(given: &ArgMatches<'a>) -> Option<Job<'a>>
-    ensures { IfSome result (NamesJob (codes "round") (rows_of (found_of given.now))) }
+pub(crate) fn round_job<'a>(given: &ArgMatches<'a>) -> Answer<'a>
+    ensures { AnswersBy (codes "round") (rows_of (found_of given.now)) result }
 {
-    Some(Job::Round {
+    Some(Ok(Job::Round {
         machine: word(given, "MACHINE")?,
         script: word(given, "SCRIPT")?,
-        rounds: number_within(given, "rounds", 1000000)?,
+        rounds: number(given, "rounds", 1, MOST_ROUNDS)?,
         clocked: flag_of(given, "clocked")?,
-    })
+    }))
 }
 
-pub(crate) fn run_job<'a>(given: &ArgMatches<'a>) -> Option<Job<'a>>
-    ensures { IfSome result (NamesJob (codes "run") (rows_of (found_of given.now))) }
+pub(crate) fn run_job<'a>(given: &ArgMatches<'a>) -> Answer<'a>
+    ensures { AnswersBy (codes "run") (rows_of (found_of given.now)) result }
 {
-    Some(Job::Run {
+    Some(Ok(Job::Run {
         machine: word(given, "MACHINE")?,
         script: word(given, "SCRIPT")?,
-        workers: number_within(given, "workers", 16)?,
-        turns: number_within(given, "turns", 1000000000)?,
-    })
+        workers: number(given, "workers", 1, MOST_WORKERS)?,
+        turns: number(given, "turns", 1, MOST_TURNS)?,
+    }))
 }
 
-pub(crate) fn live_job<'a>(given: &ArgMatches<'a>) -> Option<Job<'a>>
-    ensures { IfSome result (NamesJob (codes "live") (rows_of (found_of given.now))) }
+pub(crate) fn live_job<'a>(given: &ArgMatches<'a>) -> Answer<'a>
+    ensures { AnswersBy (codes "live") (rows_of (found_of given.now)) result }
 {
-    Some(Job::Live {
+    Some(Ok(Job::Live {
         machine: word(given, "MACHINE")?,
-    })
+    }))
 }
 
-pub(crate) fn schedule_job<'a>(given: &ArgMatches<'a>) -> Option<Job<'a>>
-    ensures { IfSome result (NamesJob (codes "schedule") (rows_of (found_of given.now))) }
+pub(crate) fn schedule_job<'a>(given: &ArgMatches<'a>) -> Answer<'a>
+    ensures { AnswersBy (codes "schedule") (rows_of (found_of given.now)) result }
 {
-    Some(Job::Schedule {
+    Some(Ok(Job::Schedule {
         machine: word(given, "MACHINE")?,
         script: word(given, "SCRIPT")?,
-        rounds: number_within(given, "rounds", 1000000)?,
+        rounds: number(given, "rounds", 1, MOST_ROUNDS)?,
         clocked: flag_of(given, "clocked")?,
-    })
+    }))
 }
 
-pub(crate) fn draw_job<'a>(given: &ArgMatches<'a>) -> Option<Job<'a>>
-    ensures { IfSome result (NamesJob (codes "draw") (rows_of (found_of given.now))) }
+pub(crate) fn draw_job<'a>(given: &ArgMatches<'a>) -> Answer<'a>
+    ensures { AnswersBy (codes "draw") (rows_of (found_of given.now)) result }
 {
-    Some(Job::Draw {
+    Some(Ok(Job::Draw {
         machine: word(given, "MACHINE")?,
         script: word(given, "SCRIPT")?,
         seed: long_number(given, "seed")?,
         steps: long_number_if_given(given, "steps")?,
-    })
+    }))
 }
 
-pub(crate) fn route_job<'a>(given: &ArgMatches<'a>) -> Option<Job<'a>>
-    ensures { IfSome result (NamesJob (codes "route") (rows_of (found_of given.now))) }
+pub(crate) fn route_job<'a>(given: &ArgMatches<'a>) -> Answer<'a>
+    ensures { AnswersBy (codes "route") (rows_of (found_of given.now)) result }
 {
-    Some(Job::Route {
+    Some(Ok(Job::Route {
         machine: word(given, "MACHINE")?,
-        src: number(given, "SRC")?,
-        dst: number(given, "DST")?,
+        src: number(given, "SRC", 0, u32::MAX)?,
+        dst: number(given, "DST", 0, u32::MAX)?,
         class: class(given)?,
-    })
+    }))
 }
 
-pub(crate) fn channels_job<'a>(given: &ArgMatches<'a>) -> Option<Job<'a>>
-    ensures { IfSome result (NamesJob (codes "channels") (rows_of (found_of given.now))) }
+pub(crate) fn channels_job<'a>(given: &ArgMatches<'a>) -> Answer<'a>
+    ensures { AnswersBy (codes "channels") (rows_of (found_of given.now)) result }
 {
-    Some(Job::Channels {
+    Some(Ok(Job::Channels {
         machine: word(given, "MACHINE")?,
-    })
+    }))
 }
 
-pub(crate) fn check_job<'a>(given: &ArgMatches<'a>) -> Option<Job<'a>>
-    ensures { IfSome result (NamesJob (codes "check") (rows_of (found_of given.now))) }
+pub(crate) fn check_job<'a>(given: &ArgMatches<'a>) -> Answer<'a>
+    ensures { AnswersBy (codes "check") (rows_of (found_of given.now)) result }
 {
-    Some(Job::Check {
+    Some(Ok(Job::Check {
         report: word(given, "REPORT")?,
-    })
+    }))
 }
 
 /// The network of `network`, of which the verdict or a run is asked for, or over which a run is
-/// replayed; none where both are asked for, or a depth is given and neither is.
-pub(crate) fn network_job<'a>(given: &ArgMatches<'a>) -> Option<Job<'a>>
-    ensures { IfSome result (NamesJob (codes "network") (rows_of (found_of given.now))) }
+/// replayed; a misuse where both are asked for, or a depth is given and neither is.
+pub(crate) fn network_job<'a>(given: &ArgMatches<'a>) -> Answer<'a>
+    ensures { AnswersBy (codes "network") (rows_of (found_of given.now)) result }
 {
     let network = word(given, "NETWORK")?;
-    let given_depth = number_if_given(given, "depth", 8)?;
+    let given_depth = number_if_given(given, "depth", MOST_DEPTH)?;
     let depth = given_depth.unwrap_or(1);
     match (flag_of(given, "run")?, word(given, "replay")) {
-        (true, Some(_)) => None,
-        (true, None) => Some(Job::LockUp { network, depth }),
-        (false, Some(run)) => Some(Job::Replay {
+        (true, Some(_)) => Some(Err(Misuse::RunAndReplay)),
+        (true, None) => Some(Ok(Job::LockUp { network, depth })),
+        (false, Some(run)) => Some(Ok(Job::Replay {
             network,
             run,
             depth,
-        }),
+        })),
         (false, None) => match given_depth {
-            Some(_) => None,
-            None => Some(Job::Network { network }),
+            Some(_) => Some(Err(Misuse::DepthAlone)),
+            None => Some(Ok(Job::Network { network })),
         },
     }
 }
 
-pub(crate) fn simulate_job<'a>(given: &ArgMatches<'a>) -> Option<Job<'a>>
-    ensures { IfSome result (NamesJob (codes "simulate") (rows_of (found_of given.now))) }
+pub(crate) fn simulate_job<'a>(given: &ArgMatches<'a>) -> Answer<'a>
+    ensures { AnswersBy (codes "simulate") (rows_of (found_of given.now)) result }
 {
-    Some(Job::Simulate {
+    Some(Ok(Job::Simulate {
         network: word(given, "NETWORK")?,
         traffic: word(given, "TRAFFIC")?,
-        depth: number_within(given, "depth", 8)?,
+        depth: number(given, "depth", 1, MOST_DEPTH)?,
         arbiter: word(given, "arbiter")?,
-    })
+    }))
 }
 
 /// The trace of `linearize`, of which the lines of an order or its report are asked for.
-pub(crate) fn linearize_job<'a>(given: &ArgMatches<'a>) -> Option<Job<'a>>
-    ensures { IfSome result (NamesJob (codes "linearize") (rows_of (found_of given.now))) }
+pub(crate) fn linearize_job<'a>(given: &ArgMatches<'a>) -> Answer<'a>
+    ensures { AnswersBy (codes "linearize") (rows_of (found_of given.now)) result }
 {
     let trace = word(given, "TRACE")?;
-    let configurations = number_within(given, "configurations", 4294967295)?;
+    let configurations = number(given, "configurations", 1, u32::MAX)?;
     if flag_of(given, "report")? {
-        Some(Job::Report {
+        Some(Ok(Job::Report {
             trace,
             configurations,
-        })
+        }))
     } else {
-        Some(Job::Linearize {
+        Some(Ok(Job::Linearize {
             trace,
             configurations,
-        })
+        }))
     }
 }
 
-pub(crate) fn watch_job<'a>(given: &ArgMatches<'a>) -> Option<Job<'a>>
-    ensures { IfSome result (NamesJob (codes "watch") (rows_of (found_of given.now))) }
+pub(crate) fn watch_job<'a>(given: &ArgMatches<'a>) -> Answer<'a>
+    ensures { AnswersBy (codes "watch") (rows_of (found_of given.now)) result }
 {
-    Some(Job::Watch {
+    Some(Ok(Job::Watch {
         trace: word(given, "TRACE")?,
-        configurations: number_within(given, "configurations", 4294967295)?,
-    })
+        configurations: number(given, "configurations", 1, u32::MAX)?,
+    }))
 }
 
 /// The log of `model`, with its order of writes or by its replies alone, or a report with the texts of
-/// its run; none where both are asked for, or a number of nodes is given for another than the second.
-pub(crate) fn model_job<'a>(given: &ArgMatches<'a>) -> Option<Job<'a>>
-    ensures { IfSome result (NamesJob (codes "model") (rows_of (found_of given.now))) }
+/// its run; a misuse where both are asked for, or a number of nodes is given for another than the second.
+pub(crate) fn model_job<'a>(given: &ArgMatches<'a>) -> Answer<'a>
+    ensures { AnswersBy (codes "model") (rows_of (found_of given.now)) result }
 {
     let log = word(given, "LOG")?;
     let model = word(given, "model")?;
     let order = flag_of(given, "order")?;
-    let given_nodes = number_if_given(given, "nodes", 4294967295)?;
+    let given_nodes = number_if_given(given, "nodes", u32::MAX)?;
     let nodes = given_nodes.unwrap_or(10000);
     match (
         flag_of(given, "values")?,
         two_words(given, "texts")?,
         given_nodes,
     ) {
-        (true, None, _) => Some(Job::ValueModel {
+        (true, None, _) => Some(Ok(Job::ValueModel {
             log,
             model,
             order,
             nodes,
-        }),
-        (false, None, None) => Some(Job::Model { log, model, order }),
-        (false, Some((machine, script)), None) => Some(Job::RunModel {
+        })),
+        (false, None, None) => Some(Ok(Job::Model { log, model, order })),
+        (false, Some((machine, script)), None) => Some(Ok(Job::RunModel {
             log,
             model,
             order,
             machine,
             script,
-        }),
-        _ => None,
+        })),
+        (true, Some(_), _) => Some(Err(Misuse::TextsAndValues)),
+        (false, _, Some(_)) => Some(Err(Misuse::NodesAlone)),
     }
 }

@@ -1,16 +1,16 @@
 //! The command line of torusmem: what its words ask for.
 #![tactic(auto)]
 
-mod arguments;
 pub mod asking;
-mod building;
 pub mod command;
 mod jobs;
 mod making;
 pub mod refused;
-mod subcommands;
+pub mod table;
 mod values;
+pub mod words;
 
-pub use asking::{asks_version, request_told, words_told};
+pub use asking::{asks_commands, asks_version, request_told, words_told};
 pub use command::{Job, Request, name_of, read_command, read_request};
-pub use refused::{Misuse, NoRequest, misuse_text};
+pub use refused::{Misuse, NoJob, NoRequest, misuse_text};
+pub use table::CommandTable;

@@ -1,93 +1,113 @@
-//! How a command is put together.
-ghost use Rattle.std.specs.Prelude.{◌≡◌, false};
-ghost use Rattle.clap.specs.Words.{App, app_of, new_app, with_rule};
-ghost use Rattle.clap.specs.declared.builder.command.Command.TheViews.{out-Command as fields_of};
-ghost use Rattle.command_line.specs.CommandLine.{explain, json, loading_app, top_app};
-ghost use Rattle.command_line.specs.Making.{GainsArgument, GainsSubcommand, IsCommand};
+//! The reader of the words, put together from the table.
+ghost use Rattle.std.specs.Prelude.{◌≡◌, IfOk, false};
+ghost use Rattle.clap.specs.Words.{new_app, new_rule, rule_of};
+ghost use Rattle.command_line.specs.CommandLine.{app_of_command, rule_of_kind, rule_of_word};
+ghost use Rattle.command_line.specs.CommandLine.{top_app, torusmem_app};
+ghost use Rattle.command_line.specs.Making.{GainsWords, IsCommand};
+ghost use Rattle.command_line.specs.Table.{named_command, taken_word};
 
-use crate::arguments::{file, flag};
-use clap::{Arg, Command};
+use crate::table::{ABOUT, commands, common_words};
+use crate::words::{CommandRow, CommandWord, WordKind};
+use clap::builder::ValueParser;
+use clap::{Arg, ArgAction, Command};
 use std::alloc::{AllocError, Global};
 
-/// A command that is being put together, if there was memory for it.
-pub(crate) type Making<'a> = Result<Command<'a>, AllocError>;
+/// What the words of the option for the texts of a run are called.
+static TEXT_NAMES: [&str; 2] = ["MACHINE", "SCRIPT"];
 
-/// The program, without subcommands as yet.
-pub(crate) fn program<'a>(alloc: Global) -> Making<'a>
-    ensures { IsCommand top_app result }
+/// The argument, as one of this kind.
+fn of_kind<'a>(arg: Arg<'a>, kind: WordKind) -> Arg<'a>
+    ensures rule { rule_of result ≡ rule_of_kind kind (rule_of arg.entry) }
+    ensures local { result.global ≡ arg.entry.global }
 {
-    let command = top(alloc);
+    match kind {
+        WordKind::Flag => arg.action(ArgAction::SetTrue),
+        WordKind::Number(least, most) => {
+            arg.value_parser(ValueParser::Signed(i64::from(least), i64::from(most)))
+        }
+        WordKind::Long => arg.value_parser(ValueParser::Unsigned(0, u64::MAX)),
+        WordKind::RunTexts => arg.value_names(&TEXT_NAMES),
+        WordKind::Path | WordKind::Arbiter | WordKind::Model => arg,
+    }
+}
+
+/// An argument of this name, kind and help, which isn't an option as yet.
+fn named<'a>(alloc: Global, name: &'static str, kind: WordKind, about: &'static str) -> Arg<'a>
+    ensures rule { rule_of result ≡ rule_of_kind kind (new_rule name.now) }
+    ensures local { result.global ≡ false }
+{
+    of_kind(Arg::new(alloc, name).help(about), kind)
+}
+
+/// The argument of a word of the table.
+fn argument<'a>(alloc: Global, word: CommandWord) -> Arg<'a>
+    ensures rule { rule_of result ≡ rule_of_word (taken_word word) }
+    ensures local { result.global ≡ false }
+{
+    match word {
+        CommandWord::Argument(name, kind, about) => named(alloc, name, kind, about).required(true),
+        CommandWord::Required(name, kind, about) => {
+            named(alloc, name, kind, about).long(name).required(true)
+        }
+        CommandWord::Optional(name, kind, about) => named(alloc, name, kind, about).long(name),
+        CommandWord::Usual(name, kind, about, usual) => {
+            named(alloc, name, kind, about)
+                .long(name)
+                .default_value(usual)
+        }
+    }
+}
+
+/// The command with these words more.
+fn with_words<'a>(
+    alloc: Global,
+    command: Command<'a>,
+    words: &[CommandWord],
+) -> Result<Command<'a>, AllocError>
+    ensures { IfOk result (GainsWords command.entry words.now) }
+{
+    let mut command = command;
+    for word in words {
+        command = command.arg(argument(alloc, *word))?;
+    }
     Ok(command)
 }
 
-fn top<'a>(alloc: Global) -> Command<'a>
-    ensures app { app_of result ≡ top_app }
-    ensures local { (fields_of result).has_globals ≡ false }
+/// The subcommand of a row, with the options of all commands.
+fn subcommand<'a>(alloc: Global, row: &CommandRow) -> Result<Command<'a>, AllocError>
+    ensures { IfOk result (IsCommand (app_of_command (named_command row.now))) }
 {
-    Command::new(alloc, "torusmem")
-        .about("A shared memory spread over a torus of tiles")
-        .version("0.2.0")
-        .subcommand_required(true)
+    let command = begun(alloc, row.name, row.about);
+    let command = with_words(alloc, command, row.words)?;
+    with_words(alloc, command, common_words())
 }
 
-/// A command of this name that takes no words as yet.
-pub(crate) fn named<'a>(alloc: Global, name: &'a str, about: &'a str) -> Making<'a>
-    ensures { IsCommand (new_app name.entry.now) result }
-{
-    let command = titled(alloc, name, about);
-    Ok(command)
-}
-
-fn titled<'a>(alloc: Global, name: &'a str, about: &'a str) -> Command<'a>
-    ensures app { app_of result ≡ new_app name.entry.now }
-    ensures local { (fields_of result).has_globals ≡ false }
+/// A command of this name and help, without words as yet.
+fn begun<'a>(alloc: Global, name: &'static str, about: &'static str) -> Command<'a>
+    ensures { IsCommand (new_app name.now) result }
 {
     Command::new(alloc, name).about(about)
 }
 
-/// The command with one more argument.
-pub(crate) fn with_argument<'a>(command: Making<'a>, arg: Arg<'a>) -> Making<'a>
-    ensures { GainsArgument command.entry arg.entry result }
+/// The program, without subcommands as yet.
+fn top<'a>(alloc: Global) -> Command<'a>
+    ensures { IsCommand top_app result }
 {
-    match command {
-        Ok(command) => command.arg(arg),
-        Err(error) => Err(error),
+    Command::new(alloc, "torusmem")
+        .about(ABOUT)
+        .version("0.2.0")
+        .subcommand_required(true)
+}
+
+/// The program with all its subcommands.
+pub(crate) fn command<'a>(alloc: Global) -> Result<Command<'a>, AllocError>
+    ensures { IfOk result (IsCommand torusmem_app) }
+{
+    let mut command = top(alloc);
+    let rows = commands();
+    for row in rows {
+        let more = subcommand(alloc, row)?;
+        command = command.subcommand(more)?;
     }
-}
-
-/// The command with one more subcommand.
-pub(crate) fn with_subcommand<'a>(command: Making<'a>, subcommand: Making<'a>) -> Making<'a>
-    ensures { GainsSubcommand command.entry subcommand.entry result }
-{
-    let command = command?;
-    let subcommand = subcommand?;
-    command.subcommand(subcommand)
-}
-
-/// The command with one more option, to say more of what is wrong.
-pub(crate) fn with_explain<'a>(alloc: Global, command: Making<'a>) -> Making<'a>
-    ensures { (app : App) → IsCommand app command.entry
-        → IsCommand (with_rule app explain) result }
-{
-    let help = "Explains what is wrong, or how a run ended, on further lines";
-    with_argument(command, flag(alloc, "explain", help))
-}
-
-/// The command with two more options: to print the answer as a JSON object, and to say more of what is wrong.
-pub(crate) fn with_json<'a>(alloc: Global, command: Making<'a>) -> Making<'a>
-    ensures { (app : App) → IsCommand app command.entry
-        → IsCommand (with_rule (with_rule app json) explain) result }
-{
-    let help = "Prints the answer as one JSON object on one line";
-    let command = with_argument(command, flag(alloc, "json", help));
-    with_explain(alloc, command)
-}
-
-/// A command of this name that takes a file of the machine, and one of the scripts.
-pub(crate) fn loading<'a>(alloc: Global, name: &'a str, about: &'a str) -> Making<'a>
-    ensures { IsCommand (loading_app name.entry.now) result }
-{
-    let command = named(alloc, name, about);
-    let command = with_argument(command, file(alloc, "MACHINE", "The file with the machine"));
-    with_argument(command, file(alloc, "SCRIPT", "The file with the scripts"))
+    Ok(command)
 }

@@ -1,11 +1,8 @@
 //! Why the words of a command line name no job.
-ghost use Rattle.std.specs.Prelude.{◌≡◌, IfSome, codes};
-ghost use Rattle.clap.specs.Words.{found_of, rows_of, subcommand_name_of, subcommand_rows_of};
-ghost use Rattle.command_line.specs.Job.{rows_in};
-ghost use Rattle.command_line.specs.Refused.{IsMisuse, TellsNoRequest, misuse_text, misused};
+ghost use Rattle.std.specs.Prelude.{◌≡◌};
+ghost use Rattle.command_line.specs.Refused.{misuse_text};
 
-use crate::values::{flag_of, number_if_given, two_words, word};
-use clap::{ArgMatches, Error};
+use clap::Error;
 
 /// How the options of `network` or `model` are misused.
 #[derive(Clone, Copy)]
@@ -20,15 +17,22 @@ pub enum Misuse {
     NodesAlone,
 }
 
+/// Why the values of a subcommand name no job.
+#[derive(Clone, Copy)]
+pub enum NoJob {
+    /// Options are misused.
+    Options(Misuse),
+    /// A value is missing that the command has to have.
+    Missing,
+}
+
 /// Why the words of a command line name no job.
 #[derive(Drop)]
 pub enum NoRequest {
     /// What the parser says of them, help among it; or that memory ran out.
     Parser(Error),
-    /// Options are misused.
-    Options(Misuse),
-    /// A value is missing.
-    Missing,
+    /// What is wrong with the values of a subcommand.
+    Values(NoJob),
 }
 
 /// The sentence on options that are misused.
@@ -42,59 +46,4 @@ pub fn misuse_text(misuse: Misuse) -> &'static str
         Misuse::TextsAndValues => "model takes --texts or --values, not both",
         Misuse::NodesAlone => "--nodes goes with --values: without it nothing is searched",
     }
-}
-
-/// How the options of `network` are misused, if they are.
-fn misuse_of_network(given: &ArgMatches<'_>) -> Option<Misuse>
-    ensures misuse { IfSome result (λ misuse. IsMisuse misuse (rows_of (found_of given.now))) }
-    ensures of { IfSome result (λ misuse. misused misuse ≡ codes "network") }
-{
-    let is_run = flag_of(given, "run")?;
-    let is_replay = word(given, "replay").is_some();
-    let has_depth = number_if_given(given, "depth", 8)?.is_some();
-    match (is_run, is_replay, has_depth) {
-        (true, true, _) => Some(Misuse::RunAndReplay),
-        (false, false, true) => Some(Misuse::DepthAlone),
-        _ => None,
-    }
-}
-
-/// How those of `model` are, if they are.
-fn misuse_of_model(given: &ArgMatches<'_>) -> Option<Misuse>
-    ensures misuse { IfSome result (λ misuse. IsMisuse misuse (rows_of (found_of given.now))) }
-    ensures of { IfSome result (λ misuse. misused misuse ≡ codes "model") }
-{
-    let is_by_values = flag_of(given, "values")?;
-    let has_texts = two_words(given, "texts")?.is_some();
-    let has_nodes = number_if_given(given, "nodes", 4294967295)?.is_some();
-    match (is_by_values, has_texts, has_nodes) {
-        (true, true, _) => Some(Misuse::TextsAndValues),
-        (false, _, true) => Some(Misuse::NodesAlone),
-        _ => None,
-    }
-}
-
-/// How the options of the subcommand of this name are misused, if they are.
-fn misuse_of(name: &str, given: &ArgMatches<'_>) -> Option<Misuse>
-    ensures misuse { IfSome result (λ misuse. IsMisuse misuse (rows_of (found_of given.now))) }
-    ensures of { IfSome result (λ misuse. misused misuse ≡ name.now) }
-{
-    match name {
-        "network" => misuse_of_network(given),
-        "model" => misuse_of_model(given),
-        _ => None,
-    }
-}
-
-/// Why matches name no job.
-pub(crate) fn no_request(matches: &ArgMatches<'_>) -> NoRequest
-    ensures { TellsNoRequest (subcommand_name_of matches.now)
-        (rows_in (subcommand_rows_of matches.now)) result }
-{
-    if let Some((name, given)) = matches.subcommand()
-        && let Some(misuse) = misuse_of(name, given)
-    {
-        return NoRequest::Options(misuse);
-    }
-    NoRequest::Missing
 }

@@ -14,9 +14,9 @@ mod watching;
 use answering::{Outcome, answer};
 use as_json::judged_as_json;
 use command_jobs::{
-    RunEnd, done, fault_told, flushed, tell_end_of, texts_of, version_told, writer,
+    RunEnd, commands_told, done, fault_told, flushed, tell_end_of, texts_of, version_told, writer,
 };
-use command_line::{Job, Request, asks_version, name_of, request_told, words_told};
+use command_line::{Job, Request, asks_commands, asks_version, name_of, request_told, words_told};
 use judging::Judging;
 use model_answer::MemoryModel;
 use network_rounds::Arbiter;
@@ -48,7 +48,10 @@ fn run<R: Env + Files + Input + Print + Eprint + Clock + AllocGlobal + Threads +
     if asks_version(words.as_slice()) {
         return version_told(rt);
     }
-    let Some(request) = request_told(rt, words.as_slice()) else {
+    if asks_commands(words.as_slice()) {
+        return commands_told(rt);
+    }
+    let Ok(request) = request_told(rt, words.as_slice()) else {
         return 2;
     };
     if is_other_model(rt, &request.job) || is_other_arbiter(rt, &request.job) {

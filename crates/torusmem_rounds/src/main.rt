@@ -2,8 +2,8 @@
 //! channels. The program `torusmem` has all commands; this one stands on fewer crates.
 #![tactic(auto)]
 
-use command_jobs::{done, version_told};
-use command_line::{asks_version, request_told, words_told};
+use command_jobs::{commands_told, done, version_told};
+use command_line::{asks_commands, asks_version, request_told, words_told};
 use std::io::{Input, IsTerminal};
 use std::process::ExitCode;
 use std::rt::{Clock, Env, Files};
@@ -22,7 +22,10 @@ fn run<R: Env + Files + Input + Print + Eprint + Clock + AllocGlobal>(rt: &R, is
     if asks_version(words.as_slice()) {
         return version_told(rt);
     }
-    let Some(request) = request_told(rt, words.as_slice()) else {
+    if asks_commands(words.as_slice()) {
+        return commands_told(rt);
+    }
+    let Ok(request) = request_told(rt, words.as_slice()) else {
         return 2;
     };
     match done(rt, &request, is_seen) {

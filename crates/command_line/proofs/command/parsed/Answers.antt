@@ -1,9 +1,12 @@
 -- The command that was put together is that of the specification.
 use Rattle.std.specs.Prelude.{map}
-use Rattle.std.proofs.Common.{subst}
-use Rattle.clap.specs.Words.{HasMatchesOf}
+use Rattle.command_line.proofs.Apps.{fails_by_app, matches_of_app}
 use Rattle.command_line.proofs.command.parsed.Goals as goal
 
-pub returns : goal.returns
-returns g c = subst (λ app. HasMatchesOf app (map g.S.AsStr.text c.args.words.now) c.in_ok-matches.matches)
-    c.in_ok-command.ensures.is.0 c.in_ok-matches.ensures.ok.2
+pub returns-clause-matches : goal.returns-clause-matches
+returns-clause-matches g c = matches_of_app c.try_get_matches_from_mut.result _ _ _ (map g.S.AsStr.text c.args.words.now)
+    c.in_ok-command.ensures.0 c.try_get_matches_from_mut.ensures.ok
+
+pub returns-clause-parser : goal.returns-clause-parser
+returns-clause-parser g c = fails_by_app c.try_get_matches_from_mut.result _ (map g.S.AsStr.text c.args.words.now)
+    c.in_ok-command.ensures.0 c.try_get_matches_from_mut.ensures.kinds

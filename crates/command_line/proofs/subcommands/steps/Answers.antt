@@ -1,8 +1,0 @@
--- The command gains its arguments.
-use Rattle.command_line.proofs.subcommands.steps.Goals as goal
-
-pub returns : goal.returns
-returns c = c.with_explain.ensures _
-    (c.with_argument-command-2.ensures _ _
-    (c.with_argument-command.ensures _ _ c.loading-command.ensures c.file.ensures.rule c.file.ensures.local)
-    c.flag.ensures.rule c.flag.ensures.local)

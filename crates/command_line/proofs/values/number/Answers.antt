@@ -1,9 +1,0 @@
--- The getter reads the text of the argument.
-use Rattle.std.specs.Str.Parse.{ExplainsUnsignedError, HasUnsignedDigitsIfOk}
-use Rattle.clap.specs.Words.{found_of}
-use Rattle.command_line.proofs.Rows.{number_read}
-use Rattle.command_line.proofs.values.number.Goals as goal
-
-pub returns : goal.returns
-returns c = number_read 32 (λ text read. ExplainsUnsignedError 10 text read) (λ text read. HasUnsignedDigitsIfOk text read)
-    (found_of c.args.given.now) c.args.id.now c.get_one.result c.get_one.ensures.none c.get_one.ensures.value

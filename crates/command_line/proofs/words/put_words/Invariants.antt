@@ -1,0 +1,10 @@
+use Rattle.std.proofs.Common.{take}
+use Rattle.std.specs.Fmt.{HasWritten, IsPlainFormatter}
+use Rattle.std.specs.List.{flat_map}
+use Rattle.command_line.specs.Printed.{word_text}
+use Rattle.command_line.specs.Table.{taken_word}
+use Rattle.command_line.proofs.words.put_words.Given as goal
+
+abbrev pub invariant-loop-word : goal.invariant-loop-word
+invariant-loop-word g l = IsPlainFormatter l.fn.f
+    → HasWritten g.W.Write.write_str_gives l.fn.f (flat_map (λ word. word_text (taken_word word)) (take l.word-index l.words)) l.f

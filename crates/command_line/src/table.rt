@@ -1,0 +1,287 @@
+//! The table of the commands: the reader of words is made of it, and `--commands` prints it.
+ghost use Rattle.std.specs.Fmt.{WritesOnOk};
+ghost use Rattle.std.specs.Prelude.{◌≡◌, map};
+ghost use Rattle.command_line.specs.Printed.{program_text};
+ghost use Rattle.command_line.specs.Table.{commands, common_words, named_command, taken_word};
+
+use crate::words::CommandWord::{Argument, Optional, Required, Usual};
+use crate::words::WordKind::{Arbiter, Flag, Long, Model, Number, Path, RunTexts};
+use crate::words::{CommandRow, CommandWord, put_common, put_rows};
+use std::fmt;
+
+/// The most rounds of `round` and `schedule`.
+pub(crate) const MOST_ROUNDS: u32 = 1000000;
+
+/// The most workers of `run`.
+pub(crate) const MOST_WORKERS: u32 = 16;
+
+/// The most turns of a worker.
+pub(crate) const MOST_TURNS: u32 = 1000000000;
+
+/// The most flits of a channel.
+pub(crate) const MOST_DEPTH: u32 = 8;
+
+/// The most configurations of a search, or nodes of a model.
+pub(crate) const MOST_SEARCHED: u32 = 4294967295;
+
+const MACHINE: CommandWord = Argument("MACHINE", Path, "The file with the machine");
+
+const SCRIPT: CommandWord = Argument("SCRIPT", Path, "The file with the scripts");
+
+const ROUNDS: CommandWord = Usual(
+    "rounds",
+    Number(1, MOST_ROUNDS),
+    "At most this many rounds, 1 to 1000000",
+    "1000000",
+);
+
+const CLOCKED: CommandWord = Optional(
+    "clocked",
+    Flag,
+    "Clocked rounds: each attempts what is enabled when it begins",
+);
+
+const NETWORK: CommandWord = Argument("NETWORK", Path, "The file with the network");
+
+const CONFIGURATIONS: CommandWord = Usual(
+    "configurations",
+    Number(1, MOST_SEARCHED),
+    "At most this many configurations of a word, 1 to 4294967295",
+    "1000000",
+);
+
+const JSON: CommandWord = Optional(
+    "json",
+    Flag,
+    "Prints the answer as one JSON object on one line",
+);
+
+/// What the program is.
+pub(crate) const ABOUT: &str = "A shared memory spread over a torus of tiles";
+
+const COMMON: [CommandWord; 1] = [Optional(
+    "explain",
+    Flag,
+    "Explains what is wrong, or how a run ended, on further lines",
+)];
+
+const ROWS: [CommandRow; 14] = [
+    CommandRow {
+        name: "steps",
+        about: "Runs the listed steps and prints the report",
+        words: &[
+            MACHINE,
+            SCRIPT,
+            Argument("STEPS", Path, "The file with the steps"),
+            Optional("moves", Flag, "Prints the steps that moved, not the report"),
+        ],
+    },
+    CommandRow {
+        name: "round",
+        about: "Runs in rounds until every script is finished, and prints the report",
+        words: &[MACHINE, SCRIPT, ROUNDS, CLOCKED],
+    },
+    CommandRow {
+        name: "run",
+        about: "Runs in threads until every script is finished, and prints the report",
+        words: &[
+            MACHINE,
+            SCRIPT,
+            Usual(
+                "workers",
+                Number(1, MOST_WORKERS),
+                "The number of worker threads, 1 to 16",
+                "1",
+            ),
+            Usual(
+                "turns",
+                Number(1, MOST_TURNS),
+                "At most this many turns each, 1 to 1000000000",
+                "1000000000",
+            ),
+        ],
+    },
+    CommandRow {
+        name: "live",
+        about: "Reads requests from standard input, and answers them line by line",
+        words: &[MACHINE],
+    },
+    CommandRow {
+        name: "schedule",
+        about: "Runs in rounds until every script is finished, and prints the moves as steps",
+        words: &[MACHINE, SCRIPT, ROUNDS, CLOCKED],
+    },
+    CommandRow {
+        name: "draw",
+        about: "Makes random moves until every script is finished, and prints them as steps",
+        words: &[
+            MACHINE,
+            SCRIPT,
+            Required("seed", Long, "The random seed, 0 to 18446744073709551615"),
+            Optional(
+                "steps",
+                Long,
+                "At most this many moves, 0 to 18446744073709551615; no limit by default",
+            ),
+        ],
+    },
+    CommandRow {
+        name: "route",
+        about: "Prints the channels of a route and their numbers",
+        words: &[
+            MACHINE,
+            Argument("SRC", Number(0, 4294967295), "The tile that sends"),
+            Argument("DST", Number(0, 4294967295), "The tile that receives"),
+            Optional("reply", Flag, "The route of a reply, not of a request"),
+        ],
+    },
+    CommandRow {
+        name: "channels",
+        about: "Prints the number of each channel, and checks that they rise along every route",
+        words: &[MACHINE],
+    },
+    CommandRow {
+        name: "check",
+        about: "Checks a report",
+        words: &[Argument("REPORT", Path, "The file with the report")],
+    },
+    CommandRow {
+        name: "network",
+        about: "Judges a network: free of deadlock, a pair without a route, or a cycle that can deadlock",
+        words: &[
+            NETWORK,
+            Optional(
+                "run",
+                Flag,
+                "Prints the run by which it deadlocks, move by move",
+            ),
+            Optional(
+                "replay",
+                Path,
+                "Replays the run of this file, and prints how it ends",
+            ),
+            Optional(
+                "depth",
+                Number(1, MOST_DEPTH),
+                "How many flits a channel holds in a run, 1 to 8; 1 by default",
+            ),
+            JSON,
+        ],
+    },
+    CommandRow {
+        name: "simulate",
+        about: "Sends packets through a network in clocked rounds, and prints when each arrives",
+        words: &[
+            NETWORK,
+            Argument("TRAFFIC", Path, "The file with the packets"),
+            Usual(
+                "depth",
+                Number(1, MOST_DEPTH),
+                "How many flits a channel holds, 1 to 8",
+                "1",
+            ),
+            Usual(
+                "arbiter",
+                Arbiter,
+                "Which head an output takes: rotating (round robin) or turn",
+                "rotating",
+            ),
+        ],
+    },
+    CommandRow {
+        name: "linearize",
+        about: "Judges a trace: an order that explains it, no such order, or undecided",
+        words: &[
+            Argument("TRACE", Path, "The file with the trace"),
+            CONFIGURATIONS,
+            Optional("report", Flag, "Prints the order as a report"),
+            JSON,
+        ],
+    },
+    CommandRow {
+        name: "watch",
+        about: "Judges a trace online, and ends at the first answer that no order explains",
+        words: &[
+            Argument(
+                "TRACE",
+                Path,
+                "The file with the trace, or - for standard input",
+            ),
+            CONFIGURATIONS,
+            JSON,
+        ],
+    },
+    CommandRow {
+        name: "model",
+        about: "Judges a log or report by five memory models, and prints the cycle of the weakest that fails",
+        words: &[
+            Argument("LOG", Path, "The file with the log or the report"),
+            Usual(
+                "model",
+                Model,
+                "The model that decides the status: coherent, fenced, pso, tso or sc",
+                "sc",
+            ),
+            Optional(
+                "order",
+                Flag,
+                "Prints an order of the strongest model that holds, too",
+            ),
+            Optional(
+                "texts",
+                RunTexts,
+                "The machine and scripts whose run the report shows, so that their fences count",
+            ),
+            Optional(
+                "values",
+                Flag,
+                "Judges by replies alone, without an order of writes",
+            ),
+            Optional(
+                "nodes",
+                Number(1, MOST_SEARCHED),
+                "At most this many nodes a model with --values, 1 to 4294967295; 10000 by default",
+            ),
+            JSON,
+        ],
+    },
+];
+
+/// The options of all commands.
+pub(crate) fn common_words() -> &'static [CommandWord]
+    ensures { map taken_word result.now ≡ common_words }
+{
+    &COMMON
+}
+
+/// The commands, in the order of the help.
+pub(crate) fn commands() -> &'static [CommandRow]
+    ensures { map named_command result.now ≡ commands }
+{
+    &ROWS
+}
+
+/// Writes the line that says what the program is.
+fn put_about<W: fmt::Write>(f: &mut fmt::Formatter<W>) -> fmt::Result
+    ensures { WritesOnOk W.write_str_gives f.old result program_text f.new }
+{
+    writeln!(f, "program {ABOUT}")
+}
+
+/// The table as text: a line `program TEXT`, one for each option of all commands, and behind an empty
+/// line those of each command and of its words. launcher/commands.txt has them, too.
+#[derive(Clone, Copy)]
+pub struct CommandTable;
+
+impl fmt::Display for CommandTable {
+    ghost use Rattle.std.specs.Prelude.{Some};
+    ghost use Rattle.command_line.specs.Printed.{commands_text};
+
+    ghost output = { λ _. Some commands_text };
+
+    fn fmt<W: fmt::Write>(&self, f: &mut fmt::Formatter<W>) -> fmt::Result {
+        put_about(f)?;
+        put_common(f, common_words())?;
+        put_rows(f, commands())
+    }
+}
