@@ -1,12 +1,10 @@
 -- What the commands print that ask for a run of a network, or replay one (this project's own format).
 use Rattle.std.specs.Prelude.{◌≡◌, ◌⊎◌, List, ℕ, Bool, Result, Ok, Err}
-use Rattle.network_judge.specs.declared.table.Verdict.{Verdict}
-use Rattle.network_judge.specs.Verdicts.{IsVerdict}
 use Rattle.network_text.specs.Network.{NetworkSpec, network_of}
-use Rattle.network_text.specs.Answer.{is_rising}
+use Rattle.network_text.specs.declared.answer.Answer.{Answer}
 use Rattle.network_run.specs.declared.replaying.Replayed.{Replayed}
 use Rattle.network_run.specs.Answers.{IsRunFault, is_sound}
-use Rattle.network_run.specs.Printed.{IsOfVerdict}
+use Rattle.network_run.specs.Printed.{TellsRunOrNoPair}
 use Rattle.network_run.specs.Replays.{AnswersReplay}
 use Rattle.network_run.specs.Written.{replay_line}
 use Rattle.network_rounds.specs.declared.arbiter.Arbiter.{Arbiter}
@@ -17,17 +15,17 @@ use Rattle.program_fault.specs.declared.fault.ProgramFault.TheVariants as progra
 use Rattle.program_fault.specs.Done.{Does, Output}
 use Rattle.command_verdicts.specs.Printed.{IsNetworkFault}
 
--- a text is that of a run by which the network of a text, given as the list of its lines,
--- deadlocks, where it has a cycle, and else that of its verdict; and whether the verdict's numbers
--- rise
+-- a text is what is answered of the network of a text, given as the list of its lines: that it has no
+-- source-destination pair; or the run by which it deadlocks, where it has a cycle, and else its
+-- verdict; and whether the verdict's numbers rise
 pub record IsLockUpText (A : Type 0) (lines : List (List ℕ)) (depth : ℕ) (rising : Bool)
     (text : List ℕ) : Type 0 where
   pub network : NetworkSpec
   pub read : network_of lines ≡ Ok network
-  pub verdict : Verdict A
-  pub holds : IsVerdict network.table network.replies verdict
-  pub is : IsOfVerdict network depth verdict text
-  pub rises : rising ≡ is_rising verdict
+  pub answer : Answer A
+  pub told : TellsRunOrNoPair network depth answer
+  pub is : text ≡ answer.text.items
+  pub rises : rising ≡ answer.rising
 
 -- the run of a network, or its verdict, was printed
 abbrev pub PrintsLockUp : (A : Type 0) → List (List ℕ) → ℕ → Output → Output

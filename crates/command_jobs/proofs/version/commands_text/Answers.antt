@@ -1,5 +1,5 @@
 -- Where the output failed, a beginning of the table was taken.
-use Rattle.std.proofs.Common.{refl}
+use Rattle.std.proofs.Common.{rules}
 use Rattle.std.proofs.lemmas.Result.{err_from_is_err_and}
 use Rattle.command_jobs.proofs.version.commands_text.Goals as goal
 
@@ -9,7 +9,7 @@ returns-in_err-put_all g c =
     rw (p.1, p.2) (
       tt,
       (
-        _,
+        c.as_bytes.result.now,
         search rules,
         record { bytes = c.in_err-put_all.ensures.err; failed = c.in_err-put_all.ensures.failed },
       ),

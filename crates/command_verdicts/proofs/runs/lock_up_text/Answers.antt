@@ -1,8 +1,22 @@
--- Where the output failed, a beginning of the text was taken.
-use Rattle.std.proofs.Common.{sym, subst}
+-- The whole text was taken; or, where the output failed, a beginning of it.
+use Rattle.std.proofs.Common.{refl}
 use Rattle.std.proofs.lemmas.Result.{err_from_is_err_and}
-use Rattle.network_run.specs.Printed.{IsOfVerdict}
 use Rattle.command_verdicts.proofs.runs.lock_up_text.Goals as goal
+
+pub returns : goal.returns
+returns g c =
+    let told = c.in_ok-answer.ensures in (
+      c.deref.result.now,
+      record {
+        network = told.0;
+        read = told.1;
+        answer = c.in_ok-answer.answer;
+        told = told.2;
+        is = c.deref.ensures.value;
+        rises = refl;
+      },
+      record { bytes = c.in_ok-put_all.ensures.ok; quiet = c.in_ok-put_all.ensures.quiet },
+    )
 
 pub returns-in_err-put_all : goal.returns-in_err-put_all
 returns-in_err-put_all g c =
@@ -15,10 +29,10 @@ returns-in_err-put_all g c =
         record {
           network = told.0;
           read = told.1;
-          verdict = told.2.verdict;
-          holds = told.2.holds;
-          is = subst (λ t. IsOfVerdict told.0 c.args.depth told.2.verdict t) (sym c.deref.ensures.value) told.2.text;
-          rises = told.2.rising;
+          answer = c.in_ok-answer.answer;
+          told = told.2;
+          is = c.deref.ensures.value;
+          rises = refl;
         },
         record { bytes = c.in_err-put_all.ensures.err; failed = c.in_err-put_all.ensures.failed },
       ),
