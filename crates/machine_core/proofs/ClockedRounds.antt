@@ -23,12 +23,14 @@ use Rattle.machine_parts.proofs.Machines.{after_steps, finished_of_machine}
 use Rattle.machine_parts.proofs.Moves.{lives}
 use Rattle.machine_core.specs.declared.part.Marks.{Marks}
 use Rattle.machine_core.specs.Rounds.{attempts_between, first_in}
+use Rattle.machine_core.specs.Arbiters.{Arbiter, NamesInputs, IsArbiter, arbited_at, arbited_round, by_turn}
 use Rattle.machine_core.specs.Clocked.{turned_at, turned_round, clocked_round, clocked_rounds}
 use Rattle.machine_core.specs.Marked.{marked_at, MarksTile}
 use Rattle.machine_core.proofs.FirstEnabled.{skipped}
 use Rattle.machine_core.proofs.Finishing.{few_left}
 use Rattle.machine_core.proofs.Rounds.{core_append}
-use Rattle.machine_core.proofs.MarkedSteps.{is_enabled, ranges_join, tiles_kept}
+use Rattle.machine_core.proofs.MarkedSteps.{is_enabled, tiles_kept}
+use Rattle.machine_core.proofs.Orders.{turned_is, turned_round_is}
 
 -- what is marked of all tiles is the clocked round
 turned : (s : Shape) (turn ports first tiles : ℕ) → ports ≡ port_count (dims_of s) → first ≡ turn % ports → tiles ≡ tiles_of s
@@ -66,7 +68,7 @@ module _ (p : Step → Bool) where
   none_both : (xs ys : List Step) → filter p xs ≡ [] → filter p ys ≡ [] → filter p (xs ++ ys) ≡ []
   none_both xs ys a b = filter-append p xs ys ∙ (ap (λ (zs : List Step). zs ++ filter p ys) a ∙ b)
 
-  module _ (ports first t : ℕ) (low : first ≤ ports) where
+  module _ (ports t : ℕ) where
     abbrev of_router : List Choice → List Step
     of_router = attempts_of (3 * t + 1)
 
@@ -77,45 +79,61 @@ module _ (p : Step → Bool) where
     whole : (f : ℕ → Choice) → filter p (attempts_between f (3 * t + 1) 0 ports) ≡ [] → filter p (of_router (map f (range_with_len 0 ports))) ≡ []
     whole f e = ap (λ (n : ℕ). filter p (of_router (map f (range_with_len 0 n)))) (let z : ports ≡ ports - 0 = omega arith in z) ∙ e
 
-    both : (f : ℕ → Choice) → filter p (attempts_between f (3 * t + 1) first ports) ≡ [] → filter p (attempts_between f (3 * t + 1) 0 first) ≡ []
-        → filter p (of_router (map f (range_with_len 0 ports))) ≡ []
-    both f above below =
-        let z : ports ≡ (first - 0) + (ports - first) = omega (arith, low) in
-        let e : 0 + (first - 0) ≡ first = omega arith in
-        ap (λ (n : ℕ). filter p (of_router (map f (range_with_len 0 n)))) z
-        ∙ (ap (λ (xs : List ℕ). filter p (of_router (map f xs)))
-        (ranges_join 0 (first - 0) (ports - first) ∙ ap (λ (n : ℕ). range_with_len 0 (first - 0) ++ range_with_len n (ports - first)) e)
-        ∙ (ap (λ (xs : List Choice). filter p (of_router xs)) (map-append f (range_with_len 0 (first - 0)) (range_with_len first (ports - first)))
-        ∙ routed (map f (range_with_len 0 (first - 0))) (map f (range_with_len first (ports - first))) below above))
+    abbrev put_of : ℕ → Step
+    put_of i = record { agent = 3 * t + 1; choice = Put i }
 
-    -- a tile where nothing of a clocked round passes
-    none_at : filter p (turned_at ports first t) ≡ [] → filter p (round_at ports t) ≡ []
-    none_at e =
-        let own : List Step = attempts_of (3 * t) processor_choices in
-        let takes : List Step = attempts_between (λ k. TakeFrom k) (3 * t + 1) 0 ports in
-        let above : List Step = attempts_between (λ k. Put k) (3 * t + 1) first ports in
-        let below : List Step = attempts_between (λ k. Put k) (3 * t + 1) 0 first in
-        let credits : List Step = attempts_between (λ k. CreditOf k) (3 * t + 1) 0 ports in
-        let bank : List Step = attempts_of (3 * t + 2) bank_choices in
-        let e_4 = none_left (own ++ takes ++ above ++ below ++ credits) bank e in
-        let e_3 = none_left (own ++ takes ++ above ++ below) credits e_4 in
-        let e_2 = none_left (own ++ takes ++ above) below e_3 in
-        let e_1 = none_left (own ++ takes) above e_2 in
-        let of_takes = whole (λ k. TakeFrom k) (none_right own takes e_1) in
-        let of_puts = both (λ k. Put k) (none_right (own ++ takes) above e_2) (none_right (own ++ takes ++ above) below e_3) in
-        let of_credits = whole (λ k. CreditOf k) (none_right (own ++ takes ++ above ++ below) credits e_4) in
-        let router = routed (takes_of_all ports ++ puts_of_all ports) (credits_of_all ports) (routed (takes_of_all ports) (puts_of_all ports) of_takes of_puts) of_credits in
-        none_both (own ++ of_router (router_choices ports)) bank
-        (none_both own (of_router (router_choices ports)) (none_left own takes e_1) router)
-        (none_right (own ++ takes ++ above ++ below ++ credits) bank e)
+    -- one of which nothing passes
+    not_there : (before behind : List ℕ) (i : ℕ) → filter p (of_router (map (λ k. Put k) (before ++ i ∷ behind))) ≡ [] → p (put_of i) ≡ false
+    not_there [] behind i e = by_test (p (put_of i)) e
+      where
+        by_test : (b : Bool) → cond b (put_of i ∷ filter p (of_router (map (λ k. Put k) behind))) (filter p (of_router (map (λ k. Put k) behind))) ≡ [] → b ≡ false
+        by_test true e = absurd (cc)
+        by_test false e = refl
+    not_there (j ∷ before) behind i e =
+        not_there before behind i (none_right (put_of j ∷ []) (of_router (map (λ k. Put k) (before ++ i ∷ behind))) e)
 
-  none_of_tiles : (ports first a n : ℕ) → first ≤ ports → filter p (flat_map (turned_at ports first) (range_with_len a n)) ≡ []
+    none_of_range : (a n : ℕ) → ((i : ℕ) → i < a + n → p (put_of i) ≡ false) → filter p (of_router (map (λ k. Put k) (range_with_len a n))) ≡ []
+    none_of_range a zero none = refl
+    none_of_range a (suc n) none =
+        ap (λ (b : Bool). cond b (put_of a ∷ filter p (of_router (map (λ k. Put k) (range_with_len (a + 1) n))))
+        (filter p (of_router (map (λ k. Put k) (range_with_len (a + 1) n))))) (none a (omega arith))
+        ∙ none_of_range (a + 1) n (λ i low. none i (omega (arith, low)))
+
+    module _ (inputs : List ℕ) (names : NamesInputs ports inputs) where
+      named : filter p (of_router (map (λ k. Put k) inputs)) ≡ [] → filter p (of_router (puts_of_all ports)) ≡ []
+      named e = none_of_range 0 ports (λ i low.
+          let at = names.all i (omega (arith, low)) in
+          not_there at.0 at.1 i (ap (λ (xs : List ℕ). filter p (of_router (map (λ k. Put k) xs))) (sym at.2) ∙ e))
+
+      -- a tile where nothing of a round by an arbiter passes
+      none_at : filter p (arbited_at ports inputs t) ≡ [] → filter p (round_at ports t) ≡ []
+      none_at e =
+          let own : List Step = attempts_of (3 * t) processor_choices in
+          let takes : List Step = attempts_between (λ k. TakeFrom k) (3 * t + 1) 0 ports in
+          let puts : List Step = of_router (map (λ k. Put k) inputs) in
+          let credits : List Step = attempts_between (λ k. CreditOf k) (3 * t + 1) 0 ports in
+          let bank : List Step = attempts_of (3 * t + 2) bank_choices in
+          let e_3 = none_left (own ++ takes ++ puts ++ credits) bank e in
+          let e_2 = none_left (own ++ takes ++ puts) credits e_3 in
+          let e_1 = none_left (own ++ takes) puts e_2 in
+          let of_takes = whole (λ k. TakeFrom k) (none_right own takes e_1) in
+          let of_puts = named (none_right (own ++ takes) puts e_2) in
+          let of_credits = whole (λ k. CreditOf k) (none_right (own ++ takes ++ puts) credits e_3) in
+          let router = routed (takes_of_all ports ++ puts_of_all ports) (credits_of_all ports) (routed (takes_of_all ports) (puts_of_all ports) of_takes of_puts) of_credits in
+          none_both (own ++ of_router (router_choices ports)) bank
+          (none_both own (of_router (router_choices ports)) (none_left own takes e_1) router)
+          (none_right (own ++ takes ++ puts ++ credits) bank e)
+
+  none_of_tiles : (by : ℕ → List ℕ) (ports a n : ℕ) → ((t : ℕ) → t < a + n → NamesInputs ports (by t))
+      → filter p (flat_map (λ t. arbited_at ports (by t) t) (range_with_len a n)) ≡ []
       → filter p (flat_map (round_at ports) (range_with_len a n)) ≡ []
-  none_of_tiles ports first a zero low e = refl
-  none_of_tiles ports first a (suc n) low e =
+  none_of_tiles by ports a zero names e = refl
+  none_of_tiles by ports a (suc n) names e =
+      let here : List Step = arbited_at ports (by a) a in
+      let rest : List Step = flat_map (λ t. arbited_at ports (by t) t) (range_with_len (a + 1) n) in
       none_both (round_at ports a) (flat_map (round_at ports) (range_with_len (a + 1) n))
-      (none_at ports first a low (none_left (turned_at ports first a) (flat_map (turned_at ports first) (range_with_len (a + 1) n)) e))
-      (none_of_tiles ports first (a + 1) n low (none_right (turned_at ports first a) (flat_map (turned_at ports first) (range_with_len (a + 1) n)) e))
+      (none_at ports a (by a) (names a (omega arith)) (none_left here rest e))
+      (none_of_tiles by ports (a + 1) n (λ t low. names t (omega (arith, low))) (none_right here rest e))
 
 -- where nothing passes, no step is the first that is enabled
 none_first : (c : Core) (xs : List Step) → filter (is_enabled c) xs ≡ [] → first_in c xs ≡ None
@@ -128,7 +146,7 @@ none_first c (x ∷ xs) e = by_test (is_enabled c x) refl (none_first c xs) e
     by_test false is rest h = skipped c x xs is ∙ rest h
 
 -- attempts that make a move at once
-abbrev MovesAtOnce : Core → List Step → Type 0
+abbrev pub MovesAtOnce : Core → List Step → Type 0
 MovesAtOnce c xs = MakesMove c xs × (0 < moves_in (step (built_to c)) c.state xs)
 
 -- nothing passes, or the first that does is enabled at once
@@ -144,24 +162,29 @@ first_moves c (x ∷ xs) = by_test (step (built_to c) c.state x) refl (first_mov
         let one : one_if_moved (step (built_to c) c.state x) ≡ 1 = ap one_if_moved is in
         inr (record { before = []; attempt = x; behind = filter (is_enabled c) xs; of = refl; enabled = (t, is) }, omega (arith, one))
 
--- while a script isn't finished, a clocked round makes a move
-module _ (l : Load) (c : Core) (steps : List Step) (h : IsAfter l c steps) (turn : ℕ) (busy : all_finished c.state ≡ false) where
-  moves_at_once : MovesAtOnce c (clocked_round c turn)
-  moves_at_once = elim (first_moves c (turned_round c.shape turn)) [
-    | inl none ↦
-        (let ports : ℕ = port_count (dims_of c.shape) in
-        let below : turn % ports < ports = mod-lt turn (omega arith) in
-        let nothing = none_first c (round c.shape) (none_of_tiles (is_enabled c) ports (turn % ports) 0 (tiles_of c.shape) (omega (arith, below)) none) in
-        let live : IsLive (built_to c) c.state = lives l c steps h busy in
-        let clash : ◌≡◌ {A = Option Step} None (Some live.0) = sym nothing ∙ live.1 in absurd (cc))
-    | inr moves ↦ moves
-  ]
+-- while a script isn't finished, a clocked round makes a move, by any arbiter
+module _ (l : Load) (c : Core) (steps : List Step) (h : IsAfter l c steps) where
+  pub arbited_move : (by : Arbiter) → IsArbiter by → all_finished c.state ≡ false → MovesAtOnce c (arbited_round by c)
+  arbited_move by names busy =
+      let ports : ℕ = port_count (dims_of c.shape) in
+      elim (first_moves c (flat_map (λ t. arbited_at ports (by c t) t) (range_with_len 0 (tiles_of c.shape)))) [
+        | inl none ↦
+            (let nothing = none_first c (round c.shape)
+            (none_of_tiles (is_enabled c) (by c) ports 0 (tiles_of c.shape) (λ t low. names c t (omega (arith, low))) none) in
+            let live : IsLive (built_to c) c.state = lives l c steps h busy in
+            let clash : ◌≡◌ {A = Option Step} None (Some live.0) = sym nothing ∙ live.1 in absurd (cc))
+        | inr moves ↦ moves
+      ]
 
-  pub clocked_moves : MakesMove c (clocked_round c turn)
-  clocked_moves = moves_at_once.0
+  module _ (turn : ℕ) (busy : all_finished c.state ≡ false) where
+    moves_at_once : MovesAtOnce c (clocked_round c turn)
+    moves_at_once = subst (MovesAtOnce c) (sym (turned_round_is c turn)) (arbited_move (by_turn turn) (turned_is turn) busy)
 
-  pub clocked_count : 0 < moves_in (step (built_to c)) c.state (clocked_round c turn)
-  clocked_count = moves_at_once.1
+    pub clocked_moves : MakesMove c (clocked_round c turn)
+    clocked_moves = moves_at_once.0
+
+    pub clocked_count : 0 < moves_in (step (built_to c)) c.state (clocked_round c turn)
+    clocked_count = moves_at_once.1
 
 -- a machine has made so many clocked rounds, before each some script wasn't finished, and each has made a move
 pub record HasMade (start now : Core) (k : ℕ) : Type 0 where

@@ -25,6 +25,11 @@ pub mod Skips
 pub mod Rousing
 pub mod Marking
 pub mod MarkedSteps
+pub mod Orders
 pub mod ClockedRounds
+pub mod Sorted
+pub mod HeldBack
+pub mod LatchAges
+pub mod FairRounds
 pub mod BothRead
 pub mod LawsRounds

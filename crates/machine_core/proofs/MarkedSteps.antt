@@ -38,40 +38,49 @@ none_marked marks a (suc n) none =
     ap (λ (b : Bool). cond b (a ∷ filter marks (range_with_len (a + 1) n)) (filter marks (range_with_len (a + 1) n))) (none a (omega arith) (omega arith))
     ∙ none_marked marks (a + 1) n (λ k l m. none k (omega (arith, l)) (omega (arith, m)))
 
-module _ (marks : ℕ → Bool) (part : Part) (t : ℕ) where
-  -- up to an end, where none is marked from a number on
-  pub marked_rest : (from at end : ℕ) → from ≤ at → at ≤ end → ((k : ℕ) → at ≤ k → k < end → marks k ≡ false)
-      → marked_between marks part t from end ≡ marked_between marks part t from at
-  marked_rest from at end low high none =
+append_none : (xs : List ℕ) → xs ++ [] ≡ xs
+append_none [] = refl
+append_none (x ∷ xs) = ap (λ (ys : List ℕ). x ∷ ys) (append_none xs)
+
+module _ (marks : ℕ → Bool) where
+  -- the numbers that are marked, up to an end, where none is from a number on
+  pub numbers_rest : (from at end : ℕ) → from ≤ at → at ≤ end → ((k : ℕ) → at ≤ k → k < end → marks k ≡ false)
+      → filter marks (range_with_len from (end - from)) ≡ filter marks (range_with_len from (at - from))
+  numbers_rest from at end low high none =
       let m : ℕ = at - from in
       let n : ℕ = end - at in
       let long : end - from ≡ m + n = omega (arith, low, high) in
       let here : from + m ≡ at = omega (arith, low) in
-      ap (λ (k : ℕ). map (attempt_in part t) (filter marks (range_with_len from k))) long
-      ∙ ap (map (attempt_in part t))
-      (ap (filter marks) (ranges_join from m n ∙ ap (λ (k : ℕ). range_with_len from m ++ range_with_len k n) here)
+      ap (λ (k : ℕ). filter marks (range_with_len from k)) long
+      ∙ (ap (filter marks) (ranges_join from m n ∙ ap (λ (k : ℕ). range_with_len from m ++ range_with_len k n) here)
       ∙ (filter-append marks (range_with_len from m) (range_with_len at n)
       ∙ (ap (λ (xs : List ℕ). filter marks (range_with_len from m) ++ xs)
       (none_marked marks at n (λ k l h. none k l (omega (arith, h, high, l))))
       ∙ append_none (filter marks (range_with_len from m)))))
-    where
-      append_none : (xs : List ℕ) → xs ++ [] ≡ xs
-      append_none [] = refl
-      append_none (x ∷ xs) = ap (λ (ys : List ℕ). x ∷ ys) (append_none xs)
 
   -- and one that is marked
-  marked_one : (from n : ℕ) → from ≤ n → marks n ≡ true
-      → marked_between marks part t from (n + 1) ≡ marked_between marks part t from n ++ attempt_in part t n ∷ []
-  marked_one from n low here_is =
+  pub numbers_one : (from n : ℕ) → from ≤ n → marks n ≡ true
+      → filter marks (range_with_len from (n + 1 - from)) ≡ filter marks (range_with_len from (n - from)) ++ n ∷ []
+  numbers_one from n low here_is =
       let m : ℕ = n - from in
       let long : n + 1 - from ≡ m + 1 = omega (arith, low) in
       let here : from + m ≡ n = omega (arith, low) in
-      ap (λ (k : ℕ). map (attempt_in part t) (filter marks (range_with_len from k))) long
-      ∙ (ap (map (attempt_in part t))
-      (ap (filter marks) (ranges_join from m 1 ∙ ap (λ (k : ℕ). range_with_len from m ++ k ∷ []) here)
+      ap (λ (k : ℕ). filter marks (range_with_len from k)) long
+      ∙ (ap (filter marks) (ranges_join from m 1 ∙ ap (λ (k : ℕ). range_with_len from m ++ k ∷ []) here)
       ∙ (filter-append marks (range_with_len from m) (n ∷ [])
       ∙ ap (λ (b : Bool). filter marks (range_with_len from m) ++ cond b (n ∷ []) []) here_is))
-      ∙ map-append (attempt_in part t) (filter marks (range_with_len from m)) (n ∷ []))
+
+module _ (marks : ℕ → Bool) (part : Part) (t : ℕ) where
+  -- the attempts of these
+  pub marked_rest : (from at end : ℕ) → from ≤ at → at ≤ end → ((k : ℕ) → at ≤ k → k < end → marks k ≡ false)
+      → marked_between marks part t from end ≡ marked_between marks part t from at
+  marked_rest from at end low high none = ap (map (attempt_in part t)) (numbers_rest marks from at end low high none)
+
+  marked_one : (from n : ℕ) → from ≤ n → marks n ≡ true
+      → marked_between marks part t from (n + 1) ≡ marked_between marks part t from n ++ attempt_in part t n ∷ []
+  marked_one from n low here_is =
+      ap (map (attempt_in part t)) (numbers_one marks from n low here_is)
+      ∙ map-append (attempt_in part t) (filter marks (range_with_len from (n - from))) (n ∷ [])
 
   -- an attempt more, the first that is marked from a number on
   pub marked_more : (start now after : Core) (from at n : ℕ) → from ≤ at → at ≤ n → ((k : ℕ) → at ≤ k → k < n → marks k ≡ false) → marks n ≡ true

@@ -50,7 +50,7 @@ port_more f agent n c now after so_far is =
     ∙ ap (attempts_of agent) (sym (map-range_with_len_more f 0 n n (omega arith))))
 
 -- a part for each of n numbers, and then that of n
-parts_more : (f : ℕ → List Step) (n : ℕ) → flat_map f (range_with_len 0 (n + 1)) ≡ flat_map f (range_with_len 0 n) ++ f n
+pub parts_more : (f : ℕ → List Step) (n : ℕ) → flat_map f (range_with_len 0 (n + 1)) ≡ flat_map f (range_with_len 0 n) ++ f n
 parts_more f n =
     sym (flat_map-map f (λ (k : ℕ). k) (range_with_len 0 (n + 1)))
     ∙ (ap (flat_map f) (map-range_with_len_more (λ (k : ℕ). k) 0 n n (omega arith))

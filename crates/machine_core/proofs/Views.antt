@@ -46,6 +46,18 @@ answers_there a t o h =
     maps None = refl
     maps (Some v) = refl
 
+-- the operations that it shows of one
+pub issued_there : {A : Type 0} (a : Inside A) (t : ℕ) (o : Option PlacedTile) → slice_get a.tiles.items t ≡ o
+    → slice_get (shown (core_of a)).issued t ≡ option_map (λ (v : PlacedTile). v.place.processor.state.operations.issued) o
+issued_there a t o h =
+    slice_get-map (λ (b : ProcessorRecord). b.issued) (records_of (core_of a).state) t
+    ∙ (ap (option_map (λ (b : ProcessorRecord). b.issued)) (told_at (λ (s : TileState). s.processor.operations) a t o h) ∙ maps o)
+  where
+    maps : (o : Option PlacedTile) → option_map (λ (b : ProcessorRecord). b.issued) (option_map (λ (v : PlacedTile). v.place.processor.state.operations) o)
+        ≡ option_map (λ (v : PlacedTile). v.place.processor.state.operations.issued) o
+    maps None = refl
+    maps (Some v) = refl
+
 -- and the entries of a bank
 pub entries_there : {A : Type 0} (a : Inside A) (t : ℕ) (o : Option PlacedTile) → slice_get a.tiles.items t ≡ o
     → slice_get (shown (core_of a)).entries t ≡ option_map (λ (v : PlacedTile). v.place.bank.state.entries) o

@@ -3,6 +3,10 @@ pub mod Loaded
 pub mod Rounds
 pub mod Clocked
 pub mod Marked
+pub mod Arbiters
+pub mod Oldest
+pub mod Guarded
+pub mod Ordered
 pub mod Shown
 pub mod Noted
 pub mod Fresh

@@ -1,16 +1,22 @@
 //! What a machine may be asked of its next step: whether a step is enabled, and which is the first.
 
-ghost use Rattle.std.specs.Prelude.{◌≡◌, ◌+◌, ◌*◌, ◌<◌, ◌↔◌, IsSome, None, false, is_some};
+ghost use Rattle.std.specs.Prelude.{◌≡◌, ◌+◌, ◌*◌, ◌<◌, ◌↔◌, IsSome, IsTrue, None, false, is_some};
+ghost use Rattle.std.specs.Prelude.{[], slice_get};
+ghost use Rattle.std.specs.Option.{option_copied};
+ghost use Rattle.tag_table.specs.Tags.{holder_of};
+ghost use Rattle.core_laws.specs.Mirrors.{tile_at};
 ghost use Rattle.torus.specs.declared.step.Step.{Step};
 ghost use Rattle.machine_parts.specs.Core.{step, attempts_of, round_at};
 ghost use Rattle.machine_parts.specs.ProgressMoves.{enabled_step};
-ghost use Rattle.machine_parts.specs.Machine.{built_to, all_finished};
+ghost use Rattle.machine_parts.specs.Machine.{built_to, all_finished, shown};
 ghost use Rattle.torus.specs.Choices.{takes_of_all, puts_of_all, credits_of_all};
 ghost use Rattle.machine_core.specs.Rounds.{first_in};
 
 use crate::machine::Machine;
 use machine_parts::agent_tile;
+use packet::Operation;
 use std::alloc::Allocator;
+use tag_table::{OpId, Tag};
 use torus::{Choice, Step};
 
 /// The choices of a processor, and of a bank, in the order of a round.
@@ -35,6 +41,52 @@ impl<A: Allocator> Machine<A> {
             return false;
         }
         self.tiles[tile].would_move(attempt, &self.row)
+    }
+
+    /// How many tags each processor has, 1 to 16.
+    pub fn tags(&self) -> u32
+        ensures { result ≡ self.now.tags }
+    {
+        self.tags
+    }
+
+    /// A processor's operations, in the order of issue; `None` exactly where there is no such processor.
+    pub fn issued(&self, processor: u32) -> Option<&[Operation]>
+        ensures { option_copied result ≡ slice_get (shown self.now).issued processor }
+    {
+        let at = processor as usize;
+        if at < self.tiles.len() {
+            Some(self.tiles[at].issued())
+        } else {
+            None
+        }
+    }
+
+    /// The operation of a processor that holds a tag; `None` where the tag isn't out, or there is no such
+    /// processor.
+    pub fn holder(&self, processor: u32, tag: Tag) -> Option<OpId>
+        ensures { result
+            ≡ holder_of (tile_at self.now.state processor).processor.operations.tags tag.0 }
+    {
+        let at = processor as usize;
+        if at < self.tiles.len() {
+            self.tiles[at].holder(tag)
+        } else {
+            None
+        }
+    }
+
+    /// Whether no request of a processor is in course: the next flit that it sends begins one. So it is too
+    /// where there is no such processor.
+    pub fn is_between_requests(&self, processor: u32) -> bool
+        ensures { IsTrue result ↔ ((tile_at self.now.state processor).processor.to_put ≡ []) }
+    {
+        let at = processor as usize;
+        if at < self.tiles.len() {
+            self.tiles[at].is_between_requests()
+        } else {
+            true
+        }
     }
 
     /// The first step, in the order of a round, that is enabled now; `None` exactly where no step is

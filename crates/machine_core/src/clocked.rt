@@ -66,7 +66,7 @@ impl<A: Allocator> Machine<A> {
     }
 
     /// Marks of each tile what is enabled now, of so many ports of each router.
-    fn marks(&mut self, ports: u32) -> Marks
+    pub(crate) fn marks(&mut self, ports: u32) -> Marks
         requires { ports < 32 }
         ensures same { self.new ≡ self.old }
         ensures marked { (t : ℕ) → t < tiles_of self.old.shape → MarksTile self.old ports t result }
@@ -205,7 +205,14 @@ impl<A: Allocator> Machine<A> {
 
     /// Attempts what is marked of a tile's part, from a number on and below an end, in order.
     #[inline(always)]
-    fn attempt_marked(&mut self, part: Part, tile: usize, from: u32, end: u32, marks: &PortSet)
+    pub(crate) fn attempt_marked(
+        &mut self,
+        part: Part,
+        tile: usize,
+        from: u32,
+        end: u32,
+        marks: &PortSet,
+    )
         requires tile { tile < tiles_of self.old.shape }
         requires few { tile < 64 }
         requires end { end < 32 }

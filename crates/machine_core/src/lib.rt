@@ -2,9 +2,11 @@
 //! the one legal order of its runs.
 #![tactic(auto)]
 
+mod ages;
 mod asking;
 mod attempts;
 mod clocked;
+mod fair;
 pub mod fewest_laws;
 mod growing;
 pub mod laws;

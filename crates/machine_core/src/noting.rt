@@ -51,7 +51,7 @@ impl Counts {
 }
 
 /// The index of the operation that holds a tag of a tile's processor; 0 where none holds it.
-fn holder<A: Allocator>(agents: &TileAgents<A>, tag: Tag) -> u32
+pub(crate) fn holder<A: Allocator>(agents: &TileAgents<A>, tag: Tag) -> u32
     ensures { result ≡ index_of agents.now.place.processor.state.operations tag.0 }
 {
     match agents.holder(tag) {

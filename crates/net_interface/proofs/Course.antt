@@ -2,7 +2,7 @@
 use Rattle.std.proofs.Common.{◌≡◌, ◌≢◌, ℕ, zero, suc, ◌+◌, ◌<◌, ◌≤◌, List, [], ◌∷◌, length, drop, Option, refl, sym, ap, subst, ◌∙◌, arith, add-one}
 use Rattle.std.proofs.Common.{length-drop}
 use Rattle.std.proofs.lemmas.Bool.{ne_eqb}
-use Rattle.std.specs.Prelude.{false, ◌==◌, if◌then◌else◌, IsSome}
+use Rattle.std.specs.Prelude.{Bool, true, false, ◌==◌, if◌then◌else◌, IsSome}
 use Rattle.packet.specs.declared.kinds.Operation.{Operation}
 use Rattle.flit_buffer.specs.Channel.{first_of, rest}
 use Rattle.one_order.specs.ProcessorRecord.{ProcessorRecord, ready}
@@ -32,6 +32,20 @@ some_put n = ne_eqb (suc n) 0 (λ (e : suc n ≡ 0). cc)
 
 course_put : (n : ℕ) (flits : List ℕ) → flits_in_course (suc n) flits ≡ drop (suc n) flits
 course_put n flits = rw (some_put n) refl
+
+-- no request is in course exactly while no flit is put
+pub none_in_course : (to_put : List ℕ) (put : ℕ) (flits : List ℕ) → flits_in_course put flits ≡ to_put → (put ≢ 0 → put < length flits)
+    → ((put == 0) ≡ true → to_put ≡ []) × (to_put ≡ [] → (put == 0) ≡ true)
+none_in_course to_put zero flits is left = (λ t. sym is, λ h. refl)
+none_in_course to_put (suc n) flits is left =
+    let low = left (λ (e : suc n ≡ 0). cc) in
+    let long = length-drop (suc n) flits in (
+      λ t. let clash : ◌≡◌ {A = Bool} false true = sym (some_put n) ∙ t in absurd (cc),
+      λ h.
+          let none : drop (suc n) flits ≡ [] = sym (course_put n flits) ∙ (is ∙ h) in
+          let empty : length (drop (suc n) flits) ≡ 0 = ap (λ (xs : List ℕ). length xs) none in
+          absurd (omega (arith, low, long, empty)),
+    )
 
 module _ (tiles words tile : ℕ) (next : Option (ℕ × Operation)) where
   due_of : (xs : List ℕ) → 0 < length xs → flits_due tiles words tile xs next ≡ xs

@@ -1,6 +1,6 @@
 //! What a processor shows.
 
-ghost use Rattle.std.specs.Prelude.{◌≡◌, ◌<◌, Option};
+ghost use Rattle.std.specs.Prelude.{◌≡◌, ◌<◌, ◌↔◌, Option, [], IsTrue};
 ghost use Rattle.packet.specs.declared.kinds.Operation.{Operation};
 ghost use Rattle.tag_table.specs.Tags.{holder_of, out_count};
 ghost use Rattle.one_order.specs.Following.{is_finished};
@@ -31,6 +31,13 @@ impl<A: Allocator> Processor<A> {
         ensures { result ≡ holder_of self.now.agent.state.operations.tags tag.0 }
     {
         self.operations.holder(tag)
+    }
+
+    /// Whether no request is in course: the next flit that is sent begins one.
+    pub fn is_between_requests(&self) -> bool
+        ensures { IsTrue result ↔ (self.now.agent.state.to_put ≡ []) }
+    {
+        self.put == 0
     }
 
     /// How many tags are out: of so many requests the reply has not come.

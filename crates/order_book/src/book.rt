@@ -159,6 +159,19 @@ impl<A: Allocator> EventBook<A> {
         self.events
     }
 
+    /// The number of the issue of an operation of a processor; `None` where none is noted of it.
+    #[inline(always)]
+    pub fn issue(&self, processor: u32, index: u32) -> Option<u32>
+        ensures { result ≡ slice_get (list_at self.now.book.issues processor) index }
+    {
+        let at = processor as usize;
+        if at < self.issues.len() {
+            self.issues[at].get(index as usize).copied()
+        } else {
+            None
+        }
+    }
+
     /// The rows of the order, in the order of the services.
     pub fn rows(&self) -> &[Ordered]
         ensures { result.now ≡ self.now.book.rows }

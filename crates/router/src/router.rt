@@ -9,7 +9,7 @@ ghost use Rattle.flit_buffer.specs.Wants.{HasPort};
 ghost use Rattle.channel_number.specs.Ports.{port_count};
 ghost use Rattle.router.specs.Beginning.{router_ports};
 ghost use Rattle.router.specs.Table.{empty_router, router_wants, router_after, IsRoutable, NamesTile};
-ghost use Rattle.router.specs.Table.{router_with_agent};
+ghost use Rattle.router.specs.Table.{router_with_agent, latch_of};
 ghost use Rattle.router.specs.Kept.{IsOfChoice, IsFlitOf};
 
 use crate::latches::Latches;
@@ -132,6 +132,18 @@ impl<A: Allocator> Router<A> {
     {
         let want = self.wants(choice)?;
         self.ports.op(want)
+    }
+
+    /// The flit in the latch of an input; `None` where the latch is empty, or there is no such input.
+    #[inline(always)]
+    pub fn latched(&self, input: u32) -> Option<u64>
+        ensures { result ≡ latch_of self.now.agent.state input }
+    {
+        if (input as usize) < self.latches.count() {
+            self.latches.flit(input)
+        } else {
+            None
+        }
     }
 
     /// Whether a word is no head flit or names a tile.

@@ -1,8 +1,9 @@
 //! What the agents of a tile show.
 
-ghost use Rattle.std.specs.Prelude.{◌≡◌, ◌≤◌, ◌↔◌, length, IsTrue};
+ghost use Rattle.std.specs.Prelude.{◌≡◌, ◌≤◌, ◌↔◌, [], length, IsTrue};
 ghost use Rattle.tag_table.specs.Tags.{holder_of};
 ghost use Rattle.one_order.specs.Following.{is_finished};
+ghost use Rattle.router.specs.Table.{latch_of};
 
 use crate::Answer;
 use crate::agents::TileAgents;
@@ -45,6 +46,22 @@ impl<A: Allocator> TileAgents<A> {
         ensures { result ≡ holder_of self.now.place.processor.state.operations.tags tag.0 }
     {
         self.processor.holder(tag)
+    }
+
+    /// Whether no request of the processor is in course: the next flit that it sends begins one.
+    pub fn is_between_requests(&self) -> bool
+        ensures { IsTrue result ↔ (self.now.place.processor.state.to_put ≡ []) }
+    {
+        self.processor.is_between_requests()
+    }
+
+    /// The flit in the latch of an input of the router; `None` where the latch is empty, or there is no
+    /// such input.
+    #[inline(always)]
+    pub fn latched(&self, input: u32) -> Option<u64>
+        ensures { result ≡ latch_of self.now.place.router.state input }
+    {
+        self.router.latched(input)
     }
 
     /// Whether the processor's script is finished.

@@ -1,6 +1,4 @@
 -- Both say the same of rounds in order.
-use Rattle.machine_core.specs.FewestRounds.{AreFewest}
-use Rattle.machine_core.specs.Fewest.{AreFewestFrom}
 use Rattle.machine_core.proofs.LawsRounds.{fewest_once}
 use Rattle.machine_core.proofs.fewest_laws.fewest_rounds_are_one.Goals as goal
 

@@ -1,5 +1,0 @@
-use Rattle.clocked_laws.proofs.Orders.{turned_is, turned_round_is, oldest_is, oldest_first}
-use Rattle.clocked_laws.proofs.laws.arbiters_order_inputs.Goals as goal
-
-pub returns : goal.returns
-returns c = record { by_turn = turned_is; rounds = turned_round_is; oldest = oldest_is; first = oldest_first }

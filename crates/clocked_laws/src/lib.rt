@@ -1,5 +1,0 @@
-//! Laws of clocked rounds by an arbiter: with a guard no operation waits for ever, whatever hosts and
-//! scripts go on asking.
-#![tactic(auto)]
-
-pub mod laws;

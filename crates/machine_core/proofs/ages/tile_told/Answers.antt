@@ -1,0 +1,7 @@
+use Rattle.std.proofs.Common.{refl}
+use Rattle.packet.specs.Flit.{field}
+use Rattle.machine_core.proofs.ages.tile_told.Goals as goal
+
+pub returns : goal.returns
+unfolding field
+returns c = refl
