@@ -111,12 +111,13 @@ steps_app = with_rule (with_rule (with_rule (loading_app (codes "steps"))
     (needed (codes "STEPS"))) (flag_option (codes "moves"))) explain
 
 -- a subcommand of this name that takes a file of the machine and one of the scripts, and runs in
--- rounds: at most so many, clocked or in order
+-- rounds: at most so many, clocked by an arbiter and with a guard, or in order
 abbrev pub rounds_app : Text → App
-rounds_app name = with_rule (with_rule (with_rule (loading_app name) rounds)
-    (flag_option (codes "clocked"))) explain
+rounds_app name = with_rule (with_rule (with_rule (with_rule (with_rule (loading_app name) rounds)
+    (flag_option (codes "clocked"))) (word_without_usual (codes "arbiter")))
+    (long_number (codes "guard"))) explain
 
--- `round MACHINE SCRIPT [--rounds R] [--clocked] [--explain]`
+-- `round MACHINE SCRIPT [--rounds R] [--clocked] [--arbiter NAME] [--guard B] [--explain]`
 abbrev pub round_app : App
 round_app = rounds_app (codes "round")
 
@@ -128,7 +129,7 @@ run_app = with_rule (with_rule (with_rule (loading_app (codes "run")) workers) t
 abbrev pub live_app : App
 live_app = with_rule (with_rule (new_app (codes "live")) (needed (codes "MACHINE"))) explain
 
--- `schedule MACHINE SCRIPT [--rounds R] [--clocked] [--explain]`
+-- `schedule MACHINE SCRIPT [--rounds R] [--clocked] [--arbiter NAME] [--guard B] [--explain]`
 abbrev pub schedule_app : App
 schedule_app = rounds_app (codes "schedule")
 

@@ -18,6 +18,17 @@ use std::alloc::Global;
 use std::convert::AsStr;
 use torus::Class;
 
+/// How the rounds of a run are made.
+#[derive(Clone, Copy)]
+pub enum Pace {
+    /// In order: each choice of each agent is attempted once.
+    InOrder,
+    /// Clocked, where the puts of each router begin at the input whose turn it is.
+    Turned,
+    /// Clocked, where the oldest operation goes first, with a guard of so many rounds, or with the usual one.
+    Fair(Option<u64>),
+}
+
 /// What the command line asks for. Files are named as they were given.
 #[derive(Clone, Copy)]
 pub enum Job<'a> {
@@ -27,13 +38,13 @@ pub enum Job<'a> {
         script: &'a str,
         steps: &'a str,
     },
-    /// Run in rounds, clocked or in order, at most so many, until every script is finished, and print
-    /// the report.
+    /// Run in rounds of this pace, at most so many, until every script is finished, and print the
+    /// report.
     Round {
         machine: &'a str,
         script: &'a str,
         rounds: u32,
-        clocked: bool,
+        pace: Pace,
     },
     /// Run by workers in threads, so many, each with at most so many turns, and print the report.
     Run {
@@ -125,12 +136,12 @@ pub enum Job<'a> {
         order: bool,
         nodes: u32,
     },
-    /// Print the moves of rounds, clocked or in order, at most so many, until every script is finished.
+    /// Print the moves of rounds of this pace, at most so many, until every script is finished.
     Schedule {
         machine: &'a str,
         script: &'a str,
         rounds: u32,
-        clocked: bool,
+        pace: Pace,
     },
     /// Print a schedule that is drawn by this seed, of at most so many moves where there is a
     /// number, until every script is finished.
@@ -187,8 +198,8 @@ pub fn name_of(job: &Job) -> &'static str
 
 /// Reads the words of a command line, the program's own name among them.
 ///
-/// Errors: what the parser says of the words, help among it, or that memory ran out; or that options of
-/// `network` or `model` are misused.
+/// Errors: what the parser says of the words, help among it, or that memory ran out; or that options are
+/// misused.
 pub fn read_command<'a, S: AsStr>(alloc: Global, words: &'a [S]) -> Result<Job<'a>, NoRequest>
     ensures named { IfOk result (λ job. name_by (map S.text words.entry.now) ≡ Some (name_of job)) }
     ensures given { IfOk result (λ job. IfSome (rows_by (map S.text words.entry.now)) (AreOfJob job)) }

@@ -1,9 +1,9 @@
 //! The job of each subcommand, from what was given for its arguments.
 ghost use Rattle.std.specs.Prelude.{IfSome, codes};
 ghost use Rattle.clap.specs.Words.{found_of, rows_of};
-ghost use Rattle.command_line.specs.Job.{NamesJob};
+ghost use Rattle.command_line.specs.Job.{IsPace, NamesJob};
 
-use crate::command::Job;
+use crate::command::{Job, Pace};
 use crate::values::{
     class, flag_of, long_number, long_number_if_given, number, number_if_given, number_within,
     two_words, word,
@@ -32,6 +32,21 @@ pub(crate) fn steps_job<'a>(given: &ArgMatches<'a>) -> Option<Job<'a>>
     }
 }
 
+/// How rounds are made. None where an arbiter or a guard is given of rounds in order, a guard of turned
+/// ones, or an arbiter that a machine hasn't.
+fn pace_of(given: &ArgMatches<'_>) -> Option<Pace>
+    ensures { IfSome result (λ pace. IsPace pace (rows_of (found_of given.now))) }
+{
+    let guard = long_number_if_given(given, "guard")?;
+    match (flag_of(given, "clocked")?, word(given, "arbiter"), guard) {
+        (false, None, None) => Some(Pace::InOrder),
+        (true, None, guard) => Some(Pace::Fair(guard)),
+        (true, Some("oldest"), guard) => Some(Pace::Fair(guard)),
+        (true, Some("turn"), None) => Some(Pace::Turned),
+        _ => None,
+    }
+}
+
 pub(crate) fn round_job<'a>(given: &ArgMatches<'a>) -> Option<Job<'a>>
     ensures { IfSome result (NamesJob (codes "round") (rows_of (found_of given.now))) }
 {
@@ -39,7 +54,7 @@ pub(crate) fn round_job<'a>(given: &ArgMatches<'a>) -> Option<Job<'a>>
         machine: word(given, "MACHINE")?,
         script: word(given, "SCRIPT")?,
         rounds: number_within(given, "rounds", 1000000)?,
-        clocked: flag_of(given, "clocked")?,
+        pace: pace_of(given)?,
     })
 }
 
@@ -69,7 +84,7 @@ pub(crate) fn schedule_job<'a>(given: &ArgMatches<'a>) -> Option<Job<'a>>
         machine: word(given, "MACHINE")?,
         script: word(given, "SCRIPT")?,
         rounds: number_within(given, "rounds", 1000000)?,
-        clocked: flag_of(given, "clocked")?,
+        pace: pace_of(given)?,
     })
 }
 

@@ -12,5 +12,5 @@ mod subcommands;
 mod values;
 
 pub use asking::{asks_version, request_told, words_told};
-pub use command::{Job, Request, name_of, read_command, read_request};
+pub use command::{Job, Pace, Request, name_of, read_command, read_request};
 pub use refused::{Misuse, NoRequest, misuse_text};

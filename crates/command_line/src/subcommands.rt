@@ -35,6 +35,12 @@ pub(crate) fn in_rounds<'a>(alloc: Global, name: &'a str, about: &'a str) -> Mak
     let command = with_argument(command, count(alloc, "rounds", numbers, "1000000", help));
     let help = "Clocked rounds: each attempts what is enabled when it begins";
     let command = with_argument(command, flag(alloc, "clocked", help));
+    let help = "With --clocked: which head an output takes, oldest (by default) or turn";
+    let command = with_argument(command, word_if_given(alloc, "arbiter", help));
+    let help =
+        "With --clocked: most rounds of an operation before others wait, 0 to 18446744073709551615";
+    let numbers = ValueParser::Unsigned(0, 18446744073709551615);
+    let command = with_argument(command, count_if_given(alloc, "guard", numbers, help));
     with_explain(alloc, command)
 }
 
