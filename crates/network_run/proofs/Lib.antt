@@ -5,3 +5,6 @@ pub mod Telling
 pub mod Numberless
 pub mod Filled
 pub mod Ways
+pub mod LengthSteps
+pub mod LengthRuns
+pub mod LengthLocks

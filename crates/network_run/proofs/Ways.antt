@@ -47,7 +47,7 @@ goes_on own t i j k x len same here way low none =
     (subst (λ (u : Table). x < length u.kinds) (sym same) (subst (λ z. z < length t.kinds) (sym here) (on_within t i j len way k low)))
 
 -- each item comes in behind those that are filled before
-comes_at : (t : Table) (fs : List Fill) (k : ℕ) → k < length fs → AreFilledInTurn t fs → ComesIn t (fill_at fs k) (drop (suc k) fs)
+pub comes_at : (t : Table) (fs : List Fill) (k : ℕ) → k < length fs → AreFilledInTurn t fs → ComesIn t (fill_at fs k) (drop (suc k) fs)
 comes_at t [] k low turn = absurd (omega arith)
 comes_at t (f ∷ fs) zero low turn = turn.0
 comes_at t (f ∷ fs) (suc k) low turn = comes_at t fs k (omega arith) turn.1

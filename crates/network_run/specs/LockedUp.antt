@@ -4,6 +4,7 @@ use Rattle.std.specs.Prelude.{◌≡◌, ℕ, ◌<◌, List, map}
 use Rattle.wormhole.specs.Events.{NetEvent}
 use Rattle.network_judge.specs.LockUps.{IsLockUp}
 use Rattle.network_judge.specs.TableNet.{Flits, table_network}
+use Rattle.packet_lengths.specs.Lengths.{IsLockUpOf}
 use Rattle.network_text.specs.Network.{NetworkSpec}
 use Rattle.network_machine.specs.declared.moves.Move.{Move}
 use Rattle.network_machine.specs.Moves.{event_move}
@@ -16,6 +17,12 @@ abbrev pub MovesLockUp : NetworkSpec → ℕ → List Move → Type 0
 MovesLockUp n depth moves = (number : ℕ → ℕ) (top : ℕ)
     → (events : List NetEvent) × (map event_move events ≡ moves)
     × IsLockUp (plain_network n.table number top depth) n.replies events
+
+-- the moves deadlock it so, and each packet that they send has so many flits
+abbrev pub MovesLockUpOf : NetworkSpec → ℕ → ℕ → List Move → Type 0
+MovesLockUpOf n depth size moves = (number : ℕ → ℕ) (top : ℕ)
+    → (events : List NetEvent) × (map event_move events ≡ moves)
+    × IsLockUpOf (plain_network n.table number top depth) n.replies size events
 
 -- no run of the network deadlocks it, whatever numbers its channels are given, whatever their depth
 -- and whatever the format of the flits (Dally and Towles, chapter 14: it is free of deadlock)

@@ -16,15 +16,15 @@ use std::alloc::{AllocError, Allocator};
 
 /// A part of a route: its channels before the last, and the last.
 #[derive(Drop)]
-struct Way<A: Allocator> {
-    before: Vec<usize, A>,
-    last: usize,
+pub(crate) struct Way<A: Allocator> {
+    pub(crate) before: Vec<usize, A>,
+    pub(crate) last: usize,
 }
 
 /// The route of a fill, up to the channel that is filled.
 ///
 /// Errors: out of memory.
-fn way_of<A: Allocator + Copy>(
+pub(crate) fn way_of<A: Allocator + Copy>(
     alloc: A,
     network: &Network<A>,
     columns: &[usize],

@@ -3,8 +3,11 @@
 #![tactic(auto)]
 
 pub mod answering;
+mod circular;
 mod filling;
 pub mod laws;
+mod length_filling;
+pub mod length_running;
 pub mod reading;
 pub mod reason;
 mod replaying;

@@ -1,5 +1,5 @@
 -- Packets fill a channel, until it has room for less than one.
-use Rattle.std.proofs.Common.{◌≡◌, inl, inr, ℕ, zero, suc, ◌+◌, ◌*◌, ◌-◌, ◌<◌, ◌≤◌, false, List, [], ◌∷◌, ◌++◌, length, Some, None, refl, sym, ◌∙◌, ap}
+use Rattle.std.proofs.Common.{◌≡◌, inl, inr, ℕ, zero, suc, ◌+◌, ◌*◌, ◌-◌, ◌%◌, ◌<◌, ◌≤◌, false, List, [], ◌∷◌, ◌++◌, length, Some, None, refl, sym, ◌∙◌, ap}
 use Rattle.std.proofs.Common.{subst, arith}
 use Rattle.std.proofs.lemmas.Bool.{cases_lt}
 use Rattle.std.proofs.lemmas.List.{length-append}
@@ -19,6 +19,7 @@ use Rattle.packet_lengths.proofs.Moves as moves
 use Rattle.packet_lengths.proofs.Moves.{Leads, Moved, Moved2}
 use Rattle.packet_lengths.proofs.Paths as paths
 use Rattle.packet_lengths.proofs.Paths.{Path}
+use Rattle.packet_lengths.specs.LengthMoves.{row_moves, brim_moves, item_packet}
 use Rattle.packet_lengths.proofs.Shares.{shared}
 use Rattle.packet_lengths.proofs.Levels.{Fitting, net, GoesTo, Top, Level, other_one, ends_all}
 
@@ -81,26 +82,29 @@ module _ (fit : Fitting) where
       pub moved : Moved s here (line n (ys ++ many count (head ∷ body)) None []) u
       pub room : length ys + count * fit.size + left ≡ suc fit.depth
       pub few : left < fit.size
+      pub rest : left ≡ (suc fit.depth - length ys) % fit.size
 
     pub brims : (s : NetState) (ys : List ℕ) → ((k : ℕ) → k < f.step → s.lines (place fit.table f.to f.from k) ≡ line n [] None []) → s.lines here ≡ line n ys None []
-        → length ys ≤ suc fit.depth → Leads n fit.size s (Brim s ys)
+        → length ys ≤ suc fit.depth
+        → Leads n fit.size s (brim_moves (place fit.table f.to f.from) (item_packet fit.size f) fit.depth f.step (length ys)) (Brim s ys)
     brims s ys clear is low =
         let r = shared fit.size (suc fit.depth - length ys) some in
         let sum = r.is in
-        moves.and_then n fit.deep fit.size s _ _
+        moves.by n fit.deep fit.size s _ _ _ (ap (row_moves (place fit.table f.to f.from) (item_packet fit.size f) f.step (length ys)) r.counted)
+        (moves.so n fit.deep fit.size s _ _ _
         (paths.filled_behind n fit.deep fit.size head body f.to (fit.has.head f.to to) (fit.has.told f.to to) (fit.has.alone f.to to)
         (ends_all fit body (fit.has.behind f.to to)) (fit.has.long f.to to) fit.fits (place fit.table f.to f.from) f.step path s ys clear is r.count (omega arith))
-        (λ u a. moves.at_once n fit.deep fit.size u _ (record { count = r.count; left = r.left; moved = a; room = omega arith; few = r.few }))
+        (λ u a. record { count = r.count; left = r.left; moved = a; room = omega arith; few = r.few; rest = r.rest }))
 
     -- the length of what stands there then
     pub long_then : (ys : List ℕ) (c : ℕ) → length (ys ++ many c (head ∷ body)) ≡ length ys + c * fit.size
     long_then ys c = length-append ys (many c (head ∷ body)) ∙ ap (λ k. length ys + k) (many_long c (head ∷ body) ∙ ap (λ k. c * k) (fit.has.long f.to to))
 
     -- an empty channel
-    pub begun : (s u : NetState) → Brim s [] u → Top fit u here e
+    pub begun : (s u : NetState) (b : Brim s [] u) → Top fit u here e b.left
     begun s u b = by b.count refl
       where
-        by : (c : ℕ) → b.count ≡ c → Top fit u here e
+        by : (c : ℕ) → b.count ≡ c → Top fit u here e b.left
         by zero none =
             let z = zero-mul fit.size in
             let k : b.count * fit.size ≡ 0 = ap (λ m. m * fit.size) none ∙ z in
@@ -115,7 +119,6 @@ module _ (fit : Fitting) where
               input = path.inputs f.step (omega arith);
               word = head;
               words = body ++ many c (head ∷ body);
-              left = b.left;
               line = b.moved.here ∙ ap (λ m. line n (many m (head ∷ body)) None []) same;
               room = omega arith;
               few = b.few;
@@ -123,7 +126,7 @@ module _ (fit : Fitting) where
             }
 
     -- one in which a part of a packet is left
-    pub behind_part : (s u : NetState) (w : ℕ) (ws : List ℕ) → fit.flits.is_head w ≡ false → Brim s (w ∷ ws) u → Top fit u here e
+    pub behind_part : (s u : NetState) (w : ℕ) (ws : List ℕ) → fit.flits.is_head w ≡ false → (b : Brim s (w ∷ ws) u) → Top fit u here e b.left
     behind_part s u w ws isnt b =
         let all = long_then (w ∷ ws) b.count in
         let sum = b.room in
@@ -133,20 +136,24 @@ module _ (fit : Fitting) where
           input = path.inputs f.step (omega arith);
           word = w;
           words = ws ++ many b.count (head ∷ body);
-          left = b.left;
           line = b.moved.here;
           room = omega arith;
           few = b.few;
           goes = λ is. absurd (cc);
         }
 
+  -- where no flit stands all is room
+  pub none_there : (d : ℕ) → suc d - length {A = ℕ} [] ≡ suc d
+  none_there d = omega arith
+
   -- the first channel of a circular jam
   pub base : (f : Fill) (e : ℕ) → ComesIn fit.table f [] → GoesOnTo fit.table f e → (s : NetState) → ((x : ℕ) → s.lines x ≡ line n [] None [])
-      → Leads n fit.size s (λ u. Level fit u f [] e)
+      → Leads n fit.size s (brim_moves (place fit.table f.to f.from) (item_packet fit.size f) fit.depth f.step 0)
+      (λ u. Level fit u f [] e (suc fit.depth % fit.size))
   base f e come waits s clear =
-      moves.and_then n fit.deep fit.size s _ _ (brims f [] e come waits s [] (λ k l. clear _) (clear _) (omega arith)) (λ u b.
-      moves.at_once n fit.deep fit.size u _ (record {
-        first = begun f [] e come waits s u b;
+      moves.so n fit.deep fit.size s _ _ _ (brims f [] e come waits s [] (λ k l. clear _) (clear _) (omega arith)) (λ u b.
+      record {
+        first = subst (Top fit u (fill_channel fit.table f) e) (b.rest ∙ ap (λ k. k % fit.size) (none_there fit.depth)) (begun f [] e come waits s u b);
         others = tt;
         clear = λ x isnt. b.moved.others x (other_one fit f [] x isnt) ∙ clear x;
-      }))
+      })

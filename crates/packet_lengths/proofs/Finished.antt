@@ -1,6 +1,6 @@
 -- The last channel of a circular jam is filled too, with a part of a packet if it needs be.
-use Rattle.std.proofs.Common.{◌≡◌, ◌≢◌, inl, inr, ℕ, zero, suc, ◌+◌, ◌<◌, ◌≤◌, true, false, List, [], ◌∷◌, ◌++◌, length, Option, Some, None, refl, sym, ◌∙◌, ap}
-use Rattle.std.proofs.Common.{subst, arith}
+use Rattle.std.proofs.Common.{◌≡◌, ◌≢◌, inl, inr, ℕ, zero, suc, ◌+◌, ◌-◌, ◌<◌, ◌≤◌, true, false, List, [], ◌∷◌, ◌++◌, length, Option, Some, None, refl, sym, ◌∙◌, ap}
+use Rattle.std.proofs.Common.{subst, arith, map}
 use Rattle.std.proofs.lemmas.Bool.{cases_eq}
 use Rattle.std.proofs.lemmas.List.{length-append}
 use Rattle.wormhole.specs.Net.{Net, EndsWithTail, has_no_flit}
@@ -9,7 +9,7 @@ use Rattle.wormhole.specs.Events.{NetEvent, after_all}
 use Rattle.network_judge.specs.declared.table.Link.{Link}
 use Rattle.network_judge.specs.declared.table.Kind.TheVariants.{Ejection}
 use Rattle.network_judge.specs.Table.{Table, kind_of}
-use Rattle.network_judge.specs.TableNet.{Flits}
+use Rattle.network_judge.specs.TableNet.{Flits, table_network}
 use Rattle.network_judge.specs.Ways.{place}
 use Rattle.network_judge.specs.Verdicts.{AllArrive}
 use Rattle.network_judge.specs.Cycles.{IsCycle}
@@ -25,6 +25,8 @@ use Rattle.packet_lengths.proofs.Paths as paths
 use Rattle.packet_lengths.proofs.Paths.{Path}
 use Rattle.packet_lengths.proofs.Parts.{part_on, part_in}
 use Rattle.packet_lengths.proofs.Circular.{has_jam}
+use Rattle.network_machine.specs.Moves.{event_move}
+use Rattle.packet_lengths.specs.LengthMoves.{hands_moves, begin_moves, part_moves, last_moves, levels_moves, lengths_moves, spare_of, item_packet}
 use Rattle.packet_lengths.proofs.Shares.{Split, split}
 use Rattle.packet_lengths.proofs.Levels as levels
 use Rattle.packet_lengths.proofs.Levels.{Fitting, net, Below, Level}
@@ -37,8 +39,8 @@ module _ (fit : Fitting) where
   n = net fit
 
   -- the last channel is filled with a part of a packet, if it needs be
-  module _ (f : Fill) (fs : List Fill) (come : ComesIn fit.table f fs) (waits : GoesOnTo fit.table f (head_channel fit.table fs (fill_channel fit.table f))) (s : NetState)
-      (level : Level fit s f fs (fill_channel fit.table f)) where
+  module _ (f : Fill) (fs : List Fill) (come : ComesIn fit.table f fs) (waits : GoesOnTo fit.table f (head_channel fit.table fs (fill_channel fit.table f))) (s : NetState) (left : ℕ)
+      (level : Level fit s f fs (fill_channel fit.table f) left) where
     abbrev x : ℕ
     x = fill_channel fit.table f
 
@@ -75,7 +77,7 @@ module _ (fit : Fitting) where
     far : (z : ℕ) → is_filled fit.table (f ∷ fs) z ≡ false → z ≢ x
     far z isnt = levels.other_one fit f fs z isnt
 
-    module _ (d : ℕ) (left : level.first.left ≡ suc d) (cut : Split d body) where
+    module _ (d : ℕ) (some : left ≡ suc d) (cut : Split d body) where
       abbrev words_then : List ℕ
       words_then = level.first.words ++ head ∷ cut.before
 
@@ -133,36 +135,65 @@ module _ (fit : Fitting) where
             | inr apart ↦ inl (two.others z apart (far z isnt) ∙ (one.others z apart ∙ level.clear z isnt))
           ])
 
-      fed : Leads n fit.size s (Ended fit)
+      -- what stays of the packet, and what stands in the channel
+      stays : length (cut.item ∷ cut.after) ≡ fit.size - suc d
+      stays =
+          let lens : suc (length body) ≡ fit.size = long in
+          let parts : length body ≡ length cut.before + length (cut.item ∷ cut.after) = ap length cut.is ∙ length-append cut.before (cut.item ∷ cut.after) in
+          let size_is = cut.size in
+          omega arith
+
+      stands : length (level.first.word ∷ level.first.words) ≡ suc fit.depth - suc d
+      stands = (let sum = level.first.room in omega arith)
+
+      fed : Leads n fit.size s (last_moves (place fit.table f.to f.from) (item_packet fit.size f) fit.depth f.step (suc d)) (Ended fit)
       fed = by f.step refl
         where
           fits_alone : (m : ℕ) → m ≤ suc fit.depth → length {A = ℕ} [] + m ≤ suc fit.depth
           fits_alone m l = omega arith
 
-          by : (a : ℕ) → f.step ≡ a → Leads n fit.size s (Ended fit)
+          begun_by : f.step ≡ 0 → begin_moves (record { from = x; to = f.to; length = fit.size }) (length (level.first.word ∷ level.first.words)) (suc (length cut.before))
+              ≡ part_moves (place fit.table f.to f.from) (item_packet fit.size f) (fit.size - suc d) (suc fit.depth - suc d) (suc d) f.step
+          begun_by same =
+              ap (λ k. begin_moves (record { from = x; to = f.to; length = fit.size }) k (suc (length cut.before))) stands
+              ∙ (ap (λ k. begin_moves (record { from = x; to = f.to; length = fit.size }) (suc fit.depth - suc d) (suc k)) cut.size
+              ∙ (ap (λ z. begin_moves (record { from = place fit.table f.to f.from z; to = f.to; length = fit.size }) (suc fit.depth - suc d) (suc d)) same
+              ∙ ap (λ z. part_moves (place fit.table f.to f.from) (item_packet fit.size f) (fit.size - suc d) (suc fit.depth - suc d) (suc d) z) (sym same)))
+
+          handed : (p : ℕ) → hands_moves p x (length (cut.item ∷ cut.after)) (length (level.first.word ∷ level.first.words)) (suc (length cut.before))
+              ≡ hands_moves p x (fit.size - suc d) (suc fit.depth - suc d) (suc d)
+          handed p =
+              ap (λ k. hands_moves p x k (length (level.first.word ∷ level.first.words)) (suc (length cut.before))) stays
+              ∙ (ap (λ k. hands_moves p x (fit.size - suc d) k (suc (length cut.before))) stands
+              ∙ ap (λ k. hands_moves p x (fit.size - suc d) (suc fit.depth - suc d) (suc k)) cut.size)
+
+          by : (a : ℕ) → f.step ≡ a → Leads n fit.size s (part_moves (place fit.table f.to f.from) (item_packet fit.size f) (fit.size - suc d) (suc fit.depth - suc d) (suc d) f.step) (Ended fit)
           by zero same =
-              moves.and_then n fit.deep fit.size s _ _
+              moves.by n fit.deep fit.size s _ _ _ (begun_by same)
+              (moves.so n fit.deep fit.size s _ _ _
               (part_in n fit.deep fit.size head cut.before (cut.item ∷ cut.after) f.to (fit.has.head f.to to_it) (fit.has.told f.to to_it) alone_then ends_then long_then fit.fits
               s x (level.first.word ∷ level.first.words) level.first.inside (subst (λ a. n.injects (place fit.table f.to f.from a) ≡ true) (sym same) pa.injects) level.first.input
               (subst (λ a. n.joins (place fit.table f.to f.from a) f.to ≡ true) (sym same) pa.joined) room_then level.first.line)
-              (λ u a. moves.at_once n fit.deep fit.size u _ (from_sender u a))
+              (λ u a. from_sender u a))
           by (suc k) same =
-              moves.and_then n fit.deep fit.size s _ _
+              moves.by n fit.deep fit.size s _ _ _ (ap (λ z. part_moves (place fit.table f.to f.from) (item_packet fit.size f) (fit.size - suc d) (suc fit.depth - suc d) (suc d) z) (sym same))
+              (moves.and_then n fit.deep fit.size s _ _ _ _
               (paths.carried n fit.deep fit.size head body f.to (fit.has.head f.to to_it) (fit.has.told f.to to_it) (fit.has.alone f.to to_it) ends long fit.fits (place fit.table f.to f.from) f.step pa
               s clear k (omega arith))
               (λ a one.
-              moves.and_then n fit.deep fit.size a _ _
+              moves.by n fit.deep fit.size a _ _ _ (handed (place fit.table f.to f.from k) ∙ ap (λ z. hands_moves (place fit.table f.to f.from k) (place fit.table f.to f.from z) (fit.size - suc d) (suc fit.depth - suc d) (suc d)) same)
+              (moves.so n fit.deep fit.size a _ _ _
               (part_on n fit.deep fit.size head cut.before (cut.item ∷ cut.after) f.to (fit.has.head f.to to_it) (fit.has.told f.to to_it) alone_then ends_then long_then fit.fits
               a (place fit.table f.to f.from k) x (level.first.word ∷ level.first.words) (pa.within k (omega arith)) level.first.inside (pa.inputs k (omega arith)) level.first.input
               (pa.apart k (omega arith)) (ap (place fit.table f.to f.from) same ∙ pa.next k (omega arith)) room_then
               (one.here ∙ ap (λ (l : List ℕ). line n (head ∷ l) None []) cut.is)
               (one.others x (λ q. pa.apart k (omega arith) (sym q)) ∙ level.first.line))
-              (λ u two. moves.at_once n fit.deep fit.size u _ (from_channel k (omega arith) a u one two)))
+              (λ u two. from_channel k (omega arith) a u one two))))
 
-    pub finish : Leads n fit.size s (Ended fit)
-    finish = by level.first.left refl
+    pub finish : Leads n fit.size s (last_moves (place fit.table f.to f.from) (item_packet fit.size f) fit.depth f.step left) (Ended fit)
+    finish = by left refl
       where
-        by : (l : ℕ) → level.first.left ≡ l → Leads n fit.size s (Ended fit)
+        by : (l : ℕ) → left ≡ l → Leads n fit.size s (last_moves (place fit.table f.to f.from) (item_packet fit.size f) fit.depth f.step l) (Ended fit)
         by zero none =
             let last = level.first in
             let sum = last.room in
@@ -177,25 +208,28 @@ module _ (fit : Fitting) where
               full = omega arith;
               goes = last.goes;
             }) level.others (λ z isnt. inl (level.clear z isnt)))
-        by (suc d) left =
+        by (suc d) some =
             let few = level.first.few in
             let lens : suc (length body) ≡ fit.size = long in
-            fed d left (split d body (omega arith))
+            fed d some (split d body (omega arith))
 
   -- level by level
-  climbed : (f : Fill) (fs : List Fill) (e : ℕ) → AreFilledInTurn fit.table (f ∷ fs) → WaitInTurn fit.table (f ∷ fs) e → Leads n fit.size (empty n) (λ u. Level fit u f fs e)
-  climbed f [] e turn chain = brims.base fit f e turn.0 chain.0 (empty n) (λ x. refl)
-  climbed f (g ∷ gs) e turn chain =
-      moves.and_then n fit.deep fit.size (empty n) _ _ (climbed g gs e turn.1 chain.1) (λ s level.
-      next_level fit f g gs e turn.0 chain.0 (turn.1.0.clear g.step (omega arith)) s level)
+  climbed : (f : Fill) (fs : List Fill) (e : ℕ) → AreFilledInTurn fit.table (f ∷ fs) → WaitInTurn fit.table (f ∷ fs) e
+      → Leads n fit.size (empty n) (levels_moves fit.table fit.depth fit.size (f ∷ fs)) (λ u. Level fit u f fs e (spare_of fit.depth fit.size (f ∷ fs)))
+  climbed f [] e turn waits = brims.base fit f e turn.0 waits.0 (empty n) (λ x. refl)
+  climbed f (g ∷ gs) e turn waits =
+      moves.and_then n fit.deep fit.size (empty n) _ _ _ _ (climbed g gs e turn.1 waits.1) (λ s level.
+      next_level fit f g gs e turn.0 waits.0 (turn.1.0.clear g.step (omega arith)) s (spare_of fit.depth fit.size (g ∷ gs)) level)
 
-  pub locked : (fs : List Fill) → IsCircularJam fit.table fs → (events : List NetEvent) × IsLockUpOf n [] fit.size events
+  pub locked : (fs : List Fill) → IsCircularJam fit.table fs
+      → (events : List NetEvent) × (map event_move events ≡ lengths_moves fit.table fit.depth fit.size fs) × IsLockUpOf n [] fit.size events
   locked [] jam = let some = jam.some in absurd (omega arith)
   locked (f ∷ fs) jam =
-      let all = moves.and_then n fit.deep fit.size (empty n) _ _ (climbed f fs (fill_channel fit.table f) jam.in_turn jam.waits) (λ s level.
-      finish f fs jam.in_turn.0 jam.waits.0 s level) in
+      let all = moves.and_then n fit.deep fit.size (empty n) _ _ _ _ (climbed f fs (fill_channel fit.table f) jam.in_turn jam.waits) (λ s level.
+      finish f fs jam.in_turn.0 jam.waits.0 s (spare_of fit.depth fit.size (f ∷ fs)) level) in
       let done = all.there in (
         all.events,
+        all.moves,
         record {
           locks = record {
             may = all.may;
@@ -208,9 +242,11 @@ module _ (fit : Fitting) where
         },
       )
 
-pub jams_lock : (t : Table) (fs : List Fill) → IsCircularJam t fs → (size depth : ℕ) (flits : Flits) → 0 < depth → size ≤ depth + 1
-    → HasPacketsOf t flits size → LocksUpOf t [] depth flits size
-jams_lock t fs jam size depth flits deep fits has = λ number top. locked (record {
+-- the moves that fill a circular jam deadlock its network
+pub moves_lock : (t : Table) (fs : List Fill) → IsCircularJam t fs → (size depth : ℕ) (flits : Flits) → 0 < depth → size ≤ depth + 1
+    → HasPacketsOf t flits size → (number : ℕ → ℕ) (top : ℕ)
+    → (events : List NetEvent) × (map event_move events ≡ lengths_moves t depth size fs) × IsLockUpOf (table_network t number top depth flits) [] size events
+moves_lock t fs jam size depth flits deep fits has = λ number top. locked (record {
   table = t;
   number = number;
   top = top;
@@ -224,6 +260,11 @@ jams_lock t fs jam size depth flits deep fits has = λ number top. locked (recor
   where
     low : (s d : ℕ) → s ≤ d + 1 → s ≤ suc d
     low s d h = omega arith
+
+pub jams_lock : (t : Table) (fs : List Fill) → IsCircularJam t fs → (size depth : ℕ) (flits : Flits) → 0 < depth → size ≤ depth + 1
+    → HasPacketsOf t flits size → LocksUpOf t [] depth flits size
+jams_lock t fs jam size depth flits deep fits has number top =
+    (let run = moves_lock t fs jam size depth flits deep fits has number top in (run.0, run.2))
 
 pub cycles_lock : (t : Table) (links : List Link) → AllArrive t → IsCycle t [] links → (size depth : ℕ) (flits : Flits) → 0 < depth → size ≤ depth + 1
     → HasPacketsOf t flits size → LocksUpOf t [] depth flits size

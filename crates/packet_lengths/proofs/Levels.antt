@@ -46,12 +46,11 @@ module _ (fit : Fitting) where
     pub goes : GoesTo x y word
 
   -- one with less room than a packet needs
-  pub record Top (s : NetState) (x y : ℕ) : Type 0 where
+  pub record Top (s : NetState) (x y left : ℕ) : Type 0 where
     pub inside : x < channels_of fit.table
     pub input : n.ejects x ≡ false
     pub word : ℕ
     pub words : List ℕ
-    pub left : ℕ
     pub line : s.lines x ≡ line n (word ∷ words) None []
     pub room : suc (length words) + left ≡ suc fit.depth
     pub few : left < fit.size
@@ -61,8 +60,8 @@ module _ (fit : Fitting) where
   Below s [] e = Unit {0}
   Below s (g ∷ gs) e = Full s (fill_channel fit.table g) (head_channel fit.table gs e) × Below s gs e
 
-  pub record Level (s : NetState) (f : Fill) (fs : List Fill) (e : ℕ) : Type 0 where
-    pub first : Top s (fill_channel fit.table f) (head_channel fit.table fs e)
+  pub record Level (s : NetState) (f : Fill) (fs : List Fill) (e left : ℕ) : Type 0 where
+    pub first : Top s (fill_channel fit.table f) (head_channel fit.table fs e) left
     pub others : Below s fs e
     pub clear : (x : ℕ) → is_filled fit.table (f ∷ fs) x ≡ false → s.lines x ≡ line n [] None []
 

@@ -1,18 +1,22 @@
 -- Flits move into a channel, and from a channel into the next, by events of packets of one length.
 use Rattle.std.proofs.Common.{◌≡◌, ◌≢◌, ℕ, suc, ◌+◌, ◌-◌, ◌<◌, ◌≤◌, false, List, [], ◌∷◌, ◌++◌, length, Option, Some, None, refl, sym, ◌∙◌, ap}
-use Rattle.std.proofs.Common.{subst, arith, All}
+use Rattle.std.proofs.Common.{subst, arith, All, map}
 use Rattle.std.proofs.lemmas.List.Elements.{All-nil, All-cons, All-head, All-tail}
 use Rattle.wormhole.specs.Net.{Net}
 use Rattle.wormhole.specs.State.{NetLine, NetState}
 use Rattle.wormhole.specs.Events.{NetEvent, Latch, Return, CanHappen, CanAllHappen, after, after_all, put}
 use Rattle.wormhole.specs.Events.{taken, unlatched, credited}
 use Rattle.wormhole.proofs.Changes.{update_same, update_other}
+use Rattle.network_machine.specs.declared.moves.Move.{Move}
+use Rattle.network_machine.specs.Moves.{event_move}
 use Rattle.packet_lengths.specs.Lengths.{HasLength}
+use Rattle.packet_lengths.specs.LengthMoves.{settle_moves, pull_moves}
 use Rattle.packet_lengths.proofs.Lines.{made, line, put_behind}
 
--- events, with packets of so many flits alone, lead from a state to one of which this holds
-pub record Leads (n : Net) (size : ℕ) (s : NetState) (P : NetState → Type 0) : Type 0 where
+-- events, with packets of so many flits alone, make these moves, and lead from a state to one of which this holds
+pub record Leads (n : Net) (size : ℕ) (s : NetState) (ms : List Move) (P : NetState → Type 0) : Type 0 where
   pub events : List NetEvent
+  pub moves : map event_move events ≡ ms
   pub may : CanAllHappen n s events
   pub lengths : All (HasLength size) events
   pub there : P (after_all n s events)
@@ -29,18 +33,34 @@ pub record Moved2 (s : NetState) (p y : ℕ) (l m : NetLine) (t : NetState) : Ty
   pub others : (z : ℕ) → z ≢ p → z ≢ y → t.lines z ≡ s.lines z
 
 module _ (n : Net) (deep : 0 < n.depth) (size : ℕ) where
-  pub at_once : (s : NetState) (P : NetState → Type 0) → P s → Leads n size s P
-  at_once s P p = record { events = []; may = tt; lengths = All-nil (HasLength size); there = p }
+  pub at_once : (s : NetState) (P : NetState → Type 0) → P s → Leads n size s [] P
+  at_once s P p = record { events = []; moves = refl; may = tt; lengths = All-nil (HasLength size); there = p }
 
-  pub first : (s : NetState) (P : NetState → Type 0) (e : NetEvent) → HasLength size e → CanHappen n s.lines e → Leads n size (after n s e) P → Leads n size s P
-  first s P e h c l = record { events = e ∷ l.events; may = (c, l.may); lengths = All-cons (HasLength size) e l.events h l.lengths; there = l.there }
+  pub first : (s : NetState) (ms : List Move) (P : NetState → Type 0) (e : NetEvent) → HasLength size e → CanHappen n s.lines e → Leads n size (after n s e) ms P
+      → Leads n size s (event_move e ∷ ms) P
+  first s ms P e h c l = record {
+    events = e ∷ l.events;
+    moves = ap (λ (ks : List Move). event_move e ∷ ks) l.moves;
+    may = (c, l.may);
+    lengths = All-cons (HasLength size) e l.events h l.lengths;
+    there = l.there;
+  }
 
-  pub and_then : (s : NetState) (P Q : NetState → Type 0) → Leads n size s P → ((t : NetState) → P t → Leads n size t Q) → Leads n size s Q
-  and_then s P Q l on = go l.events s l.may l.lengths l.there
+  pub and_then : (s : NetState) (ms ks : List Move) (P Q : NetState → Type 0) → Leads n size s ms P → ((t : NetState) → P t → Leads n size t ks Q)
+      → Leads n size s (ms ++ ks) Q
+  and_then s ms ks P Q l on = subst (λ (m : List Move). Leads n size s (m ++ ks) Q) l.moves (go l.events s l.may l.lengths l.there)
     where
-      go : (es : List NetEvent) (r : NetState) → CanAllHappen n r es → All (HasLength size) es → P (after_all n r es) → Leads n size r Q
+      go : (es : List NetEvent) (r : NetState) → CanAllHappen n r es → All (HasLength size) es → P (after_all n r es) → Leads n size r (map event_move es ++ ks) Q
       go [] r c a p = on r p
-      go (e ∷ es) r c a p = first r Q e (All-head (HasLength size) e es a) c.0 (go es (after n r e) c.1 (All-tail (HasLength size) e es a) p)
+      go (e ∷ es) r c a p =
+          first r (map event_move es ++ ks) Q e (All-head (HasLength size) e es a) c.0 (go es (after n r e) c.1 (All-tail (HasLength size) e es a) p)
+
+  -- what holds there, said otherwise; and the moves
+  pub so : (s : NetState) (ms : List Move) (P Q : NetState → Type 0) → Leads n size s ms P → ((t : NetState) → P t → Q t) → Leads n size s ms Q
+  so s ms P Q l on = record { events = l.events; moves = l.moves; may = l.may; lengths = l.lengths; there = on (after_all n s l.events) l.there }
+
+  pub by : (s : NetState) (ms ks : List Move) (P : NetState → Type 0) → ms ≡ ks → Leads n size s ms P → Leads n size s ks P
+  by s ms ks P same l = subst (λ (m : List Move). Leads n size s m P) same l
 
   -- one channel has moved on from where it had moved
   moved_on : (s t u : NetState) (y : ℕ) (l m : NetLine) → Moved s y l t → Moved t y m u → Moved s y m u
@@ -48,7 +68,7 @@ module _ (n : Net) (deep : 0 < n.depth) (size : ℕ) where
 
   -- a flit put into a channel comes to rest
   pub settles : (s : NetState) (y w : ℕ) (ws : List ℕ) (o : Option ℕ) (r : List ℕ) → y < n.channels → n.ejects y ≡ false
-      → length ws ≤ n.depth → s.lines y ≡ put w (line n ws o r) → Leads n size s (Moved s y (line n (ws ++ w ∷ []) o r))
+      → length ws ≤ n.depth → s.lines y ≡ put w (line n ws o r) → Leads n size s (settle_moves y (length ws)) (Moved s y (line n (ws ++ w ∷ []) o r))
   settles s y w (v ∷ vs) o r within input room is =
       at_once s _ (record { here = is ∙ put_behind n w v vs o r room; others = λ z d. refl })
   settles s y w [] o r within input room is =
@@ -58,13 +78,13 @@ module _ (n : Net) (deep : 0 < n.depth) (size : ℕ) where
       update_same s.lines y _ ∙ ap (λ (l : NetLine). record (taken [] l) { latch = Some w }) is in
       let here2 : (after n s1 (Return y)).lines y ≡ line n (w ∷ []) o r =
       update_same s1.lines y _ ∙ (ap credited here1 ∙ ap (λ h. made [] h 0 (Some w) o r) (omega arith)) in
-      first s _ one tt (record { here = within; input = input; free = ap (λ (l : NetLine). l.latch) is; first = ap (λ (l : NetLine). l.flits) is })
-      (first s1 _ (Return y) tt (record { here = within; returns = subst (λ (l : NetLine). 0 < l.returning) (sym here1) (omega arith) })
+      first s _ _ one tt (record { here = within; input = input; free = ap (λ (l : NetLine). l.latch) is; first = ap (λ (l : NetLine). l.flits) is })
+      (first s1 _ _ (Return y) tt (record { here = within; returns = subst (λ (l : NetLine). 0 < l.returning) (sym here1) (omega arith) })
       (at_once _ _ (record { here = here2; others = λ z d. update_other s1.lines y _ z d ∙ update_other s.lines y _ z d })))
 
   -- the next flit comes into the latch
   pub pulls : (s : NetState) (p w : ℕ) (ws : List ℕ) (o : Option ℕ) (r : List ℕ) → p < n.channels → n.ejects p ≡ false
-      → length ws ≤ n.depth → s.lines p ≡ unlatched (line n (w ∷ ws) o r) → Leads n size s (Moved s p (line n ws o r))
+      → length ws ≤ n.depth → s.lines p ≡ unlatched (line n (w ∷ ws) o r) → Leads n size s (pull_moves p (length ws)) (Moved s p (line n ws o r))
   pulls s p w [] o r within input room is =
       at_once s _ (record { here = is ∙ ap (λ h. made [] h 0 None o r) (omega arith); others = λ z d. refl })
   pulls s p w (v ∷ vs) o r within input room is =
@@ -74,8 +94,8 @@ module _ (n : Net) (deep : 0 < n.depth) (size : ℕ) where
       update_same s.lines p _ ∙ ap (λ (l : NetLine). record (taken vs l) { latch = Some v }) is in
       let here2 : (after n s1 (Return p)).lines p ≡ line n (v ∷ vs) o r =
       update_same s1.lines p _ ∙ (ap credited here1 ∙ ap (λ h. made vs h 0 (Some v) o r) (back room)) in
-      first s _ one tt (record { here = within; input = input; free = ap (λ (l : NetLine). l.latch) is; first = ap (λ (l : NetLine). l.flits) is })
-      (first s1 _ (Return p) tt (record { here = within; returns = subst (λ (l : NetLine). 0 < l.returning) (sym here1) (omega arith) })
+      first s _ _ one tt (record { here = within; input = input; free = ap (λ (l : NetLine). l.latch) is; first = ap (λ (l : NetLine). l.flits) is })
+      (first s1 _ _ (Return p) tt (record { here = within; returns = subst (λ (l : NetLine). 0 < l.returning) (sym here1) (omega arith) })
       (at_once _ _ (record { here = here2; others = λ z d. update_other s1.lines p _ z d ∙ update_other s.lines p _ z d })))
     where
       back : suc (length vs) ≤ n.depth → n.depth - suc (length vs) + 1 ≡ n.depth - length vs
@@ -85,12 +105,12 @@ module _ (n : Net) (deep : 0 < n.depth) (size : ℕ) where
   pub rests : (s t : NetState) (p y w : ℕ) (ws ys : List ℕ) (o q : Option ℕ) (r v : List ℕ) → p < n.channels → y < n.channels → n.ejects p ≡ false → n.ejects y ≡ false
       → p ≢ y → length ws ≤ n.depth → length ys ≤ n.depth
       → t.lines p ≡ unlatched (line n (w ∷ ws) o r) → t.lines y ≡ put w (line n ys q v) → ((z : ℕ) → z ≢ p → z ≢ y → t.lines z ≡ s.lines z)
-      → Leads n size t (Moved2 s p y (line n ws o r) (line n (ys ++ w ∷ []) q v))
+      → Leads n size t (pull_moves p (length ws) ++ settle_moves y (length ys)) (Moved2 s p y (line n ws o r) (line n (ys ++ w ∷ []) q v))
   rests s t p y w ws ys o q r v low within input output apart short room from into others =
-      and_then t _ _ (pulls t p w ws o r low input short from) (λ u a.
-      and_then u _ _ (settles u y w ys q v within output room (a.others y (λ e. apart (sym e)) ∙ into)) (λ x b.
-      at_once x _ (record {
+      and_then t (pull_moves p (length ws)) (settle_moves y (length ys)) _ _ (pulls t p w ws o r low input short from) (λ u a.
+      so u (settle_moves y (length ys)) _ _ (settles u y w ys q v within output room (a.others y (λ e. apart (sym e)) ∙ into)) (λ x b.
+      record {
         from = b.others p apart ∙ a.here;
         into = b.here;
         others = λ z d e. b.others z e ∙ (a.others z d ∙ others z d e);
-      })))
+      }))

@@ -27,9 +27,11 @@ pub record Shared (size all : ℕ) : Type 0 where
   pub left : ℕ
   pub is : count * size + left ≡ all
   pub few : left < size
+  pub counted : count ≡ all / size
+  pub rest : left ≡ all % size
 
 pub shared : (size all : ℕ) → 0 < size → Shared size all
-shared size all some = record { count = all / size; left = all % size; is = div-add-mod' all size; few = mod_low size all some }
+shared size all some = record { count = all / size; left = all % size; is = div-add-mod' all size; few = mod_low size all some; counted = refl; rest = refl }
   where
     mod_low : (s a : ℕ) → 0 < s → a % s < s
     mod_low s a h = omega arith

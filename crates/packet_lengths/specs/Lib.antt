@@ -1,2 +1,3 @@
 pub mod CircularJams
+pub mod LengthMoves
 pub mod Lengths

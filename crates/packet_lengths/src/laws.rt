@@ -11,6 +11,7 @@ ghost use Rattle.network_judge.specs.declared.fill.Fill.{Fill};
 ghost use Rattle.network_judge.specs.Jams.{IsJam};
 ghost use Rattle.network_judge.specs.LockUps.{plain_format};
 ghost use Rattle.packet_lengths.specs.Lengths.{LocksUpOf, HasPacketsOf, SettlesLength};
+ghost use Rattle.packet_lengths.specs.LengthMoves.{FillingLocksUp};
 ghost use Rattle.packet_lengths.specs.CircularJams.{IsCircularJam};
 
 use std::alloc::Allocator;
@@ -30,8 +31,11 @@ pub fn circular_jams_are_jams()
 
 /// Where all packets have so many flits, and a channel and the latch behind it can hold one, a network with
 /// a circular jam, or with a cycle, can deadlock: there is a run with packets of this length alone after
-/// which flits stand and nothing can go.
+/// which flits stand and nothing can go. Its moves are those that fill the jam.
 pub fn packets_that_fit_lock_up()
+    ensures run { (t : Table) (fs : List Fill) → IsCircularJam t fs
+        → (size depth : ℕ) (flits : Flits) → 0 < depth → size ≤ depth + 1
+        → HasPacketsOf t flits size → FillingLocksUp t depth flits size fs }
     ensures jam { (t : Table) (fs : List Fill) → IsCircularJam t fs
         → (size depth : ℕ) (flits : Flits) → 0 < depth → size ≤ depth + 1
         → HasPacketsOf t flits size → LocksUpOf t [] depth flits size }
