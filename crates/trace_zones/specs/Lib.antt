@@ -1,0 +1,4 @@
+pub mod Zones
+pub mod Told
+pub mod Conflicts
+pub mod Looks
