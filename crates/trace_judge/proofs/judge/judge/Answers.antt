@@ -11,11 +11,11 @@ loop-good-init g c = boundary_from c.args.opening.now c.args.events.now _
     (MatchOption-at_none {o = c.in_ok-order.field-0} _ _ c.in_default.is c.in_ok-order.ensures.decided)
     (c.in_ok-order.ensures.ended c.in_default.is)
 
-pub find_order-requires-clause-trace : goal.find_order-requires-clause-trace
-find_order-requires-clause-trace g c = trace_take (length c.args.opening.now) _ c.args.events.now c.requires
+pub explain_beginning-requires-clause-trace : goal.explain_beginning-requires-clause-trace
+explain_beginning-requires-clause-trace g c = trace_take (length c.args.opening.now) _ c.args.events.now c.requires
 
-pub find_order-requires-clause-beginning : goal.find_order-requires-clause-beginning
-find_order-requires-clause-beginning g c = (_, refl)
+pub explain_beginning-requires-clause-beginning : goal.explain_beginning-requires-clause-beginning
+explain_beginning-requires-clause-beginning g c = (_, refl)
 
 pub returns-in_err-order-clause-unjudged : goal.returns-in_err-order-clause-unjudged
 returns-in_err-order-clause-unjudged g c =
@@ -35,19 +35,19 @@ returns-in_err-order-clause-judged g c =
 pub returns-in-Some-clause-judged : goal.returns-in-Some-clause-judged
 returns-in-Some-clause-judged g c = MatchOption-at_some {o = c.in_ok-order.field-0} _ _ c.in-Some.order c.in-Some.is c.in_ok-order.ensures.decided
 
-pub returns-in_err-find_order-clause-unjudged : goal.returns-in_err-find_order-clause-unjudged
-returns-in_err-find_order-clause-unjudged g c =
-    let p = err_from_is_err_and c.from_residual-in_err-find_order.result c.from_residual-in_err-find_order.ensures.1 in
-    rw p.1 (subst (λ (e : Undecided). IsUndecided c.args.events.now e) (sym p.2) c.in_err-find_order.ensures.undecided)
+pub returns-in_err-explain_beginning-clause-unjudged : goal.returns-in_err-explain_beginning-clause-unjudged
+returns-in_err-explain_beginning-clause-unjudged g c =
+    let p = err_from_is_err_and c.from_residual-in_err-explain_beginning.result c.from_residual-in_err-explain_beginning.ensures.1 in
+    rw p.1 (subst (λ (e : Undecided). IsUndecided c.args.events.now e) (sym p.2) c.in_err-explain_beginning.ensures.undecided)
 
-pub returns-in_err-find_order-clause-full : goal.returns-in_err-find_order-clause-full
-returns-in_err-find_order-clause-full g c =
-    let p = err_from_is_err_and c.from_residual-in_err-find_order.result c.from_residual-in_err-find_order.ensures.1 in
-    rw p.1 (subst (λ (e : Undecided). TellsMany c.args.opening.now c.args.events.now c.args.bound e) (sym p.2) c.in_err-find_order.ensures.full)
+pub returns-in_err-explain_beginning-clause-full : goal.returns-in_err-explain_beginning-clause-full
+returns-in_err-explain_beginning-clause-full g c =
+    let p = err_from_is_err_and c.from_residual-in_err-explain_beginning.result c.from_residual-in_err-explain_beginning.ensures.1 in
+    rw p.1 (subst (λ (e : Undecided). TellsMany c.args.opening.now c.args.events.now c.args.bound e) (sym p.2) c.in_err-explain_beginning.ensures.full)
 
-pub returns-in_err-find_order-clause-judged : goal.returns-in_err-find_order-clause-judged
-returns-in_err-find_order-clause-judged g c =
-    let p = err_from_is_err_and c.from_residual-in_err-find_order.result c.from_residual-in_err-find_order.ensures.1 in
+pub returns-in_err-explain_beginning-clause-judged : goal.returns-in_err-explain_beginning-clause-judged
+returns-in_err-explain_beginning-clause-judged g c =
+    let p = err_from_is_err_and c.from_residual-in_err-explain_beginning.result c.from_residual-in_err-explain_beginning.ensures.1 in
     rw p.1 tt
 
 pub returns-clause-judged : goal.returns-clause-judged

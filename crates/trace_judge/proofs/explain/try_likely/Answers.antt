@@ -1,5 +1,5 @@
 use Rattle.trace_judge.proofs.Guessing.{likely_found}
-use Rattle.trace_judge.proofs.judge.try_likely.Goals as goal
+use Rattle.trace_judge.proofs.explain.try_likely.Goals as goal
 
 pub returns-in-Ok : goal.returns-in-Ok
 returns-in-Ok g c =

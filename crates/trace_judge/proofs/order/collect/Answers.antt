@@ -3,8 +3,8 @@ use Rattle.std.proofs.lemmas.Option.{slice_get-get_or}
 use Rattle.packet.specs.declared.kinds.Op.TheVariants.{Load}
 use Rattle.trace_laws.specs.declared.opened.Node.{Node}
 use Rattle.trace_judge.proofs.Marking.{collected_more}
-use Rattle.trace_judge.proofs.judge.collect.Goals as goal
-use Rattle.trace_judge.proofs.judge.collect.Goals.{then-marks-i+in_ok-push, else-marks-i}
+use Rattle.trace_judge.proofs.order.collect.Goals as goal
+use Rattle.trace_judge.proofs.order.collect.Goals.{then-marks-i+in_ok-push, else-marks-i}
 
 pub loop-i-preserved : goal.loop-i-preserved
 loop-i-preserved g c =

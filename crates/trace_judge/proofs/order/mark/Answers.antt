@@ -3,7 +3,7 @@ use Rattle.packet.specs.declared.kinds.Op.TheVariants.{Load}
 use Rattle.std.proofs.lemmas.Option.{slice_get-get_or}
 use Rattle.trace_laws.specs.declared.opened.Node.{Node}
 use Rattle.trace_judge.proofs.Marking.{Marking, marking_more, marking_all}
-use Rattle.trace_judge.proofs.judge.mark.Goals as goal
+use Rattle.trace_judge.proofs.order.mark.Goals as goal
 
 pub loop-next-preserved : goal.loop-next-preserved
 loop-next-preserved c =

@@ -5,7 +5,7 @@ use Rattle.trace_judge.specs.Sets.{lists_of}
 use Rattle.std.proofs.lemmas.List.{with_items_is}
 use Rattle.trace_judge.proofs.Firsts.{filled_length, head_in, firsts, picks_word}
 use Rattle.trace_judge.proofs.Marking.{picks_none, PicksSoFar}
-use Rattle.trace_judge.proofs.judge.mark_all.Goals as goal
+use Rattle.trace_judge.proofs.order.mark_all.Goals as goal
 
 pub loop-word-init : goal.loop-word-init
 loop-word-init g c = picks_none (firsts c.args.search.now.words.items)

@@ -9,7 +9,7 @@ use Rattle.trace_judge.specs.Sets.{lists_of}
 use Rattle.trace_judge.specs.Stops.{IsUndecided, TellsMany}
 use Rattle.trace_judge.specs.declared.undecided.Undecided.{Undecided}
 use Rattle.trace_laws.proofs.Sound.{sound_all}
-use Rattle.trace_judge.proofs.judge.find_order.Goals as goal
+use Rattle.trace_judge.proofs.order.find_order.Goals as goal
 
 pub returns-clause-decided : goal.returns-clause-decided
 returns-clause-decided g c =
