@@ -1,0 +1,109 @@
+include!("common.rs");
+use std::hint::black_box;
+use std::alloc::{GlobalAlloc,Layout,System};
+struct Ar; static mut ON:bool=false; static mut BASE:usize=0; static mut PTR:usize=0; const HALF:usize=1<<30; static mut WHICH:usize=0;
+unsafe impl GlobalAlloc for Ar { 
+ #[inline] unsafe fn alloc(&self,l:Layout)->*mut u8 { if ON { let p=(PTR+15)&!15; PTR=p+l.size(); p as *mut u8 } else { System.alloc(l) } }
+ #[inline] unsafe fn dealloc(&self,p:*mut u8,l:Layout) { let a=p as usize; if a>=BASE&&a<BASE+2*HALF { if a+l.size()==PTR {PTR=a;} } else { System.dealloc(p,l) } } }
+#[global_allocator] static G:Ar=Ar;
+#[derive(Clone, Copy, PartialEq, Eq)]
+pub struct Effect { op: Op, reply: Reply, newest: u64 }
+#[derive(Clone, Copy, PartialEq, Eq)]
+pub struct Glimpse { word: u64, newest: u64 }
+pub struct State { word: u64, effects: Vec<Effect>, seen: Vec<Glimpse> }
+fn told(r: Reply) -> u64 { match r { Reply::Ok => 0, Reply::Old(w) => w } }
+fn rank(op: Op) -> u64 { match op { Op::Load=>0, Op::Store(_)=>1, Op::Swap(_)=>2, Op::Cas(..)=>3, Op::Add(_)=>4 } }
+fn first_value(op: Op) -> u64 { match op { Op::Load=>0, Op::Store(v)=>v, Op::Swap(v)=>v, Op::Cas(e,_)=>e, Op::Add(v)=>v } }
+fn second_value(op: Op) -> u64 { match op { Op::Cas(_,n)=>n, _=>0 } }
+#[inline(never)]
+fn is_before(one: Effect, other: Effect) -> bool {
+    let (a,b)=(told(one.reply),told(other.reply)); if a!=b {return a<b;}
+    let (a,b)=(rank(one.op),rank(other.op)); if a!=b {return a<b;}
+    let (a,b)=(first_value(one.op),first_value(other.op)); if a!=b {return a<b;}
+    second_value(one.op)<second_value(other.op)
+}
+#[inline(never)]
+fn spot(es:&[Effect], e:Effect)->usize { for i in 0..es.len() { if !is_before(es[i],e) {return i;} } es.len() }
+fn covers(a:Effect,b:Effect)->bool { a.op==b.op && a.reply==b.reply && b.newest<=a.newest }
+#[inline(never)]
+fn is_covered(a:&State,b:&State)->bool { a.word==b.word && a.effects.len()==b.effects.len() && a.effects.iter().zip(&b.effects).all(|(x,y)|covers(*x,*y)) && are_seen(&a.seen,&b.seen) }
+fn has_glimpse(seen:&[Glimpse], g:Glimpse)->bool { seen.iter().any(|s| s.word==g.word && g.newest<=s.newest) }
+fn are_seen(seen:&[Glimpse], others:&[Glimpse])->bool { others.iter().all(|g| has_glimpse(seen,*g)) }
+#[inline(never)]
+fn seen_by(calls:&[Call], st:&State, word:u64)->Vec<Glimpse> {
+    let mut others = Vec::with_capacity(st.seen.len()+1);
+    for g in &st.seen { if g.word!=word { others.push(*g); } }
+    if st.word!=word { others.insert(0, Glimpse{word:st.word, newest: calls.iter().map(|c|c.id).max().unwrap_or(0)}); }
+    others
+}
+#[inline(never)]
+fn effects_with(es:&[Effect], e:Effect)->Vec<Effect> { let mut m=Vec::with_capacity(es.len()+1); m.extend_from_slice(es); m.insert(spot(es,e),e); m }
+fn changed(st:&State, calls:&[Call], call:Call)->State { let (word,reply)=apply(call.op,st.word); State{word, effects:effects_with(&st.effects, Effect{op:call.op,reply,newest:call.id}), seen:seen_by(calls,st,word)} }
+fn may_be(e:Effect,c:Call)->bool { c.id<=e.newest && c.op==e.op }
+#[inline(never)]
+fn newest_left(calls:&[Call], taken:&[u64], e:Effect)->Option<Call> { let mut n:Option<Call>=None; for c in calls { if may_be(e,*c) && !taken.contains(&c.id) { n=match n {None=>Some(*c),Some(o) if c.id<=o.id=>n,_=>Some(*c)}; } } n }
+#[inline(never)]
+fn partners(calls:&[Call], es:&[Effect])->Option<Vec<u64>> { let mut t=Vec::with_capacity(es.len()); for e in es { t.push(newest_left(calls,&t,*e)?.id); } Some(t) }
+fn fits(calls:&[Call], es:&[Effect])->bool { partners(calls,es).is_some() }
+struct Index { heads:Vec<usize>, links:Vec<usize> }
+impl Index {
+  fn new(n:usize)->Index { Index{heads:vec![0;n],links:vec![]} }
+  #[inline(never)]
+  fn place(&self, st:&State)->usize { let mut m=0u64; for e in &st.effects { let s=(rank(e.op)+told(e.reply)%64*11+first_value(e.op)%64*23)%64; m|=1<<s; } (st.word.wrapping_add(m)%self.heads.len() as u64) as usize }
+  #[inline(never)]
+  fn is_there(&self, found:&[State], st:&State, place:usize)->bool { let mut n=self.heads[place]; while n>0 { unsafe{CHAIN+=1;} let at=n-1; if is_covered(&found[at],st) {return true;} n=self.links[at]; } false }
+  fn note(&mut self, place:usize) { self.links.push(self.heads[place]); self.heads[place]=self.links.len(); }
+}
+static mut CHAIN:u64=0; static mut CLOSED:u64=0; static mut ATT:u64=0; static mut ADDS:u64=0; static mut KEPT:u64=0; static mut CLAIMS:u64=0; static mut IDLEC:u64=0;
+fn widen(ix:&mut Index, found:&[State]) { let n=ix.heads.len(); if found.len()<=n {return;} let mut i=Index::new(n*4+1); for s in found { let p=i.place(s); i.note(p);} *ix=i; }
+#[inline(never)]
+fn add(found:&mut Vec<State>, ix:&mut Index, st:State) { unsafe{ADDS+=1;} let p=ix.place(&st); if ix.is_there(found,&st,p) {return;} ix.note(p); found.push(st); }
+#[inline(never)]
+fn expand(found:&mut Vec<State>, ix:&mut Index, at:usize, calls:&[Call], newest:&[Call]) {
+  let Some(taken)=partners(calls,&found[at].effects) else {return;};
+  for call in newest { unsafe{ATT+=1;} let st=&found[at]; let (w,r)=apply(call.op,st.word); if w==st.word {unsafe{IDLEC+=1;}continue;}
+    if newest_left(calls,&taken,Effect{op:call.op,reply:r,newest:call.id}).is_none() {continue;}
+    let n=changed(st,calls,*call); add(found,ix,n); }
+}
+#[inline(never)]
+fn close(states:&[State], ix:&mut Index, calls:&[Call], newest:&[Call])->Vec<State> {
+  let mut found=vec![];
+  for s in states { let from=found.len(); add(&mut found,ix,State{word:s.word,effects:s.effects.clone(),seen:s.seen.clone()}); let mut n=from; while n<found.len() { widen(ix,&found); expand(&mut found,ix,n,calls,newest); n+=1; unsafe{CLOSED+=1;} } }
+  found
+}
+#[inline(never)]
+fn lowered(calls:&[Call], st:&State)->State {
+  let effects=st.effects.iter().map(|e| Effect{op:e.op,reply:e.reply,newest: newest_left(calls,&[],*e).map(|c|c.id).unwrap_or(e.newest)}).collect();
+  let mut seen:Vec<Glimpse>=Vec::with_capacity(st.seen.len());
+  for g in &st.seen { let mut n:Option<Call>=None; for c in calls { if apply(c.op,g.word).0==g.word && c.id<=g.newest { n=match n {None=>Some(*c),Some(o) if c.id<=o.id=>n,_=>Some(*c)}; } }
+    if let Some(c)=n { let x=Glimpse{word:g.word,newest:c.id}; if !has_glimpse(&seen,x) { seen.push(x);} } }
+  State{word:st.word,effects,seen}
+}
+#[inline(never)]
+fn takes(found:&[State], calls:&[Call], call:Call, reply:Reply, kept:&mut Vec<State>, ix:&mut Index) {
+  for st in found { widen(ix,kept); let (word,told)=apply(call.op,st.word); if told!=reply {continue;} if !fits(calls,&st.effects) {continue;}
+    let n=State{word,effects:st.effects.clone(),seen:seen_by(calls,st,word)}; add(kept,ix,lowered(calls,&n)); }
+}
+#[inline(never)]
+fn claims(states:&[State], calls:&[Call], call:Call, reply:Reply, kept:&mut Vec<State>, ix:&mut Index) {
+  for st in states { widen(ix,kept);
+    for at in 0..st.effects.len() { let e=st.effects[at]; if !(e.reply==reply && may_be(e,call)) {continue;} let mut es=st.effects.clone(); es.remove(at); let less=State{word:st.word,effects:es,seen:st.seen.clone()}; if !fits(calls,&less.effects) {continue;} add(kept,ix,lowered(calls,&less)); }
+    if st.seen.iter().any(|g| { let (w,r)=apply(call.op,g.word); w==g.word && call.id<=g.newest && r==reply }) { if fits(calls,&st.effects) { add(kept,ix,lowered(calls,st)); } }
+  }
+}
+fn main() {
+  let (words,events)=read(&std::env::args().nth(1).unwrap());
+  unsafe { BASE=System.alloc(Layout::from_size_align(2*HALF,4096).unwrap()) as usize; PTR=BASE; }
+  let t0=std::time::Instant::now();
+  let mut st:Vec<Vec<State>>=(0..words).map(|_|vec![State{word:0,effects:vec![],seen:vec![]}]).collect();
+  let mut pending:Vec<Call>=vec![]; let mut maxkept=0; let mut answers=0u64;
+  for (k,e) in events.iter().enumerate() { match e {
+    Event::Issue(c)=>pending.push(*c),
+    Event::Answer(id,r)=>{ answers+=1; let call=*pending.iter().find(|c|c.id==*id).unwrap(); let calls:Vec<Call>=pending.iter().filter(|c|c.address==call.address&&c.id!=*id).copied().collect();
+      unsafe{ WHICH^=1; PTR=BASE+WHICH*HALF; ON=true; } let mut newest:Vec<Call>=vec![]; for c in calls.iter().rev() { if !newest.iter().any(|o|o.op==c.op&&c.id<=o.id) {newest.push(*c);} }
+      let w=call.address as usize; let mut ix=Index::new(97); let found=close(&st[w],&mut ix,&calls,&newest); let mut kept=vec![]; let mut kx=Index::new(97);
+      takes(&found,&calls,call,*r,&mut kept,&mut kx); claims(&st[w],&calls,call,*r,&mut kept,&mut kx);
+      if kept.is_empty() { println!("NO at event {k}"); break; } unsafe{KEPT+=kept.len() as u64;} if kept.len()>maxkept {maxkept=kept.len();}
+      unsafe{ON=false;} pending.retain(|c|c.id!=*id); st[w]=kept; } } }
+  let dt=t0.elapsed(); unsafe{ println!("{:.3} s, answers {answers}, closed {CLOSED}, attempts {ATT} idle {IDLEC}, adds {ADDS}, chain {CHAIN}, kept {KEPT}, max kept {maxkept}, {:.3} us/closed", dt.as_secs_f64(), dt.as_secs_f64()*1e6/CLOSED as f64); black_box(&st); }
+}
