@@ -1,8 +1,7 @@
 -- The flags tell of the network.
-use Rattle.std.proofs.Common.{◌≡◌, ◌≢◌, inl, inr, ⊎_elim, ℕ, ◌+◌, ◌*◌, ◌/◌, ◌%◌, ◌<◌, ◌&&◌, not, Bool, true, false, Option, Some, None, List, [], ◌∷◌, length, refl, sym, ◌∙◌, ap, subst}
+use Rattle.std.proofs.Common.{◌≡◌, ◌≢◌, inl, inr, ⊎_elim, ℕ, ◌+◌, ◌*◌, ◌<◌, ◌&&◌, not, Bool, true, false, Option, Some, None, List, [], ◌∷◌, length, refl, sym, ◌∙◌, ap}
 use Rattle.std.specs.Prelude.{nat_lt, slice_get}
 use Rattle.std.proofs.lemmas.Bool.{cases_Bool, ltb-true, lt-ltb, and_parts, and_from}
-use Rattle.std.proofs.lemmas.Nat.{div-mul-add, mod-mul-add}
 use Rattle.std.proofs.lemmas.Option.{slice_get_within}
 use Rattle.network_judge.specs.declared.table.Kind.{Kind}
 use Rattle.network_judge.specs.declared.table.Kind.TheVariants.{Injection, Hop, Ejection}
@@ -13,9 +12,11 @@ use Rattle.network_adaptive.specs.Choices.{AdaptiveNet, IsAdaptiveNet, Comes, Be
 use Rattle.network_adaptive.specs.Verdicts.{LacksEscape, LacksEscapeFirst}
 use Rattle.network_adaptive.specs.Spread.{Path, Stop, Go, any_below, names, opens, leads_on, choice_step}
 use Rattle.network_adaptive.specs.Choosing.{ChoiceTable, table, base_of, chooses_of, network, IsWritten, IsShaped}
-use Rattle.network_adaptive.specs.Flags.{AreDown, ComesTo, IsWaitOf, IsBareTo, IsFirstBareTo, HasWaits}
+use Rattle.network_adaptive.specs.Flags.{AreDown, ComesTo, IsEdgeOf, IsWaitOf, IsBareTo, IsFirstBareTo, HasWaits}
 use Rattle.network_adaptive.specs.Between.{LeadsToWait, MayWaitTo, MayWait, IsWayBetween, WaitsOver}
+use Rattle.rising.specs.declared.edge.Edge.{Edge}
 use Rattle.network_adaptive.proofs.Flags.{not_true, true_not, any_at, any_from}
+use Rattle.network_adaptive.proofs.Puts.{no_edge_of}
 
 false_and : (a b : Bool) → a ≡ true → (a && b) ≡ false → b ≡ false
 false_and true b e f = f
@@ -39,13 +40,6 @@ no_inject (Some Ejection) e = refl
 
 injects : (k : Option Kind) → k ≡ Some Injection → is_sender k ≡ true
 injects k e = ap is_sender e
-
--- one place for each two channels
-pub same_place : (n a b c d : ℕ) → b < n → d < n → a * n + b ≡ c * n + d → (a ≡ c) × (b ≡ d)
-same_place n a b c d low less e = (
-  sym (div-mul-add a n b low) ∙ (ap (λ m. m / n) e ∙ div-mul-add c n d less),
-  sym (mod-mul-add a n b low) ∙ (ap (λ m. m % n) e ∙ mod-mul-add c n d less),
-)
 
 module _ (t : ChoiceTable) (none : List Bool) (down : AreDown none) (depth : ℕ) (flits : Flits) where
   abbrev n : AdaptiveNet
@@ -153,8 +147,8 @@ module _ (t : ChoiceTable) (none : List Bool) (down : AreDown none) (depth : ℕ
       inside j x (BeginsIn i joined) = slice_get_within t.kinds i Injection (shaped.senders i j joined)
       inside j x (ByChoice u v c s) = low_choice u j v s.chosen
 
-      end : (j x : ℕ) → Comes n j x → j < count
-      end j x (BeginsIn i joined) = slice_get_within t.kinds j Ejection (shaped.receivers i j joined)
+      end : (j x : ℕ) → Comes n j x → kind_of (table t) j ≡ Some Ejection
+      end j x (BeginsIn i joined) = shaped.receivers i j joined
       end j x (ByChoice u v c s) = end j u c
 
       written : (j x y : ℕ) → Comes n j x → IsChoice n j x y → IsWritten t x j y
@@ -175,7 +169,7 @@ module _ (t : ChoiceTable) (none : List Bool) (down : AreDown none) (depth : ℕ
     beside = λ z l s. b.beside z l (stuck_bare j z s);
   }
 
-  module _ (shaped : IsShaped t) (old edges : List Bool) (empty : AreDown old) (has : HasWaits t.kinds t.joins t.choices t.ways t.marks none old edges) where
+  module _ (shaped : IsShaped t) (edges : List Edge) (has : HasWaits t.kinds t.joins t.choices t.ways t.marks none edges) where
     pub has_escapes : HasEscapes n
     has_escapes j x come input = elim (cases_Bool (any_below (λ y. n.escapes x j y) count)) [
       | inl some ↦ (let w = any_from (λ y. n.escapes x j y) count some in (w.0, w.2))
@@ -190,64 +184,58 @@ module _ (t : ChoiceTable) (none : List Bool) (down : AreDown none) (depth : ℕ
       }))
     ]
 
-    escape_low : (x j y : ℕ) → n.escapes x j y ≡ true → y < count
-    escape_low x j y e = low_choice x j y (and_parts (chooses_of t x j y) (is_marked_at t.marks y) e).0
-
-    -- a flag is a dependency
-    pub edge_awaits : (x y : ℕ) → y < count → is_marked_at edges (x * count + y) ≡ true → (j : ℕ) × ExtendedDependency n x j y
-    edge_awaits x y low up = ⊎_elim
-        (λ (was : is_marked_at old (x * count + y) ≡ true). let bad : true ≡ false = sym was ∙ empty (x * count + y) in absurd (cc))
-        (λ (w : IsWaitOf t.kinds t.joins t.choices t.ways t.marks none (x * count + y)).
-        let r = w.wait in
-        let less = escape_low r.head w.to r.in_row.to r.in_row.escape in
-        let same = same_place count x y r.from r.in_row.to low less r.in_row.place in (
+    -- an edge is a dependency
+    pub edge_awaits : (x y : ℕ) → IsEdgeOf edges x y → (j : ℕ) × ExtendedDependency n x j y
+    edge_awaits x y e = ⊎_elim
+        (λ (a : IsEdgeOf [] x y). absurd (no_edge_of x y a))
+        (λ (w : IsWaitOf t.kinds t.joins t.choices t.ways t.marks none x y).
+        let r = w.wait in (
           w.to,
-          subst (λ z. ExtendedDependency n z w.to y) (sym same.0) (record {
+          record {
             held = r.held;
-            comes = to_comes w.to r.from r.comes;
+            comes = to_comes w.to x r.comes;
             head = r.head;
-            roams = path_roams w.to r.from r.head r.path;
+            roams = path_roams w.to x r.head r.path;
             input = leads_input r.head r.leads;
-            escape = subst (λ z. n.escapes r.head w.to z ≡ true) (sym same.1) r.in_row.escape;
-          }),
+            escape = r.escape;
+          },
         ))
-        (has.put.only (x * count + y) up)
+        (has.put.only x y e)
 
-    pub awaits_edge : (x j y : ℕ) → ExtendedDependency n x j y → is_marked_at edges (x * count + y) ≡ true
-    awaits_edge x j y a = has.put.all (x * count + y) (record {
+    pub awaits_edge : (x j y : ℕ) → ExtendedDependency n x j y → IsEdgeOf edges x y
+    awaits_edge x j y a = has.put.all x y (record {
       to = j;
       low = (let c = comes_to j x a.comes in (is_adaptive shaped).ends c.0 j c.1);
       wait = record {
-        from = x;
         comes = comes_to j x a.comes;
         held = a.held;
         head = a.head;
         path = roams_path j x a.head a.roams;
         leads = input_leads a.head a.input;
-        in_row = record { to = y; escape = a.escape; place = refl };
+        escape = a.escape;
       };
     })
 
-    -- a flag tells that packets to some channel wait, and that the channels are marked
-    pub edge_waits : (x y : ℕ) → y < count → is_marked_at edges (x * count + y) ≡ true
+    -- an edge tells that packets to some channel wait, and both its ends are marked channels
+    pub edge_waits : (x y : ℕ) → IsEdgeOf edges x y
         → MayWait t.kinds t.joins t.choices t.ways t.marks none x y × (is_marked_at t.marks x ≡ true) × (is_marked_at t.marks y ≡ true)
-    edge_waits x y low up = ⊎_elim
-        (λ (was : is_marked_at old (x * count + y) ≡ true). let bad : true ≡ false = sym was ∙ empty (x * count + y) in absurd (cc))
-        (λ (w : IsWaitOf t.kinds t.joins t.choices t.ways t.marks none (x * count + y)).
+        × (x < count) × (y < count)
+    edge_waits x y e = ⊎_elim
+        (λ (a : IsEdgeOf [] x y). absurd (no_edge_of x y a))
+        (λ (w : IsWaitOf t.kinds t.joins t.choices t.ways t.marks none x y).
         let r = w.wait in
-        let less = escape_low r.head w.to r.in_row.to r.in_row.escape in
-        let same = same_place count x y r.from r.in_row.to low less r.in_row.place in
-        let e = and_parts (chooses_of t r.head w.to r.in_row.to) (is_marked_at t.marks r.in_row.to) r.in_row.escape in
-        let d = and_parts (nat_lt r.in_row.to count) (names t.choices (base_of t w.to + r.head * t.ways) t.ways r.in_row.to) e.0 in
-        let named = subst (λ z. names t.choices (base_of t w.to + r.head * t.ways) t.ways z ≡ true) (sym same.1) d.1 in
-        let leads : LeadsToWait t.kinds t.choices (base_of t w.to) t.ways t.marks r.from y = record {
+        let e = and_parts (chooses_of t r.head w.to y) (is_marked_at t.marks y) r.escape in
+        let d = and_parts (nat_lt y count) (names t.choices (base_of t w.to + r.head * t.ways) t.ways y) e.0 in
+        let leads : LeadsToWait t.kinds t.choices (base_of t w.to) t.ways t.marks x y = record {
           head = r.head;
           path = r.path;
-          waits = and_from (leads_on t.kinds r.head) (names t.choices (base_of t w.to + r.head * t.ways) t.ways y) r.leads named;
+          waits = and_from (leads_on t.kinds r.head) (names t.choices (base_of t w.to + r.head * t.ways) t.ways y) r.leads d.1;
         } in
-        let waits : MayWaitTo t.kinds t.joins t.choices t.ways t.marks none w.to r.from y = record { comes = r.comes; leads = leads } in (
-          (w.to, w.low, subst (λ z. MayWaitTo t.kinds t.joins t.choices t.ways t.marks none w.to z y) (sym same.0) waits),
-          ap (is_marked_at t.marks) same.0 ∙ r.held,
-          ap (is_marked_at t.marks) same.1 ∙ e.1,
+        let waits : MayWaitTo t.kinds t.joins t.choices t.ways t.marks none w.to x y = record { comes = r.comes; leads = leads } in (
+          (w.to, w.low, waits),
+          r.held,
+          e.1,
+          (is_adaptive shaped).within w.to x (to_comes w.to x r.comes),
+          ltb-true y count d.0,
         ))
-        (has.put.only (x * count + y) up)
+        (has.put.only x y e)

@@ -1,5 +1,6 @@
 -- What holds of a network that is judged to be rising.
 use Rattle.std.proofs.Common.{◌≡◌, ℕ, ◌<◌, List, [], length, refl}
+use Rattle.std.specs.Prelude.{slice_index}
 use Rattle.wormhole.specs.Net.{Parcel}
 use Rattle.wormhole.specs.State.{NetState}
 use Rattle.wormhole.specs.Delivery.{whole}
@@ -15,7 +16,9 @@ use Rattle.network_adaptive.proofs.Reached.{words_reached, tracks_reached}
 use Rattle.network_adaptive.proofs.Quiet as quiet
 use Rattle.network_adaptive.proofs.Arrive.{sent_reached, all_come}
 use Rattle.network_adaptive.specs.Choosing.{ChoiceTable, table, network, IsShaped}
-use Rattle.network_adaptive.specs.Judged.{answers_of}
+use Rattle.network_adaptive.specs.declared.verdict.Verdict.{Verdict}
+use Rattle.network_adaptive.specs.declared.verdict.Verdict.TheVariants.{Rising, NoEscape, Cycle}
+use Rattle.network_adaptive.specs.Judged.{answers_of, IsAdaptiveVerdict, Promises}
 use Rattle.network_adaptive.proofs.Bridge.{is_adaptive}
 use Rattle.network_adaptive.proofs.Circles.{are_answers}
 
@@ -38,3 +41,11 @@ module _ (t : ChoiceTable) (replies : List Reply) (shaped : IsShaped t) (are : A
       all_come (network t depth flits) s (sent_reached (network t depth flits) s net is)
       (quiet.quiet (network t depth flits) s (answers_of replies) net escapes number rising deep
       (words_reached (network t depth flits) s net is) (tracks_reached (network t depth flits) s net is) (are_answers t replies depth flits shaped are) still)
+
+-- a verdict that holds keeps what it promises
+pub promises : {A : Type 0} (t : ChoiceTable) (replies : List Reply) → IsShaped t → AreReplies (table t) replies → (v : Verdict A)
+    → IsAdaptiveVerdict t replies v → Promises t replies v
+promises t replies shaped are (Rising numbers travel) holds = λ depth flits deep s at.
+    moves t replies shaped are depth flits (slice_index numbers.items) (holds depth flits).0 (holds depth flits).2 deep s at
+promises t replies shaped are (NoEscape f) holds = tt
+promises t replies shaped are (Cycle edges) holds = tt

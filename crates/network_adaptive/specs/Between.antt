@@ -8,12 +8,14 @@ use Rattle.network_judge.specs.declared.table.Reply.{Reply}
 use Rattle.network_judge.specs.Marks.{is_marked_at}
 use Rattle.network_judge.specs.Replies.{reply_at}
 use Rattle.rising.specs.declared.search.Look.{Look}
+use Rattle.rising.specs.declared.edge.Edge.{Edge}
+use Rattle.rising.specs.Graph.{edge_at}
 use Rattle.rising.specs.Search.{path_look}
 use Rattle.network_adaptive.specs.Choices.{AdaptiveNet, Comes, IsChoice}
 use Rattle.network_adaptive.specs.declared.verdict.Dependency as dependency
 use Rattle.network_adaptive.specs.declared.verdict.How.{How}
 use Rattle.network_adaptive.specs.declared.verdict.How.TheVariants.{Over, Replied}
-use Rattle.network_adaptive.specs.Spread.{Path, names, leads_on, choice_step}
+use Rattle.network_adaptive.specs.Spread.{block_base, Path, names, leads_on, choice_step}
 use Rattle.network_adaptive.specs.Flags.{ComesTo}
 
 -- a packet to ejection channel j in channel x can go on over these channels, one after the other and
@@ -93,53 +95,56 @@ IsWayBetween kinds choices base ways marks x (z ∷ over) y =
 -- a packet to channel j holds channel x, and may wait for channel y
 pub record MayWaitTo (kinds : List Kind) (joins : List Join) (choices : List ℕ) (ways : ℕ)
     (marks none : List Bool) (j x y : ℕ) : Type 0 where
-  pub comes : ComesTo joins (choice_step kinds choices (j * (length kinds * ways)) ways none) j x
-  pub leads : LeadsToWait kinds choices (j * (length kinds * ways)) ways marks x y
+  pub comes : ComesTo joins (choice_step kinds choices (block_base kinds ways j) ways none) j x
+  pub leads : LeadsToWait kinds choices (block_base kinds ways j) ways marks x y
 
 -- a packet to some channel does
 abbrev pub MayWait : List Kind → List Join → List ℕ → ℕ → List Bool → List Bool → ℕ → ℕ → Type 0
 MayWait kinds joins choices ways marks none x y =
     (j : ℕ) × (j < length kinds) × MayWaitTo kinds joins choices ways marks none j x y
 
--- a channel of a search in the graph of what packets wait for, and its column
+-- a channel of a search in the graph of what packets wait for, and its column: one for each edge of
+-- these waits, and behind them one for each reply
 pub record IsWaitingLook (kinds : List Kind) (joins : List Join) (replies : List Reply)
-    (choices : List ℕ) (ways : ℕ) (marks none : List Bool) (look : Look) : Type 0 where
-  pub node : look.node < length kinds
-  pub column : look.column < length kinds + length replies
-  pub waits : look.column < length kinds
-      → MayWait kinds joins choices ways marks none look.node look.column
+    (choices : List ℕ) (ways : ℕ) (marks none : List Bool) (waits : List Edge) (look : Look) : Type 0
+  where
+    pub node : look.node < length kinds
+    pub column : look.column < length waits + length replies
+    pub awaits : look.column < length waits
+        → MayWait kinds joins choices ways marks none look.node (edge_at waits look.column).to
 
 -- how channel x comes to wait for channel y: packets to channel j come to it, and go on over these
 -- channels
 abbrev pub IsHowOver : {A : Type 0} → List Kind → List Join → List ℕ → ℕ → List Bool → List Bool
     → ℕ → ℕ → How A → Type 0
 IsHowOver kinds joins choices ways marks none x y (Over j over) = (j < length kinds)
-    × ComesTo joins (choice_step kinds choices (j * (length kinds * ways)) ways none) j x
-    × IsWayBetween kinds choices (j * (length kinds * ways)) ways marks x over.items y
+    × ComesTo joins (choice_step kinds choices (block_base kinds ways j) ways none) j x
+    × IsWayBetween kinds choices (block_base kinds ways j) ways marks x over.items y
 IsHowOver kinds joins choices ways marks none x y (Replied z) = ⊥
 
--- how a channel leads on in a column: so to the column's channel; or in a column behind the channels
--- by a reply
+-- how a channel leads on in a column: so to where the column's edge leads; or in a column behind the
+-- edges by a reply
 abbrev pub IsHow : {A : Type 0} → List Kind → List Join → List Reply → List ℕ → ℕ → List Bool
-    → List Bool → Look → How A → Type 0
-IsHow kinds joins replies choices ways marks none look (Over j over) =
-    (look.column < length kinds)
-    × IsHowOver kinds joins choices ways marks none look.node look.column (Over j over)
-IsHow kinds joins replies choices ways marks none look (Replied z) =
-    (length kinds ≤ look.column) × (z ≡ (reply_at replies (look.column - length kinds)).to)
+    → List Bool → List Edge → Look → How A → Type 0
+IsHow kinds joins replies choices ways marks none waits look (Over j over) =
+    (look.column < length waits)
+    × IsHowOver kinds joins choices ways marks none look.node (edge_at waits look.column).to
+    (Over j over)
+IsHow kinds joins replies choices ways marks none waits look (Replied z) =
+    (length waits ≤ look.column) × (z ≡ (reply_at replies (look.column - length waits)).to)
 
 -- a dependency has the channel of a look, and how that channel leads on in the column of the look
 pub record IsDependencyOf {A : Type 0} (kinds : List Kind) (joins : List Join)
-    (replies : List Reply) (choices : List ℕ) (ways : ℕ) (marks none : List Bool) (look : Look)
-    (edge : dependency.Dependency A) : Type 0 where
+    (replies : List Reply) (choices : List ℕ) (ways : ℕ) (marks none : List Bool)
+    (waits : List Edge) (look : Look) (edge : dependency.Dependency A) : Type 0 where
   pub channel : edge.channel ≡ look.node
-  pub how : IsHow kinds joins replies choices ways marks none look edge.how
+  pub how : IsHow kinds joins replies choices ways marks none waits look edge.how
 
 -- the dependencies are those of the looks of a path, one for each
 pub record AreDependencies {A : Type 0} (kinds : List Kind) (joins : List Join)
     (replies : List Reply) (choices : List ℕ) (ways : ℕ) (marks none : List Bool)
-    (looks : List Look) (edges : List (dependency.Dependency A)) : Type 0 where
+    (waits : List Edge) (looks : List Look) (edges : List (dependency.Dependency A)) : Type 0 where
   pub size : length edges ≡ length looks
   pub each : (k : ℕ) → k < length looks
-      → IsDependencyOf kinds joins replies choices ways marks none (path_look looks k)
+      → IsDependencyOf kinds joins replies choices ways marks none waits (path_look looks k)
       (dependency_at edges k)

@@ -1,10 +1,15 @@
 -- What flags tell of a network of choices.
 use Rattle.std.specs.Prelude.{◌≡◌, ◌⊎◌, ℕ, ◌+◌, ◌*◌, ◌<◌, ◌&&◌, Bool, true, false, List, [], length}
+use Rattle.std.specs.Prelude.{slice_index}
+use Rattle.rising.specs.declared.edge.Edge.{Edge}
+use Rattle.rising.specs.Graph.{edge_at}
 use Rattle.network_judge.specs.declared.table.Kind.{Kind}
 use Rattle.network_judge.specs.declared.table.Join.{Join}
 use Rattle.network_judge.specs.Table.{table_of, joins_of}
 use Rattle.network_judge.specs.Marks.{is_marked_at}
-use Rattle.network_adaptive.specs.Spread.{Path, opens, leads_on, choice_step, AreClosed}
+use Rattle.network_adaptive.specs.Spread.{block_base, Path, opens, leads_on, choice_step, AreClosed}
+use Rattle.network_adaptive.specs.declared.waits.Waits.{Waits}
+use Rattle.network_adaptive.specs.declared.waits.Waits.TheVariants.{Bare, Edges}
 
 -- no flag is up
 abbrev pub AreDown : List Bool → Type 0
@@ -63,39 +68,38 @@ abbrev pub HasNoBare : List Kind → List ℕ → ℕ → ℕ → List Bool → 
 HasNoBare kinds choices base ways marks flags =
     (x : ℕ) → IsBare kinds choices base ways marks flags x → ⊥
 
--- flags are raised just where P holds
-pub record HasPut (P : ℕ → Type 0) (old new : List Bool) : Type 0 where
-  pub size : length new ≡ length old
-  pub kept : (m : ℕ) → is_marked_at old m ≡ true → is_marked_at new m ≡ true
-  pub only : (m : ℕ) → is_marked_at new m ≡ true → (is_marked_at old m ≡ true) ⊎ P m
-  pub all : (m : ℕ) → P m → is_marked_at new m ≡ true
+-- an edge of a list leads from x to y
+pub record IsEdgeOf (edges : List Edge) (x y : ℕ) : Type 0 where
+  pub place : ℕ
+  pub low : place < length edges
+  pub from : (edge_at edges place).from ≡ x
+  pub to : (edge_at edges place).to ≡ y
 
--- the place in a row of a choice that is marked
-pub record IsInRow (count : ℕ) (choices : List ℕ) (start ways : ℕ) (marks : List Bool)
-    (row m : ℕ) : Type 0 where
-  pub to : ℕ
-  pub escape : escapes_to count choices start ways marks to ≡ true
-  pub place : m ≡ row + to
+-- edges are added just where P holds
+pub record HasPut (P : ℕ → ℕ → Type 0) (old new : List Edge) : Type 0 where
+  pub kept : (x y : ℕ) → IsEdgeOf old x y → IsEdgeOf new x y
+  pub only : (x y : ℕ) → IsEdgeOf new x y → IsEdgeOf old x y ⊎ P x y
+  pub all : (x y : ℕ) → P x y → IsEdgeOf new x y
 
--- the place in a row of a choice that is marked, behind a channel whose flag is up
-pub record IsAwaited (kinds : List Kind) (choices : List ℕ) (base ways : ℕ)
-    (marks flags : List Bool) (row m : ℕ) : Type 0 where
-  pub head : ℕ
-  pub up : is_marked_at flags head ≡ true
-  pub leads : leads_on kinds head ≡ true
-  pub in_row : IsInRow (length kinds) choices (base + head * ways) ways marks row m
+-- x is this channel, and y a choice that is marked, behind a channel of a list that packets go on from
+pub record IsAwaited (kinds : List Kind) (choices : List ℕ) (base ways : ℕ) (marks : List Bool)
+    (held : List ℕ) (from x y : ℕ) : Type 0 where
+  pub is : x ≡ from
+  pub place : ℕ
+  pub low : place < length held
+  pub leads : leads_on kinds (slice_index held place) ≡ true
+  pub escape : escapes_to (length kinds) choices (base + slice_index held place * ways) ways marks y
+      ≡ true
 
--- the place of a channel, and of what packets that hold it wait for: a row for each channel
+-- packets come to channel x, and one that holds it may wait for channel y
 pub record IsWait (kinds : List Kind) (choices : List ℕ) (base ways : ℕ) (marks : List Bool)
-    (Comes : ℕ → Type 0) (m : ℕ) : Type 0 where
-  pub from : ℕ
-  pub comes : Comes from
-  pub held : is_marked_at marks from ≡ true
+    (Comes : ℕ → Type 0) (x y : ℕ) : Type 0 where
+  pub comes : Comes x
+  pub held : is_marked_at marks x ≡ true
   pub head : ℕ
-  pub path : Path (choice_step kinds choices base ways marks) from head
+  pub path : Path (choice_step kinds choices base ways marks) x head
   pub leads : leads_on kinds head ≡ true
-  pub in_row : IsInRow (length kinds) choices (base + head * ways) ways marks
-      (from * length kinds) m
+  pub escape : escapes_to (length kinds) choices (base + head * ways) ways marks y ≡ true
 
 -- packets to channel j come to a channel, from where they begin
 abbrev pub ComesTo : List Join → (ℕ → ℕ → Bool) → ℕ → ℕ → Type 0
@@ -103,19 +107,19 @@ ComesTo joins step j x = (i : ℕ) × (joins_of (table_of [] joins []) i j ≡ t
 
 -- that of packets to some channel
 pub record IsWaitOf (kinds : List Kind) (joins : List Join) (choices : List ℕ) (ways : ℕ)
-    (marks none : List Bool) (m : ℕ) : Type 0 where
+    (marks none : List Bool) (x y : ℕ) : Type 0 where
   pub to : ℕ
   pub low : to < length kinds
-  pub wait : IsWait kinds choices (to * (length kinds * ways)) ways marks
-      (ComesTo joins (choice_step kinds choices (to * (length kinds * ways)) ways none) to) m
+  pub wait : IsWait kinds choices (block_base kinds ways to) ways marks
+      (ComesTo joins (choice_step kinds choices (block_base kinds ways to) ways none) to) x y
 
 -- a channel that packets to channel j come to and go on from, without a choice that is marked
 pub record IsBareTo (kinds : List Kind) (joins : List Join) (choices : List ℕ) (ways : ℕ)
     (marks none : List Bool) (j x : ℕ) : Type 0 where
-  pub comes : ComesTo joins (choice_step kinds choices (j * (length kinds * ways)) ways none) j x
+  pub comes : ComesTo joins (choice_step kinds choices (block_base kinds ways j) ways none) j x
   pub leads : leads_on kinds x ≡ true
   pub bare : (y : ℕ)
-      → escapes_to (length kinds) choices (j * (length kinds * ways) + x * ways) ways marks y
+      → escapes_to (length kinds) choices (block_base kinds ways j + x * ways) ways marks y
       ≡ false
 
 -- the first such, by destination and then by channel
@@ -125,8 +129,16 @@ pub record IsFirstBareTo (kinds : List Kind) (joins : List Join) (choices : List
   pub before : (i z : ℕ) → i < j → IsBareTo kinds joins choices ways marks none i z → ⊥
   pub beside : (z : ℕ) → z < x → IsBareTo kinds joins choices ways marks none j z → ⊥
 
--- what packets wait for is in the flags, and no channel is bare
+-- the edges lead to what packets wait for, and no channel is bare
 pub record HasWaits (kinds : List Kind) (joins : List Join) (choices : List ℕ) (ways : ℕ)
-    (marks none old new : List Bool) : Type 0 where
-  pub put : HasPut (IsWaitOf kinds joins choices ways marks none) old new
+    (marks none : List Bool) (edges : List Edge) : Type 0 where
+  pub put : HasPut (IsWaitOf kinds joins choices ways marks none) [] edges
   pub clear : (j x : ℕ) → j < length kinds → IsBareTo kinds joins choices ways marks none j x → ⊥
+
+-- what is found: the first channel without an escape, or what packets wait for
+abbrev pub AreWaits : {A : Type 0} → List Kind → List Join → List ℕ → ℕ → List Bool → List Bool
+    → Waits A → Type 0
+AreWaits kinds joins choices ways marks none (Bare f) =
+    IsFirstBareTo kinds joins choices ways marks none f.to f.at
+AreWaits kinds joins choices ways marks none (Edges edges) =
+    HasWaits kinds joins choices ways marks none edges.items

@@ -1,15 +1,19 @@
 -- Flags that spread over steps from channel to channel.
-use Rattle.std.specs.Prelude.{◌≡◌, ◌⊎◌, ℕ, ◌+◌, ◌*◌, ◌≤◌, zero, suc, ◌==◌, nat_lt, ◌&&◌, ◌||◌, not, if◌then◌else◌, Bool, true, false, List, length}
-use Rattle.std.specs.Prelude.{slice_get, slice_index}
+use Rattle.std.specs.Prelude.{◌≡◌, ◌⊎◌, ℕ, ◌+◌, ◌*◌, ◌<◌, ◌≤◌, zero, suc, ◌==◌, nat_lt, ◌&&◌, ◌||◌, not, Bool, true, false, List, length}
+use Rattle.std.specs.Prelude.{slice_get, slice_index, take}
 use Rattle.std.specs.List.{count_by}
 use Rattle.network_judge.specs.declared.table.Kind.{Kind}
-use Rattle.network_judge.specs.Table.{is_receiver}
+use Rattle.network_judge.specs.Table.{is_receiver, ejects}
 use Rattle.network_judge.specs.Marks.{is_marked_at}
 
 -- steps that lead from x to a number
 pub data Path (step : ℕ → ℕ → Bool) (x : ℕ) : ℕ → Type 0 where
   Stop : Path step x x
   Go : (y z : ℕ) → Path step x y → step y z ≡ true → Path step x z
+
+-- where the block of an ejection channel begins: one for each, in channel order
+abbrev pub block_base : List Kind → ℕ → ℕ → ℕ
+block_base kinds ways j = count_by ejects (take j kinds) * (length kinds * ways)
 
 -- whether a test passes below n
 abbrev pub any_below : (ℕ → Bool) → ℕ → Bool
@@ -38,14 +42,22 @@ choice_step kinds choices base ways shut x y =
 abbrev pub down : List Bool → ℕ
 down flags = count_by not flags
 
--- the flags that a test passes are up, and no others more
-pub record HasMore (test : ℕ → Bool) (old new : List Bool) (changed : Bool) : Type 0 where
+-- flags are up for the numbers of a list, and for no others
+pub record AreFlagsOf (flags : List Bool) (list : List ℕ) : Type 0 where
+  pub each : (k : ℕ) → k < length list → is_marked_at flags (slice_index list k) ≡ true
+  pub all : (x : ℕ) → is_marked_at flags x ≡ true
+      → (k : ℕ) × (k < length list) × (slice_index list k ≡ x)
+
+-- the flags that a test passes are up, and no others more; those that were down stand behind a list
+pub record HasMore (test : ℕ → Bool) (old new : List Bool) (list longer : List ℕ) : Type 0 where
   pub size : length new ≡ length old
   pub kept : (y : ℕ) → is_marked_at old y ≡ true → is_marked_at new y ≡ true
   pub only : (y : ℕ) → is_marked_at new y ≡ true → (is_marked_at old y ≡ true) ⊎ (test y ≡ true)
   pub all : (y : ℕ) → test y ≡ true → is_marked_at new y ≡ true
-  pub same : changed ≡ false → (y : ℕ) → is_marked_at new y ≡ true → is_marked_at old y ≡ true
-  pub fewer : down new + (if changed then 1 else 0) ≤ down old
+  pub listed : AreFlagsOf old list → AreFlagsOf new longer
+  pub long : length list ≤ length longer
+  pub front : (k : ℕ) → k < length list → slice_index longer k ≡ slice_index list k
+  pub fewer : down new + length longer ≤ down old + length list
 
 -- flags are up only where steps lead from one that was
 abbrev pub AreLed : (ℕ → ℕ → Bool) → List Bool → List Bool → Type 0
@@ -56,14 +68,6 @@ AreLed step old new = (y : ℕ) → is_marked_at new y ≡ true
 abbrev pub AreClosed : (ℕ → ℕ → Bool) → List Bool → Type 0
 AreClosed step flags = (x y : ℕ) → is_marked_at flags x ≡ true → step x y ≡ true
     → is_marked_at flags y ≡ true
-
--- flags after one look at each channel
-pub record HasPassed (step : ℕ → ℕ → Bool) (old new : List Bool) (changed : Bool) : Type 0 where
-  pub size : length new ≡ length old
-  pub kept : (y : ℕ) → is_marked_at old y ≡ true → is_marked_at new y ≡ true
-  pub led : AreLed step old new
-  pub closed : changed ≡ false → AreClosed step new
-  pub fewer : down new + (if changed then 1 else 0) ≤ down old
 
 -- flags after all
 pub record HasSpread (step : ℕ → ℕ → Bool) (old new : List Bool) : Type 0 where

@@ -70,8 +70,8 @@ pub fn leads_to_wait<A: Allocator + Copy>(
     requires x { x < length kinds.now }
     ensures { IfOk result (IsWhether (LeadsToWait kinds.now choices.now base ways shut.now x y)) }
 {
-    let flags = behind(alloc, kinds, choices, base, ways, shut, x)?;
-    Ok(is_among(kinds, choices, base, ways, &flags, y))
+    let reach = behind(alloc, kinds, choices, base, ways, shut, x)?;
+    Ok(is_among(kinds, choices, base, ways, &reach.flags, y))
 }
 
 /// The first choice behind a channel, but of those that are shut, from which packets go on to one

@@ -3,14 +3,23 @@
 ghost use Rattle.std.specs.Prelude.{◌≡◌, ◌+◌, ◌*◌, ◌<◌, ◌≤◌, ◌⊎◌, ℕ, Bool, true, false, []};
 ghost use Rattle.std.specs.Prelude.{length, IfOk, MatchOption};
 ghost use Rattle.network_judge.specs.Table.{table_of, joins_of};
-ghost use Rattle.network_adaptive.specs.Spread.{choice_step};
+ghost use Rattle.network_adaptive.specs.Spread.{choice_step, AreFlagsOf};
 ghost use Rattle.network_adaptive.specs.Flags.{HasBegun, AreDown, AreComes, AreBehind, IsEscape};
 ghost use Rattle.network_adaptive.specs.Flags.{IsFirstBare, HasNoBare};
 
-use crate::spread::{goes_on, spread};
+use crate::spread::{goes_on, list_of, spread};
 use network_judge::walk::cell;
 use network_judge::{Join, Kind};
-use std::alloc::{AllocError, Allocator};
+use std::alloc::{AllocError, Allocator, Global};
+
+/// Channels that packets come to.
+#[derive(Drop)]
+pub struct Reach<A: Allocator = Global> {
+    /// The flags of them, and of no others.
+    pub flags: Vec<bool, A>,
+    /// They, in a list.
+    pub list: Vec<usize, A>,
+}
 
 /// Raises the flags of the channels that packets to a channel begin in.
 fn begin(count: usize, joins: &[Join], to: usize, seen: &mut [bool])
@@ -49,11 +58,12 @@ pub fn comes_to<A: Allocator + Copy>(
 {
     let mut seen = vec![in alloc; false; kinds.len()]?;
     begin(kinds.len(), joins, to, &mut seen);
-    spread(kinds, choices, base, ways, none, &mut seen);
+    let mut list = list_of(alloc, &seen)?;
+    spread(kinds, choices, base, ways, none, &mut seen, &mut list)?;
     Ok(seen)
 }
 
-/// Flags of the channels that packets come to from a channel, by choices that aren't marked.
+/// The channels that packets come to from a channel, it counted, by choices that aren't marked.
 ///
 /// Errors: out of memory.
 pub fn behind<A: Allocator + Copy>(
@@ -64,17 +74,20 @@ pub fn behind<A: Allocator + Copy>(
     ways: usize,
     marks: &[bool],
     x: usize,
-) -> Result<Vec<bool, A>, AllocError>
+) -> Result<Reach<A>, AllocError>
     requires room { base + length kinds.now * ways ≤ length choices.now }
     requires shut { length marks.now ≡ length kinds.now }
     requires x { x < length kinds.now }
-    ensures { IfOk result (λ v.
-        AreBehind kinds.now (choice_step kinds.now choices.now base ways marks.now) x v.items) }
+    ensures flags { IfOk result (λ r. AreBehind kinds.now
+        (choice_step kinds.now choices.now base ways marks.now) x r.flags.items) }
+    ensures list { IfOk result (λ r. AreFlagsOf r.flags.items r.list.items) }
 {
-    let mut seen = vec![in alloc; false; kinds.len()]?;
-    seen[x] = true;
-    spread(kinds, choices, base, ways, marks, &mut seen);
-    Ok(seen)
+    let mut flags = vec![in alloc; false; kinds.len()]?;
+    flags[x] = true;
+    let mut list = Vec::new(alloc);
+    list.push(x)?;
+    spread(kinds, choices, base, ways, marks, &mut flags, &mut list)?;
+    Ok(Reach { flags, list })
 }
 
 /// Whether a choice behind a channel is marked.

@@ -1,7 +1,9 @@
 //! The dependencies of a cycle: each channel, and how it leads on to the next.
 
-ghost use Rattle.std.specs.Prelude.{◌≡◌, ◌+◌, ◌*◌, ◌^◌, ◌<◌, ◌≤◌, ℕ, true, [], length, IfOk};
-ghost use Rattle.network_judge.specs.Table.{table_of, joins_of};
+ghost use Rattle.std.specs.Prelude.{◌≡◌, ◌+◌, ◌*◌, ◌^◌, ◌<◌, ◌≤◌, ℕ, true, [], length, IfOk, slice_get, Some};
+ghost use Rattle.network_judge.specs.Table.{table_of, joins_of, ejects};
+ghost use Rattle.std.specs.List.{count_by};
+ghost use Rattle.network_judge.specs.declared.table.Kind.TheVariants.{Ejection};
 ghost use Rattle.rising.specs.Search.{path_look};
 ghost use Rattle.network_adaptive.specs.Flags.{AreDown};
 ghost use Rattle.network_adaptive.specs.Between.{MayWait, IsHowOver, IsWaitingLook, IsHow};
@@ -9,9 +11,11 @@ ghost use Rattle.network_adaptive.specs.Between.{IsDependencyOf, AreDependencies
 
 use crate::between::{leads_to_wait, way_between};
 use crate::comes::comes_to;
+use crate::spread::base_of;
 use crate::verdict::{Dependency, How};
+use network_judge::walk::{is_receiver, kind_at};
 use network_judge::{Join, Kind, Reply};
-use rising::Look;
+use rising::{Edge, Look};
 use std::alloc::{AllocError, Allocator};
 
 /// How a packet that holds a channel comes to wait for another: the first channel that such a packet
@@ -29,18 +33,22 @@ fn how_it_waits<A: Allocator + Copy>(
     x: usize,
     y: usize,
 ) -> Result<How<A>, AllocError>
-    requires room { length kinds.now * (length kinds.now * ways) ≤ length choices.now }
+    requires room { count_by ejects kinds.now * (length kinds.now * ways) ≤ length choices.now }
     requires marks { length marks.now ≡ length kinds.now }
     requires none { length none.now ≡ length kinds.now }
     requires within { (i j : ℕ) → joins_of (table_of [] joins.now []) i j ≡ true
         → i < length kinds.now }
+    requires receivers { (i j : ℕ) → joins_of (table_of [] joins.now []) i j ≡ true
+        → slice_get kinds.now j ≡ Some Ejection }
     requires x { x < length kinds.now }
     requires waits { MayWait kinds.now joins.now choices.now ways marks.now none.now x y }
     ensures { IfOk result (IsHowOver kinds.now joins.now choices.now ways marks.now none.now x y) }
 {
-    let block = kinds.len() * ways;
     for to in 0..kinds.len() {
-        let base = to * block;
+        if !is_receiver(kind_at(kinds, to)) {
+            continue;
+        }
+        let base = base_of(kinds, ways, to);
         let seen = comes_to(alloc, kinds, joins, choices, base, ways, none, to)?;
         if !seen[x] {
             continue;
@@ -53,7 +61,8 @@ fn how_it_waits<A: Allocator + Copy>(
     unreachable!()
 }
 
-/// A channel of a search, and how it leads on in its column.
+/// A channel of a search, and how it leads on in its column: the columns are the edges of what packets
+/// wait for, and behind them the replies.
 ///
 /// Errors: out of memory.
 fn dependency_of<A: Allocator + Copy>(
@@ -65,19 +74,22 @@ fn dependency_of<A: Allocator + Copy>(
     ways: usize,
     marks: &[bool],
     none: &[bool],
+    waits: &[Edge],
     look: Look,
 ) -> Result<Dependency<A>, AllocError>
-    requires room { length kinds.now * (length kinds.now * ways) ≤ length choices.now }
+    requires room { count_by ejects kinds.now * (length kinds.now * ways) ≤ length choices.now }
     requires marks { length marks.now ≡ length kinds.now }
     requires none { length none.now ≡ length kinds.now }
     requires within { (i j : ℕ) → joins_of (table_of [] joins.now []) i j ≡ true
         → i < length kinds.now }
+    requires receivers { (i j : ℕ) → joins_of (table_of [] joins.now []) i j ≡ true
+        → slice_get kinds.now j ≡ Some Ejection }
     requires look { IsWaitingLook kinds.now joins.now replies.now choices.now ways marks.now
-        none.now look }
+        none.now waits.now look }
     ensures { IfOk result (IsDependencyOf kinds.now joins.now replies.now choices.now ways
-        marks.now none.now look) }
+        marks.now none.now waits.now look) }
 {
-    if look.column < kinds.len() {
+    if look.column < waits.len() {
         let how = how_it_waits(
             alloc,
             kinds,
@@ -87,7 +99,7 @@ fn dependency_of<A: Allocator + Copy>(
             marks,
             none,
             look.node,
-            look.column,
+            waits[look.column].to,
         )?;
         Ok(Dependency {
             channel: look.node,
@@ -96,7 +108,7 @@ fn dependency_of<A: Allocator + Copy>(
     } else {
         Ok(Dependency {
             channel: look.node,
-            how: How::Replied(replies[look.column - kinds.len()].to),
+            how: How::Replied(replies[look.column - waits.len()].to),
         })
     }
 }
@@ -113,24 +125,27 @@ pub fn dependencies_of<A: Allocator + Copy>(
     ways: usize,
     marks: &[bool],
     none: &[bool],
+    waits: &[Edge],
     looks: &[Look],
 ) -> Result<Vec<Dependency<A>, A>, AllocError>
-    requires room { length kinds.now * (length kinds.now * ways) ≤ length choices.now }
+    requires room { count_by ejects kinds.now * (length kinds.now * ways) ≤ length choices.now }
     requires marks { length marks.now ≡ length kinds.now }
     requires none { length none.now ≡ length kinds.now }
     requires within { (i j : ℕ) → joins_of (table_of [] joins.now []) i j ≡ true
         → i < length kinds.now }
+    requires receivers { (i j : ℕ) → joins_of (table_of [] joins.now []) i j ≡ true
+        → slice_get kinds.now j ≡ Some Ejection }
     requires looks { (k : ℕ) → k < length looks.now
         → IsWaitingLook kinds.now joins.now replies.now choices.now ways marks.now none.now
-        (path_look looks.now k) }
+        waits.now (path_look looks.now k) }
     ensures { IfOk result (λ edges.
         AreDependencies kinds.now joins.now replies.now choices.now ways marks.now none.now
-        looks.now edges.items) }
+        waits.now looks.now edges.items) }
 {
     let mut edges = Vec::with_capacity(alloc, looks.len())?;
     for k in 0..looks.len() {
         edges.push(dependency_of(
-            alloc, kinds, joins, replies, choices, ways, marks, none, looks[k],
+            alloc, kinds, joins, replies, choices, ways, marks, none, waits, looks[k],
         )?)?;
     }
     Ok(edges)

@@ -4,21 +4,60 @@ ghost use Rattle.std.specs.Prelude.{◌≡◌, ◌+◌, ◌*◌, ◌%◌, ◌^�
 ghost use Rattle.std.specs.Prelude.{IfOk};
 ghost use Rattle.network_judge.specs.Replies.{AreReplies};
 ghost use Rattle.network_adaptive.specs.Choosing.{choosing_of, table, IsShaped};
+ghost use Rattle.network_adaptive.specs.Flags.{AreDown, HasWaits};
 ghost use Rattle.network_adaptive.specs.Judged.{IsAdaptiveVerdict};
 
 use crate::cycle::dependencies_of;
+use crate::edges::with_replies;
 use crate::travel::travel_of;
 use crate::verdict::Verdict;
-use crate::waiting::Waiting;
-use crate::waits::waits_of;
+use crate::waits::{Waits, waits_of};
 use network_judge::{Join, Kind, Reply};
-use rising::{Searched, find};
+use rising::chains::chains_of;
+use rising::{Edge, Searched, find};
 use std::alloc::{AllocError, Allocator};
+
+/// Judges a network with escapes by what packets wait for.
+///
+/// Errors: out of memory.
+fn judge_waits<A: Allocator + Copy>(
+    alloc: A,
+    kinds: &[Kind],
+    joins: &[Join],
+    replies: &[Reply],
+    ways: usize,
+    choices: &[u32],
+    marks: &[bool],
+    none: &[bool],
+    waits: &[Edge],
+) -> Result<Verdict<A>, AllocError>
+    requires shaped { IsShaped (choosing_of kinds.now joins.now ways choices.now marks.now) }
+    requires replies { AreReplies
+        (table (choosing_of kinds.now joins.now ways choices.now marks.now)) replies.now }
+    requires none { length none.now ≡ length kinds.now }
+    requires down { AreDown none.now }
+    requires waits { HasWaits kinds.now joins.now choices.now ways marks.now none.now waits.now }
+    ensures { IfOk result (IsAdaptiveVerdict
+        (choosing_of kinds.now joins.now ways choices.now marks.now) replies.now) }
+{
+    let all = with_replies(alloc, waits, replies)?;
+    let graph = chains_of(alloc, kinds.len(), &all)?;
+    match find(alloc, &graph)? {
+        Searched::Circuit(looks) => Ok(Verdict::Cycle(dependencies_of(
+            alloc, kinds, joins, replies, choices, ways, marks, none, waits, &looks,
+        )?)),
+        Searched::Rising(numbers) => Ok(Verdict::Rising(
+            numbers,
+            travel_of(alloc, kinds, joins, choices, ways, none)?,
+        )),
+    }
+}
 
 /// Judges a network by its lists: the kind of each channel, the source-destination pairs that packets go
 /// between, on which injection channels packets from an ejection channel are answered, the routers'
-/// choices, and which channels are escapes. The choices have a block for each channel as destination, in it
-/// a row for each channel, and in it so many places: a number that is no channel's is no choice.
+/// choices, and which channels are escapes. The choices have a block for each ejection channel as destination,
+/// in channel order, in it a row for each channel, and in it so many places: a number that is no channel's
+/// is no choice.
 ///
 /// Errors: out of memory, and no other.
 pub fn judge<A: Allocator + Copy>(
@@ -33,31 +72,14 @@ pub fn judge<A: Allocator + Copy>(
     requires shaped { IsShaped (choosing_of kinds.now joins.now ways choices.now marks.now) }
     requires replies { AreReplies
         (table (choosing_of kinds.now joins.now ways choices.now marks.now)) replies.now }
-    requires small { length kinds.now ≤ 2 ^ 32 }
-    requires square { length kinds.now * length kinds.now < 2 ^ 64 }
-    requires room { length kinds.now + length replies.now < 2 ^ 64 }
     ensures { IfOk result (IsAdaptiveVerdict
         (choosing_of kinds.now joins.now ways choices.now marks.now) replies.now) }
 {
-    let count = kinds.len();
-    let none = vec![in alloc; false; count]?;
-    let mut edges = vec![in alloc; false; count * count]?;
-    match waits_of(alloc, kinds, joins, choices, ways, marks, &none, &mut edges)? {
-        Some(fault) => return Ok(Verdict::NoEscape(fault)),
-        None => {}
-    }
-    let graph = Waiting {
-        count,
-        edges: &edges,
-        replies,
-    };
-    match find(alloc, &graph)? {
-        Searched::Circuit(looks) => Ok(Verdict::Cycle(dependencies_of(
-            alloc, kinds, joins, replies, choices, ways, marks, &none, &looks,
-        )?)),
-        Searched::Rising(numbers) => Ok(Verdict::Rising(
-            numbers,
-            travel_of(alloc, kinds, joins, choices, ways, &none)?,
-        )),
+    let none = vec![in alloc; false; kinds.len()]?;
+    match waits_of(alloc, kinds, joins, choices, ways, marks, &none)? {
+        Waits::Bare(fault) => Ok(Verdict::NoEscape(fault)),
+        Waits::Edges(waits) => judge_waits(
+            alloc, kinds, joins, replies, ways, choices, marks, &none, &waits,
+        ),
     }
 }

@@ -1,81 +1,97 @@
-//! What packets wait for, in a list of flags that has a row for each channel.
+//! What packets wait for: a list of edges.
 
-ghost use Rattle.std.specs.Prelude.{◌≡◌, ◌+◌, ◌*◌, ◌^◌, ◌<◌, ◌≤◌, ℕ, true, [], length, IfOk};
-ghost use Rattle.std.specs.Prelude.{MatchOption};
-ghost use Rattle.network_judge.specs.Table.{table_of, joins_of};
+ghost use Rattle.std.specs.Prelude.{◌≡◌, ◌+◌, ◌*◌, ◌<◌, ◌≤◌, ℕ, true, [], length, slice_index, IfOk, OnOk, slice_get, Some};
+ghost use Rattle.network_judge.specs.Table.{table_of, joins_of, ejects};
+ghost use Rattle.std.specs.List.{count_by};
+ghost use Rattle.network_judge.specs.declared.table.Kind.TheVariants.{Ejection};
 ghost use Rattle.network_judge.specs.Marks.{is_marked_at};
-ghost use Rattle.network_adaptive.specs.Flags.{HasPut, IsInRow, IsAwaited, IsWait};
-ghost use Rattle.network_adaptive.specs.Flags.{HasWaits, IsFirstBareTo, AreDown};
+ghost use Rattle.network_adaptive.specs.Flags.{HasPut, IsAwaited, IsWait, escapes_to, AreWaits};
 
 use crate::comes::{behind, comes_to, first_bare};
-use crate::spread::goes_on;
+use crate::edges::{distinct, thinned};
+use crate::spread::{base_of, goes_on};
 use crate::verdict::NoEscape;
-use network_judge::walk::cell;
+use network_judge::walk::{cell, is_receiver, kind_at};
 use network_judge::{Join, Kind};
-use std::alloc::{AllocError, Allocator};
+use rising::Edge;
+use std::alloc::{AllocError, Allocator, Global};
 
-/// Raises the flags in a row of the choices behind a channel that are marked.
-fn row_from(
+/// What packets wait for in a network.
+#[derive(Drop)]
+pub enum Waits<A: Allocator = Global> {
+    /// The first channel without an escape.
+    Bare(NoEscape),
+    /// An edge from each channel to each that packets which hold the one may wait for.
+    Edges(Vec<Edge, A>),
+}
+
+/// Adds edges from a channel to the choices behind another one that are marked.
+///
+/// Errors: out of memory.
+fn row_from<A: Allocator>(
     count: usize,
     choices: &[u32],
     base: usize,
     ways: usize,
     marks: &[bool],
-    row: usize,
-    edges: &mut [bool],
+    from: usize,
+    edges: &mut Vec<Edge, A>,
     x: usize,
-)
+) -> Result<(), AllocError>
     requires x { x < count }
     requires room { base + count * ways ≤ length choices.now }
     requires marks { length marks.now ≡ count }
-    requires row { row + count ≤ length edges.old }
-    ensures { HasPut (IsInRow count choices.now (base + x * ways) ways marks.now row)
-        edges.old edges.new }
+    ensures { OnOk result (HasPut
+        (λ u y. (u ≡ from) × (escapes_to count choices.now (base + x * ways) ways marks.now y ≡ true))
+        edges.old.items edges.new.items) }
 {
     for k in 0..ways {
         let y = choices[base + cell(count, ways, x, k)] as usize;
-        if y < count {
-            if marks[y] {
-                edges[row + y] = true;
-            }
+        if y >= count {
+            continue;
         }
+        if !marks[y] {
+            continue;
+        }
+        edges.push(Edge { from, to: y })?;
     }
+    Ok(())
 }
 
-/// Raises the flags in a row of the choices that are marked, behind all channels whose flag is
-/// up.
-fn row_of(
+/// Adds edges from a channel to the choices that are marked, behind all channels of a list.
+///
+/// Errors: out of memory.
+fn row_of<A: Allocator>(
     kinds: &[Kind],
     choices: &[u32],
     base: usize,
     ways: usize,
     marks: &[bool],
-    seen: &[bool],
-    row: usize,
-    edges: &mut [bool],
-)
+    held: &[usize],
+    from: usize,
+    edges: &mut Vec<Edge, A>,
+) -> Result<(), AllocError>
     requires room { base + length kinds.now * ways ≤ length choices.now }
     requires marks { length marks.now ≡ length kinds.now }
-    requires size { length seen.now ≡ length kinds.now }
-    requires row { row + length kinds.now ≤ length edges.old }
-    ensures { HasPut (IsAwaited kinds.now choices.now base ways marks.now seen.now row)
-        edges.old edges.new }
+    requires held { (k : ℕ) → k < length held.now → slice_index held.now k < length kinds.now }
+    ensures { OnOk result (HasPut
+        (IsAwaited kinds.now choices.now base ways marks.now held.now from)
+        edges.old.items edges.new.items) }
 {
-    for x in 0..kinds.len() {
-        if !seen[x] {
-            continue;
-        }
+    for k in 0..held.len() {
+        let x = held[k];
         if !goes_on(kinds, x) {
             continue;
         }
-        row_from(kinds.len(), choices, base, ways, marks, row, edges, x);
+        row_from(kinds.len(), choices, base, ways, marks, from, edges, x)?;
     }
+    Ok(())
 }
 
-/// Raises the flags of what packets wait for which hold a channel whose flag is up.
+/// Adds edges to what packets wait for which hold a channel whose flag is up.
 ///
 /// Errors: out of memory.
-pub fn rows_of<A: Allocator + Copy>(
+fn rows_of<A: Allocator + Copy>(
     alloc: A,
     kinds: &[Kind],
     choices: &[u32],
@@ -83,14 +99,13 @@ pub fn rows_of<A: Allocator + Copy>(
     ways: usize,
     marks: &[bool],
     seen: &[bool],
-    edges: &mut [bool],
+    edges: &mut Vec<Edge, A>,
 ) -> Result<(), AllocError>
     requires room { base + length kinds.now * ways ≤ length choices.now }
     requires marks { length marks.now ≡ length kinds.now }
     requires size { length seen.now ≡ length kinds.now }
-    requires square { length edges.old ≡ length kinds.now * length kinds.now }
-    ensures { IfOk result (λ u. HasPut (IsWait kinds.now choices.now base ways marks.now
-        (λ x. is_marked_at seen.now x ≡ true)) edges.old edges.new) }
+    ensures { OnOk result (HasPut (IsWait kinds.now choices.now base ways marks.now
+        (λ x. is_marked_at seen.now x ≡ true)) edges.old.items edges.new.items) }
 {
     for e in 0..kinds.len() {
         if !seen[e] {
@@ -100,22 +115,12 @@ pub fn rows_of<A: Allocator + Copy>(
             continue;
         }
         let held = behind(alloc, kinds, choices, base, ways, marks, e)?;
-        row_of(
-            kinds,
-            choices,
-            base,
-            ways,
-            marks,
-            &held,
-            e * kinds.len(),
-            edges,
-        );
+        row_of(kinds, choices, base, ways, marks, &held.list, e, edges)?;
     }
     Ok(())
 }
 
-/// Raises the flags of what packets wait for, those of all destinations, or finds the first
-/// channel without an escape.
+/// Finds what packets wait for, those of all destinations, or the first channel without an escape.
 ///
 /// Errors: out of memory.
 pub fn waits_of<A: Allocator + Copy>(
@@ -126,27 +131,30 @@ pub fn waits_of<A: Allocator + Copy>(
     ways: usize,
     marks: &[bool],
     none: &[bool],
-    edges: &mut [bool],
-) -> Result<Option<NoEscape>, AllocError>
-    requires room { length kinds.now * (length kinds.now * ways) ≤ length choices.now }
+) -> Result<Waits<A>, AllocError>
+    requires room { count_by ejects kinds.now * (length kinds.now * ways) ≤ length choices.now }
     requires marks { length marks.now ≡ length kinds.now }
     requires none { length none.now ≡ length kinds.now }
     requires within { (i j : ℕ) → joins_of (table_of [] joins.now []) i j ≡ true
         → i < length kinds.now }
-    requires square { length edges.old ≡ length kinds.now * length kinds.now }
-    ensures { IfOk result (λ found. MatchOption found
-        (HasWaits kinds.now joins.now choices.now ways marks.now none.now edges.old edges.new)
-        (λ f. IsFirstBareTo kinds.now joins.now choices.now ways marks.now none.now f.to f.at)) }
+    requires receivers { (i j : ℕ) → joins_of (table_of [] joins.now []) i j ≡ true
+        → slice_get kinds.now j ≡ Some Ejection }
+    ensures { IfOk result (AreWaits kinds.now joins.now choices.now ways marks.now none.now) }
 {
-    let block = kinds.len() * ways;
+    let mut edges = Vec::new(alloc);
+    let mut kept = kinds.len();
     for to in 0..kinds.len() {
-        let base = to * block;
+        if !is_receiver(kind_at(kinds, to)) {
+            continue;
+        }
+        let base = base_of(kinds, ways, to);
         let seen = comes_to(alloc, kinds, joins, choices, base, ways, none, to)?;
         match first_bare(kinds, choices, base, ways, marks, &seen) {
-            Some(at) => return Ok(Some(NoEscape { to, at })),
+            Some(at) => return Ok(Waits::Bare(NoEscape { to, at })),
             None => {}
         }
-        rows_of(alloc, kinds, choices, base, ways, marks, &seen, edges)?;
+        rows_of(alloc, kinds, choices, base, ways, marks, &seen, &mut edges)?;
+        edges = thinned(alloc, kinds.len(), edges, &mut kept)?;
     }
-    Ok(None)
+    Ok(Waits::Edges(distinct(alloc, kinds.len(), &edges)?))
 }

@@ -1,8 +1,8 @@
 -- The lists of a network whose routers choose, as they are judged, and the judgement of a text.
 use Rattle.std.specs.Prelude.{◌≡◌, ℕ, ◌+◌, ◌-◌, ◌*◌, ◌<◌, ◌≤◌, ◌==◌, Bool, true, List, [], ◌∷◌, ◌++◌}
 use Rattle.std.specs.Prelude.{length, slice_get, slice_index, if◌then◌else◌}
-use Rattle.std.specs.List.{list_any, flat_map, range_with_len}
-use Rattle.network_judge.specs.Table.{is_receiver}
+use Rattle.std.specs.List.{count_by, list_any, flat_map, range_with_len}
+use Rattle.network_judge.specs.Table.{is_receiver, ejects}
 use Rattle.network_judge.specs.Marks.{is_marked_at}
 use Rattle.network_text.specs.Network.{count_of, cell_of}
 use Rattle.network_text.specs.Answer.{first_lines}
@@ -23,15 +23,18 @@ choice_toward t j x place =
     if is_receiver (slice_get t.fixed.table.kinds j)
     then listed_choice t (cell_of t.fixed x j) place else count_of t.fixed
 
--- all behind a channel, all for packets to a channel, and all
+-- all behind a channel, all for packets to a channel, and all: those to the ejection channels
 abbrev pub choice_row : ChoosingText → ℕ → ℕ → List ℕ
 choice_row t j x = first_lines (λ place. choice_toward t j x place ∷ []) (t.layers + 1)
 
 abbrev pub block_of : ChoosingText → ℕ → List ℕ
 block_of t j = first_lines (choice_row t j) (count_of t.fixed)
 
+abbrev pub block_toward : ChoosingText → ℕ → List ℕ
+block_toward t j = if is_receiver (slice_get t.fixed.table.kinds j) then block_of t j else []
+
 abbrev pub choice_list : ChoosingText → List ℕ
-choice_list t = first_lines (block_of t) (count_of t.fixed)
+choice_list t = first_lines (block_toward t) (count_of t.fixed)
 
 -- whether a channel is an escape: one that a line makes one, and any where no line does
 abbrev pub is_made_escape : List ℕ → ℕ → Bool
@@ -67,7 +70,8 @@ pub record AreListsOf {A : Type 0} (t : ChoosingText) (l : lists.Lists A) : Type
 
 -- they can be judged
 pub record CanBeJudged {A : Type 0} (l : lists.Lists A) : Type 0 where
-  pub full : length l.kinds.items * (length l.kinds.items * l.ways) ≤ length l.choices.items
+  pub full : count_by ejects l.kinds.items * (length l.kinds.items * l.ways)
+      ≤ length l.choices.items
   pub marks : length l.marks.items ≡ length l.kinds.items
   pub ends : EndsAreMarked l.kinds.items l.marks.items
   pub replies : AreReplies (table (table_of_lists l)) l.replies.items

@@ -8,5 +8,5 @@ pub returns : goal.returns
 returns g c =
     whether_leads c.args.kinds.now c.args.choices.now c.args.base c.args.ways c.args.shut.now c.deref.result.now c.args.x c.args.y c.is_among.result
     (subst (λ (v : List Bool). AreBehind c.args.kinds.now (choice_step c.args.kinds.now c.args.choices.now c.args.base c.args.ways c.args.shut.now) c.args.x v)
-    (sym c.deref.ensures.value) c.in_ok-flags.ensures)
+    (sym c.deref.ensures.value) c.in_ok-reach.ensures.flags)
     c.is_among.ensures

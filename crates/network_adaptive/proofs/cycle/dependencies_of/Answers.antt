@@ -18,9 +18,9 @@ loop-k-preserved g c =
     record {
       size = ap length c.in_ok-push.ensures.items ∙ (length_push edges edge ∙ ap (λ z. z + 1) c.loop-k.invariant.size);
       each = subst (λ (v : List (dependency.Dependency g.row.A.Denot)). (i : ℕ) → i < k + 1
-          → IsDependencyOf a.kinds.now a.joins.now a.replies.now a.choices.now a.ways a.marks.now a.none.now (path_look a.looks.now i) (dependency_at v i))
+          → IsDependencyOf a.kinds.now a.joins.now a.replies.now a.choices.now a.ways a.marks.now a.none.now a.waits.now (path_look a.looks.now i) (dependency_at v i))
           (sym c.in_ok-push.ensures.items)
-          (each_more a.kinds.now a.joins.now a.replies.now a.choices.now a.ways a.marks.now a.none.now a.looks.now edges edge k (k + 1) (omega arith)
+          (each_more a.kinds.now a.joins.now a.replies.now a.choices.now a.ways a.marks.now a.none.now a.waits.now a.looks.now edges edge k (k + 1) (omega arith)
           c.loop-k.invariant.size c.in_ok-dependency_of.ensures c.loop-k.invariant.each);
     }
 

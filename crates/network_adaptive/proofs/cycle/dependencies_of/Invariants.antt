@@ -7,5 +7,5 @@ use Rattle.network_adaptive.proofs.cycle.dependencies_of.Given as goal
 abbrev pub invariant-loop-k : goal.invariant-loop-k
 invariant-loop-k g l = record {
   size : length l.edges.items ≡ l.k;
-  each : (i : ℕ) → i < l.k → IsDependencyOf l.kinds l.joins l.replies l.choices l.ways l.marks l.none (path_look l.looks i) (dependency_at l.edges.items i);
+  each : (i : ℕ) → i < l.k → IsDependencyOf l.kinds l.joins l.replies l.choices l.ways l.marks l.none l.waits (path_look l.looks i) (dependency_at l.edges.items i);
 }

@@ -1,28 +1,39 @@
-use Rattle.std.proofs.Common.{◌≡◌, ◌+◌, ◌∙◌, List, Bool, true, false, sym, subst, arith}
-use Rattle.network_adaptive.specs.Spread.{choice_step}
-use Rattle.network_adaptive.specs.Flags.{AreBehind}
-use Rattle.network_adaptive.proofs.Puts.{waits_put, waits_skip, waits_end}
+use Rattle.std.proofs.Common.{◌≡◌, ◌+◌, ◌<◌, ◌∙◌, ℕ, List, true, false, length, sym, subst, arith}
+use Rattle.std.specs.Prelude.{slice_index}
+use Rattle.network_adaptive.specs.Flags.{HasPut, IsAwaited}
+use Rattle.network_adaptive.proofs.Flags.{up_inside}
+use Rattle.network_adaptive.proofs.Rows.{waits_put, waits_skip, waits_end}
 use Rattle.network_adaptive.proofs.waits.rows_of.Goals as goal
 
 pub loop-e-preserved-then-not-seen-e : goal.loop-e-preserved-then-not-seen-e
 loop-e-preserved-then-not-seen-e g c =
     waits_skip c.args.kinds.now c.args.choices.now c.args.base c.args.ways c.args.marks.now c.args.seen.now c.loop-e.e (c.loop-e.e + 1)
-    c.args.edges.now c.loop-e.edges (omega arith) (λ up mark. (let down = c.if-not-seen-e.true in let bad : true ≡ false = sym up ∙ down in cc)) c.loop-e.invariant
+    c.args.edges.now.items c.loop-e.edges.items (omega arith) (λ up mark. (let down = c.if-not-seen-e.true in let bad : true ≡ false = sym up ∙ down in cc)) c.loop-e.invariant
 
 pub loop-e-preserved-then-not-marks-e : goal.loop-e-preserved-then-not-marks-e
 loop-e-preserved-then-not-marks-e g c =
     waits_skip c.args.kinds.now c.args.choices.now c.args.base c.args.ways c.args.marks.now c.args.seen.now c.loop-e.e (c.loop-e.e + 1)
-    c.args.edges.now c.loop-e.edges (omega arith) (λ up mark. (let down = c.if-not-marks-e.true in let bad : true ≡ false = sym mark ∙ down in cc)) c.loop-e.invariant
+    c.args.edges.now.items c.loop-e.edges.items (omega arith) (λ up mark. (let down = c.if-not-marks-e.true in let bad : true ≡ false = sym mark ∙ down in cc)) c.loop-e.invariant
+
+pub row_of-requires-clause-held : goal.row_of-requires-clause-held
+row_of-requires-clause-held g c = λ k low.
+    (let are = c.in_ok-held.ensures.list in
+    let same = c.deref.ensures.value in
+    let inside : k < length c.in_ok-held.held.list.items = subst (λ (v : List ℕ). k < length v) same low in
+    let up = up_inside c.in_ok-held.held.flags.items (slice_index c.in_ok-held.held.list.items k) (are.each k inside) in
+    let size = c.in_ok-held.ensures.flags.size in
+    let there : slice_index c.in_ok-held.held.list.items k < length c.args.kinds.now = omega arith in
+    subst (λ (v : List ℕ). slice_index v k < length c.args.kinds.now) (sym same) there)
 
 pub loop-e-preserved : goal.loop-e-preserved
 loop-e-preserved g c =
-    waits_put c.args.kinds.now c.args.choices.now c.args.base c.args.ways c.args.marks.now c.args.seen.now c.loop-e.e (c.loop-e.e + 1) c.deref.result.now
-    c.args.edges.now c.loop-e.edges c.row_of.new.edges (omega arith) c.if-not-seen-e.false c.if-not-marks-e.false
-    (subst (λ (v : List Bool). AreBehind c.args.kinds.now (choice_step c.args.kinds.now c.args.choices.now c.args.base c.args.ways c.args.marks.now) c.loop-e.e v)
-    (sym c.deref.ensures.value) c.in_ok-held.ensures)
-    c.loop-e.invariant c.row_of.ensures
+    waits_put c.args.kinds.now c.args.choices.now c.args.base c.args.ways c.args.marks.now c.args.seen.now c.loop-e.e (c.loop-e.e + 1)
+    c.in_ok-held.held.flags.items c.in_ok-held.held.list.items c.args.edges.now.items c.loop-e.edges.items c.row_of.new.edges.items (omega arith)
+    c.if-not-seen-e.false c.if-not-marks-e.false c.in_ok-held.ensures.flags c.in_ok-held.ensures.list c.loop-e.invariant
+    (subst (λ (v : List ℕ). HasPut (IsAwaited c.args.kinds.now c.args.choices.now c.args.base c.args.ways c.args.marks.now v c.loop-e.e)
+    c.loop-e.edges.items c.row_of.new.edges.items) c.deref.ensures.value c.in_ok-row_of.ensures)
 
 pub returns : goal.returns
 returns g c =
     waits_end c.args.kinds.now c.args.choices.now c.args.base c.args.ways c.args.marks.now c.args.seen.now c.loop-e.e
-    c.args.edges.now c.loop-e.edges (omega arith) c.requires.size c.loop-e.invariant
+    c.args.edges.now.items c.loop-e.edges.items (omega arith) c.requires.size c.loop-e.invariant
