@@ -1,5 +1,5 @@
 //! The reader and the judge of networks whose routers choose in plain Rust, of the same design as the crates
-//! `network_adaptive_text` and `network_adaptive`:
+//! `network_text` and `network_adaptive`:
 //!
 //!     adaptive FILE            prints the numbers and the verdict, without the edges of a cycle
 //!     adaptive FILE ROUNDS     prints a line `NAME NANOSECONDS` for each time, and what was found as numbers

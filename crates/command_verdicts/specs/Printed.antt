@@ -2,7 +2,7 @@
 use Rattle.std.specs.Prelude.{◌≡◌, List, ℕ, Bool, Result, Ok, Err}
 use Rattle.network_text.specs.declared.answer.Answer.{Answer}
 use Rattle.network_text.specs.Network.{network_of}
-use Rattle.network_adaptive_text.specs.Printed.{Routing, routing_of, TellsRouting}
+use Rattle.network_text.specs.Routing.{Routing, routing_of, TellsRouting}
 use Rattle.program_fault.specs.declared.fault.ProgramFault.{ProgramFault}
 use Rattle.program_fault.specs.declared.fault.ProgramFault.TheVariants as program
 use Rattle.program_fault.specs.Done.{Does, Output}

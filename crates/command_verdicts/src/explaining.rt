@@ -9,10 +9,9 @@ use lexer::Refusal;
 use model_answer::LogSentence;
 use model_replies::read_values;
 use model_text::{LogReason, read_log};
-use network_adaptive_text::routing_sentence;
 use network_rounds::TrafficSentence;
 use network_run::{RunSentence, replay_text};
-use network_text::{NetworkSentence, network_answer, read_network};
+use network_text::{NetworkSentence, network_answer, read_network, routing_sentence};
 use network_traffic::read_packets;
 use program_fault::{
     Kind, Names, ProgramFault, Texts, explain, explain_by, is_of_texts, named, told,

@@ -13,7 +13,7 @@ use Rattle.network_run.specs.declared.replaying.Replayed.{Replayed}
 use Rattle.network_run.specs.declared.replaying.Replayed.TheVariants as replayed
 use Rattle.network_run.specs.Reasons.{run_fault_of}
 use Rattle.network_run.specs.Replays.{AnswersReplay}
-use Rattle.network_run.specs.Printed.{AnswersRun}
+use Rattle.network_run.specs.Printed.{TellsRunOrNoPair}
 use Rattle.network_run.specs.Written.{replay_line}
 
 -- whether a replay shows nothing wrong with the network
@@ -31,7 +31,7 @@ memory_fault = record { fault = fault.Memory; line = 0 }
 -- network, or its first fault, or out of memory
 abbrev pub AnswersRunText : {A : Type 0} → List (List ℕ) → ℕ → Result (Answer A) LineFault → Type 0
 AnswersRunText lines depth (Ok a) =
-    (n : NetworkSpec) × (network_of lines ≡ Ok n) × AnswersRun n depth a
+    (n : NetworkSpec) × (network_of lines ≡ Ok n) × TellsRunOrNoPair n depth a
 AnswersRunText lines depth (Err e) = (e ≡ memory_fault) ⊎ (network_of lines ≡ Err e)
 
 -- the line on a replay and whether it shows nothing wrong, or out of memory

@@ -1,11 +1,12 @@
 -- What is answered where the run is asked for by which a network deadlocks (this project's own
 -- format).
-use Rattle.std.specs.Prelude.{◌≡◌, ℕ, zero, suc, List, Vec, Option, None, IsSomeAnd}
+use Rattle.std.specs.Prelude.{◌≡◌, ℕ, zero, suc, List, [], ◌∷◌, Vec, Option, None, IsSomeAnd}
+use Rattle.network_judge.specs.declared.table.Join.{Join}
 use Rattle.network_judge.specs.declared.table.Verdict.{Verdict}
 use Rattle.network_judge.specs.declared.table.Verdict.TheVariants.{Rising, NoRoute, Cycle}
 use Rattle.network_judge.specs.Verdicts.{IsVerdict}
 use Rattle.network_text.specs.Network.{NetworkSpec}
-use Rattle.network_text.specs.Answer.{verdict_text, is_rising}
+use Rattle.network_text.specs.Answer.{verdict_text, is_rising, SaysNoPair}
 use Rattle.network_text.specs.declared.answer.Answer.{Answer}
 use Rattle.network_machine.specs.declared.moves.Move.{Move}
 use Rattle.network_run.specs.LockedUp.{MovesLockUp}
@@ -46,3 +47,12 @@ pub record AnswersRun {A : Type 0} (n : NetworkSpec) (depth : ℕ) (a : Answer A
   pub holds : IsVerdict n.table n.replies verdict
   pub text : IsOfVerdict n depth verdict a.text.items
   pub rising : a.rising ≡ is_rising verdict
+
+-- what is answered of a network with these pairs
+abbrev pub TellsRunOf : {A : Type 0} → List Join → NetworkSpec → ℕ → Answer A → Type 0
+TellsRunOf [] n depth a = SaysNoPair a
+TellsRunOf (join ∷ joins) n depth a = AnswersRun n depth a
+
+-- what is answered of a network: that it has no pair, or what is said of its run
+abbrev pub TellsRunOrNoPair : {A : Type 0} → NetworkSpec → ℕ → Answer A → Type 0
+TellsRunOrNoPair n depth a = TellsRunOf n.table.joins n depth a

@@ -4,12 +4,13 @@ ghost use Rattle.std.specs.Prelude.{◌≡◌, ◌≤◌, IfOk};
 ghost use Rattle.network_judge.specs.Verdicts.{AllArrive, IsVerdict};
 ghost use Rattle.network_judge.specs.Cycles.{IsCycle};
 ghost use Rattle.network_text.specs.Answer.{is_rising};
-ghost use Rattle.network_run.specs.Printed.{FindsRun, IsLockingRun, AnswersRun};
+ghost use Rattle.network_run.specs.Printed.{FindsRun, IsLockingRun, AnswersRun, TellsRunOrNoPair};
 
 use crate::filling::filling_moves;
 use crate::writing::moves_text;
 use network_judge::{Fill, Link, Verdict, find_jam};
 use network_machine::Move;
+use network_text::answer::no_pair;
 use network_text::{Answer, Network, judge_network, verdict_text};
 use std::alloc::{AllocError, Allocator};
 
@@ -65,10 +66,28 @@ fn run_of<A: Allocator + Copy>(
 }
 
 /// Judges a network whose channels hold so many flits, and makes the text of the run by which it deadlocks,
-/// from the empty network on; where there is none, the text of the verdict.
+/// from the empty network on; where there is none, the text of the verdict, or that it has no
+/// source-destination pair.
 ///
 /// Errors: out of memory.
 pub fn run_text<A: Allocator + Copy>(
+    alloc: A,
+    network: &Network<A>,
+    depth: u64,
+) -> Result<Answer<A>, AllocError>
+    requires { depth ≤ 8 }
+    ensures { IfOk result (TellsRunOrNoPair network.now depth) }
+{
+    if network.joins().is_empty() {
+        return no_pair(alloc);
+    }
+    judged_run(alloc, network, depth)
+}
+
+/// The text of the run by which a network deadlocks, or that of its verdict.
+///
+/// Errors: out of memory.
+fn judged_run<A: Allocator + Copy>(
     alloc: A,
     network: &Network<A>,
     depth: u64,

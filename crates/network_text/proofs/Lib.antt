@@ -11,3 +11,11 @@ pub mod Behind
 pub mod Jams
 pub mod Bounds
 pub mod Without
+pub mod Kept
+pub mod ChoosingWords
+pub mod Layers
+pub mod Fixed
+pub mod Counted
+pub mod Three
+pub mod OneChoice
+pub mod Alike

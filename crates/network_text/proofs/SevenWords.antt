@@ -1,15 +1,13 @@
 -- No line has more than four words that mean something, comments apart: seven tell that there are too many.
-use Rattle.std.proofs.Common.{◌≡◌, ℕ, ◌+◌, List, [], ◌∷◌, take, refl, sym, ◌∙◌, ap}
-use Rattle.std.specs.Prelude.{Result, Ok, Err, Option, Some, None, if◌then◌else◌}
-use Rattle.lexer.specs.Words.{words_of, begins_comment}
-use Rattle.lexer.specs.declared.refusal.Refusal.{Refusal}
-use Rattle.lexer.specs.Outcome.{then_lines, refusal_at}
+use Rattle.std.proofs.Common.{◌≡◌, ℕ, List, [], ◌∷◌, take, refl, ap}
+use Rattle.std.specs.Prelude.{Result, Ok, Option, Some, None, if◌then◌else◌}
+use Rattle.lexer.specs.Words.{begins_comment}
 use Rattle.network_text.specs.declared.reason.Keyword.{Keyword}
 use Rattle.network_text.specs.declared.reason.Keyword.TheVariants as key
 use Rattle.network_text.specs.declared.reason.NetworkReason.{NetworkReason}
 use Rattle.network_text.specs.Reasons.{network_keyword_of}
 use Rattle.network_text.specs.Shapes.{after_one, after_two, after_three, after_router_words, after_link_words, after_name_words}
-use Rattle.network_text.specs.Network.{Reading, NetworkSpec, after_first, after_words, network_from}
+use Rattle.network_text.specs.Network.{Reading, after_first, after_words}
 use Rattle.network_text.specs.Network.{after_channels, after_inject, after_eject, after_join, after_next, after_reply}
 use Rattle.network_text.specs.Network.{after_router, after_link, after_name}
 
@@ -74,19 +72,3 @@ pub words_seven : (r : Reading) (ws : List (List ℕ)) → after_words r (take 7
 words_seven r [] = refl
 words_seven r (w ∷ ws) =
     ap (λ (o : Result Reading NetworkReason). if begins_comment w then Ok r else o) (first_six r (network_keyword_of w) ws)
-
--- one more line of a network text
-pub network_step : (n : ℕ) (r new : Reading) (line : List ℕ) (rest after ws : List (List ℕ)) (all : Result NetworkSpec (Refusal NetworkReason))
-    → rest ≡ line ∷ after → ws ≡ take 7 (words_of line) → after_words r ws ≡ Ok new → network_from r n rest ≡ all
-    → network_from new (n + 1) after ≡ all
-network_step n r new line rest after ws all is seven made so_far =
-    let here : after_words r (words_of line) ≡ Ok new = sym (words_seven r (words_of line)) ∙ ap (after_words r) (sym seven) ∙ made in
-    sym (ap (λ o. then_lines n o (λ next. network_from next (n + 1) after)) here) ∙ sym (ap (network_from r n) is) ∙ so_far
-
--- a bad line of a network text
-pub network_fault : (n : ℕ) (r : Reading) (line : List ℕ) (rest after ws : List (List ℕ)) (all : Result NetworkSpec (Refusal NetworkReason)) (e : NetworkReason)
-    → rest ≡ line ∷ after → ws ≡ take 7 (words_of line) → after_words r ws ≡ Err e → network_from r n rest ≡ all
-    → all ≡ Err (refusal_at n e)
-network_fault n r line rest after ws all e is seven made so_far =
-    let here : after_words r (words_of line) ≡ Err e = sym (words_seven r (words_of line)) ∙ ap (after_words r) (sym seven) ∙ made in
-    sym so_far ∙ ap (network_from r n) is ∙ ap (λ o. then_lines n o (λ next. network_from next (n + 1) after)) here

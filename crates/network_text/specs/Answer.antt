@@ -1,13 +1,14 @@
 -- What is written of a verdict and of a jam, and what is answered to a network text (this project's
 -- own format).
 use Rattle.std.specs.Prelude.{◌≡◌, ◌⊎◌, ℕ, ◌+◌, ◌-◌, ◌<◌, ◌==◌, Bool, true, false}
-use Rattle.std.specs.Prelude.{if◌then◌else◌, List, [], ◌++◌, length, slice_index, Vec}
+use Rattle.std.specs.Prelude.{if◌then◌else◌, List, [], ◌∷◌, ◌++◌, length, slice_index, Vec}
 use Rattle.std.specs.Prelude.{Result, Ok, Err, Option, None, IsSomeAnd, codes, decimal}
 use Rattle.std.specs.List.{flat_map, range_with_len}
 use Rattle.torus.specs.declared.fault.Fault.TheVariants as fault
 use Rattle.script.specs.declared.fault.LineFault.{LineFault}
 use Rattle.network_judge.specs.declared.table.By.{By}
 use Rattle.network_judge.specs.declared.table.By.TheVariants.{To, Replied}
+use Rattle.network_judge.specs.declared.table.Join.{Join}
 use Rattle.network_judge.specs.declared.table.Link.{Link}
 use Rattle.network_judge.specs.declared.table.NoRoute as no_route
 use Rattle.network_judge.specs.declared.table.Why.{Why}
@@ -141,8 +142,22 @@ pub record TellsNetworkVerdict {A : Type 0} (n : NetworkSpec) (a : Answer A) : T
   pub text : IsJudgedText n verdict a.text.items
   pub rising : a.rising ≡ is_rising verdict
 
+-- what is said of a network without a source-destination pair: that it has none
+pub record SaysNoPair {A : Type 0} (a : Answer A) : Type 0 where
+  pub text : a.text.items ≡ codes "no pair\n"
+  pub rising : a.rising ≡ false
+
+-- what is said of a network with these pairs
+abbrev pub TellsOfPairs : {A : Type 0} → List Join → NetworkSpec → Answer A → Type 0
+TellsOfPairs [] n a = SaysNoPair a
+TellsOfPairs (join ∷ joins) n a = TellsNetworkVerdict n a
+
+-- what is said of a network: the verdict, if it has pairs
+abbrev pub TellsFixedRoutes : {A : Type 0} → NetworkSpec → Answer A → Type 0
+TellsFixedRoutes n a = TellsOfPairs n.table.joins n a
+
 -- what is answered to a text of these lines: the verdict of its network, or its first fault, or
 -- out of memory
 abbrev pub Answers : {A : Type 0} → List (List ℕ) → Result (Answer A) LineFault → Type 0
-Answers lines (Ok a) = (n : NetworkSpec) × (network_of lines ≡ Ok n) × TellsNetworkVerdict n a
+Answers lines (Ok a) = (n : NetworkSpec) × (network_of lines ≡ Ok n) × TellsFixedRoutes n a
 Answers lines (Err e) = (e ≡ record { fault = fault.Memory; line = 0 }) ⊎ (network_of lines ≡ Err e)

@@ -7,3 +7,7 @@ pub mod Answer
 pub mod Before
 pub mod Sentences
 pub mod Names
+pub mod Choosing
+pub mod ChoosingRead
+pub mod ChoiceLists
+pub mod Routing

@@ -3,7 +3,7 @@
 ghost use Rattle.std.specs.Prelude.{◌≡◌, IfOk};
 ghost use Rattle.std.specs.Str.Lines.{lines};
 ghost use Rattle.network_judge.specs.Verdicts.{IsVerdict};
-ghost use Rattle.network_text.specs.Answer.{Answers, TellsNetworkVerdict, is_rising};
+ghost use Rattle.network_text.specs.Answer.{Answers, SaysNoPair, TellsFixedRoutes, is_rising};
 
 use crate::jam::judged_text;
 use crate::network::{Network, read_network};
@@ -50,15 +50,33 @@ pub fn judge_network<A: Allocator + Copy>(
     )
 }
 
-/// Judges a network, and makes the text of what is judged.
+/// What is answered to a network without a source-destination pair: of no packet anything is judged.
+///
+/// Errors: out of memory.
+pub fn no_pair<A: Allocator + Copy>(alloc: A) -> Result<Answer<A>, AllocError>
+    ensures { IfOk result SaysNoPair }
+{
+    let mut text = Vec::new(alloc);
+    text.extend_from_slice(b"no pair\n")?;
+    Ok(Answer {
+        text,
+        rising: false,
+    })
+}
+
+/// Judges a network, and makes the text of what is judged: that it has no source-destination pair, or
+/// else its verdict.
 ///
 /// Errors: out of memory.
 pub fn answered<A: Allocator + Copy>(
     alloc: A,
     network: &Network<A>,
 ) -> Result<Answer<A>, AllocError>
-    ensures { IfOk result (TellsNetworkVerdict network.now) }
+    ensures { IfOk result (TellsFixedRoutes network.now) }
 {
+    if network.joins().is_empty() {
+        return no_pair(alloc);
+    }
     let verdict = judge_network(alloc, network)?;
     let text = judged_text(alloc, network, &verdict)?;
     Ok(Answer {

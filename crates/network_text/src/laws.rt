@@ -3,6 +3,7 @@
 ghost use Rattle.std.specs.Prelude.{◌≡◌, ℕ, List, Ok};
 ghost use Rattle.network_text.specs.Network.{NetworkSpec, network_of, network_or_why};
 ghost use Rattle.network_text.specs.Names.{without_names};
+ghost use Rattle.network_text.specs.Routing.{Fixed, routing_or_why};
 
 /// Names change no network, and so no verdict: where the lines of a text give one, the same lines but
 /// those that name a router or a channel give the same one.
@@ -11,4 +12,13 @@ pub fn names_change_no_network()
         → network_or_why (without_names lines) ≡ Ok n }
     ensures fault { (lines : List (List ℕ)) (n : NetworkSpec) → network_of lines ≡ Ok n
         → network_of (without_names lines) ≡ Ok n }
+{}
+
+/// Fixed routes are the case of one choice: a text gives a network of fixed routes where routers may
+/// choose exactly if it gives the same one where they may not.
+pub fn fixed_routes_are_the_case_of_one_choice()
+    ensures given { (lines : List (List ℕ)) (n : NetworkSpec) → network_or_why lines ≡ Ok n
+        → routing_or_why lines ≡ Ok (Fixed n) }
+    ensures back { (lines : List (List ℕ)) (n : NetworkSpec) → routing_or_why lines ≡ Ok (Fixed n)
+        → network_or_why lines ≡ Ok n }
 {}

@@ -1,18 +1,19 @@
 //! The network of a text.
 
-ghost use Rattle.std.specs.Prelude.{◌≡◌};
+ghost use Rattle.std.specs.Prelude.{◌≡◌, true};
 ghost use Rattle.std.specs.Str.Lines.{lines};
 ghost use Rattle.network_judge.specs.Table.{IsFull};
 ghost use Rattle.network_judge.specs.Replies.{AreReplies};
 ghost use Rattle.lexer.specs.Outcome.{Gives as GivesOrWhy};
 ghost use Rattle.script.specs.Outcome.{Gives};
-ghost use Rattle.network_text.specs.Network.{MakesNetwork};
-ghost use Rattle.network_text.specs.Network.{NetworkSpec, network_of, network_or_why, network_with};
-ghost use Rattle.network_text.specs.Reading.{reading_of, IsRead};
+ghost use Rattle.network_text.specs.Network.{network_of, network_or_why};
+ghost use Rattle.network_text.specs.Choosing.{fixed_network};
+ghost use Rattle.network_text.specs.ChoosingRead.{choosing_text_of, IsChoosingRead};
 
-use crate::reading::Reading;
+use crate::choosing::{Choosing, Routers};
+use crate::choosing_text::read_text_or_why;
 use crate::reason::NetworkReason;
-use lexer::{Refusal, first_words, next_line};
+use lexer::Refusal;
 use network_judge::{Join, Kind, Reply};
 use script::LineFault;
 use std::alloc::{Allocator, Global};
@@ -72,7 +73,22 @@ impl<A: Allocator> Network<A> {
     }
 }
 
-/// Reads a network text.
+/// The network of a text of fixed routes that is read.
+pub fn network_read<A: Allocator>(text: Choosing<A>) -> Network<A>
+    requires read { IsChoosingRead text }
+    requires begun { text.fixed.begun ≡ true }
+    ensures { result ≡ fixed_network (choosing_text_of text) }
+{
+    let fixed = text.fixed;
+    Network {
+        kinds: fixed.kinds,
+        joins: fixed.joins,
+        replies: fixed.replies,
+        choices: fixed.choices,
+    }
+}
+
+/// Reads a network text of fixed routes.
 ///
 /// Errors: where and why its first bad line is refused, or that a request for memory was.
 pub fn read_network_or_why<A: Allocator + Copy>(
@@ -81,24 +97,13 @@ pub fn read_network_or_why<A: Allocator + Copy>(
 ) -> Result<Network<A>, Refusal<NetworkReason>>
     ensures { GivesOrWhy NetworkReason.Memory (λ n. n) result (network_or_why (lines text.now)) }
 {
-    let mut reading = Reading::none(alloc);
-    let mut number = 1u64;
-    let mut rest = text;
-    while let Some((line, after)) = next_line(rest) {
-        let (words, count) = first_words(line);
-        if let Err(reason) = reading.take(alloc, &words[..count]) {
-            return Err(Refusal::at(number, reason));
-        }
-        number += 1;
-        rest = after;
-    }
-    match network_with(alloc, reading) {
-        Ok(network) => Ok(network),
-        Err(reason) => Err(Refusal::at(number, reason)),
+    match read_text_or_why(alloc, text, Routers::OneChoice) {
+        Ok(text) => Ok(network_read(text)),
+        Err(refusal) => Err(refusal),
     }
 }
 
-/// Reads a network text.
+/// Reads a network text of fixed routes.
 ///
 /// Errors: the first fault and its line, or `Fault::Memory` at line 0.
 pub fn read_network<A: Allocator + Copy>(alloc: A, text: &[u8]) -> Result<Network<A>, LineFault>
@@ -106,25 +111,4 @@ pub fn read_network<A: Allocator + Copy>(alloc: A, text: &[u8]) -> Result<Networ
 {
     let network = read_network_or_why(alloc, text)?;
     Ok(network)
-}
-
-/// The network of all lines.
-fn network_with<A: Allocator + Copy>(
-    alloc: A,
-    reading: Reading<A>,
-) -> Result<Network<A>, NetworkReason>
-    requires { IsRead reading }
-    ensures { MakesNetwork result (network_with (reading_of reading)) }
-{
-    let mut reading = reading;
-    if reading.kinds.is_empty() {
-        return Err(NetworkReason::ChannelsMissing);
-    }
-    reading.begin(alloc)?;
-    Ok(Network {
-        kinds: reading.kinds,
-        joins: reading.joins,
-        replies: reading.replies,
-        choices: reading.choices,
-    })
 }

@@ -1,11 +1,14 @@
 //! The sentence that tells a reader why a network text is refused.
 
-ghost use Rattle.std.specs.Prelude.{IfSome, option_map};
+ghost use Rattle.std.specs.Prelude.{◌≡◌, IfSome, option_map};
 ghost use Rattle.std.specs.Str.Lines.{lines};
 ghost use Rattle.lexer.specs.Named.{IsAbout};
 ghost use Rattle.network_text.specs.Sentences.{TellsRefusal, refusal_in};
+ghost use Rattle.network_text.specs.Routing.{TellsRoutingRefusal};
 
 use crate::before::earlier_line;
+use crate::choosing::Routers;
+use crate::choosing_text::read_text_or_why;
 use crate::network::read_network_or_why;
 use crate::reason::{Keyword, NetworkReason};
 use lexer::{Filled, Named, QuotedWords, Refusal};
@@ -22,7 +25,19 @@ pub struct NetworkSentence<'a> {
     pub refusal: Refusal<NetworkReason>,
 }
 
-/// Why a network text is refused; `None` where it has no fault.
+/// The sentence on a refused text.
+fn sentence_on<'a>(network: Named<'a>, refusal: Refusal<NetworkReason>) -> NetworkSentence<'a>
+    ensures refusal { refusal_in result ≡ refusal }
+    ensures text { IsAbout network.entry result.name.now result.text.now }
+{
+    NetworkSentence {
+        name: network.name,
+        text: network.text,
+        refusal,
+    }
+}
+
+/// Why the text of a network of fixed routes is refused; `None` where it has no fault.
 pub fn network_sentence<'a, A: Allocator + Copy>(
     alloc: A,
     network: Named<'a>,
@@ -32,11 +47,22 @@ pub fn network_sentence<'a, A: Allocator + Copy>(
 {
     match read_network_or_why(alloc, network.text) {
         Ok(_) => None,
-        Err(refusal) => Some(NetworkSentence {
-            name: network.name,
-            text: network.text,
-            refusal,
-        }),
+        Err(refusal) => Some(sentence_on(network, refusal)),
+    }
+}
+
+/// Why a network text is refused, of fixed routes or of routers that choose; `None` where it has no fault.
+pub fn routing_sentence<'a, A: Allocator + Copy>(
+    alloc: A,
+    network: Named<'a>,
+) -> Option<NetworkSentence<'a>>
+    ensures tells { TellsRoutingRefusal (lines network.entry.text.now)
+        (option_map refusal_in result) }
+    ensures text { IfSome result (λ s. IsAbout network.entry s.name.now s.text.now) }
+{
+    match read_text_or_why(alloc, network.text, Routers::AnyChoices) {
+        Ok(_) => None,
+        Err(refusal) => Some(sentence_on(network, refusal)),
     }
 }
 

@@ -62,9 +62,9 @@ def head_of(net: Network, plan: Plan, verdict: Verdict) -> str:
     if verdict.kind == "cycle":
         return f"Cycle: the network {'may deadlock' if verdict.chosen else 'deadlocks'}"
     what, numbers = " ".join(verdict.kind.split()[:2]), verdict.kind.partition(":")[0].split()[2:]
-    if what == "no escape":
-        return "No escape behind channel {0} for packets to channel {1}".format(*numbers)
-    return ("No choice behind channel {0} for packets to channel {1}: {2}" if what == "no choice" else "No route from channel {0} to channel {1}").format(*numbers)
+    if what in ("no escape", "no choice"):
+        return f"{what.capitalize()} behind channel {numbers[0]} for packets to channel {': '.join(numbers[1:])}"
+    return "No pair: packets go from no channel to another" if what == "no pair" else "No route from channel {0} to channel {1}".format(*numbers)
 
 
 def turned(net: Network, plan: Plan, found: Found) -> List[Tuple[str, ...]]:

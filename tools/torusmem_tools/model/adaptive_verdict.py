@@ -31,7 +31,7 @@ def found_in(net: Network, text: str, path: str) -> Found:
     plain walk can see."""
     walked, lines = duato_verdict(net), text.splitlines()
     kind = walked.kind
-    said = [it for it in lines if it in ("rising", "cycle") or it.startswith(("no route ", "no choice ", "no escape "))]
+    said = [it for it in lines if it in ("rising", "cycle", "no pair") or it.startswith(("no route ", "no choice ", "no escape "))]
     if said != [kind]:
         raise Refusal(f"{path}: the network's verdict is `{kind}`, and not `{' '.join(said)}`")
     if kind == "cycle":

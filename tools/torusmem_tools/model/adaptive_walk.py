@@ -107,11 +107,11 @@ class Walk:
         return found
 
     def bare(self) -> Optional[str]:
-        """The verdict on the first channel without an escape, by destination."""
+        """The verdict on the first channel without an escape, or without a choice, by destination."""
         for j in sorted(self.starts):
             for x in self.comes(j):
                 if self.net.kinds[x] != "eject" and not any(y in self.escapes for y in self.after(x, j)):
-                    return f"no escape {x} {j}"
+                    return f"no {'escape' if self.after(x, j) else 'choice'} {x} {j}"
         return None
 
     def travel(self) -> str:
@@ -146,7 +146,7 @@ class Walk:
 
 def duato_verdict(net: Network, walks: Callable[[Network], Walk] = Walk) -> Found:
     """What is judged of a network with several choices, by this walk."""
-    wrong = misfit(net)
+    wrong = misfit(net) if net.joins else "no pair"
     if wrong is not None:
         return Found(wrong)
     walk = walks(net)

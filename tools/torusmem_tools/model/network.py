@@ -244,6 +244,8 @@ def parsed(text: str, path: str) -> Network:
 def channel_dependencies(net: Network) -> Tuple[str, Dict[Tuple[int, int], str]]:
     """The verdict's kind by a plain walk, and the dependencies with how each leads on."""
     edges = {(x, y): "" for x, y in net.replies}
+    if not net.joins:
+        return "no pair", edges
     arrives: Set[Tuple[int, int]] = set()
     for i, j in net.joins:
         x, steps = i, 0

@@ -16,7 +16,7 @@ PROGRAM = "by torusmem network"
 
 @dataclass
 class Verdict:
-    """A verdict: `rising` with numbers, `cycle` with the channels of a jam, or `no route I J`; and whose it is."""
+    """A verdict: `rising` with numbers, `cycle` with the channels of a jam, `no route I J` or `no pair`; and whose it is."""
 
     kind: str
     by: str
@@ -54,7 +54,7 @@ def verdict_read(net: Network, text: str, path: str) -> Verdict:
             found[values[0]] = values[1]
         elif word == "fill" and len(values) == 3 and min(values) >= 0:
             fills.append(Fill(*values))
-        elif line in ("rising", "cycle") or line.startswith("no route "):
+        elif line in ("rising", "cycle", "no pair") or line.startswith("no route "):
             said = line.partition(":")[0]
         elif number_of(word) >= 0 and others[:1] in (["to"], ["replies"]) and len(others) == 2:
             around.append(int(word))

@@ -1,8 +1,0 @@
-use Rattle.std.proofs.Common.{◌≡◌}
-use Rattle.network_text.specs.Answer.{first_lines}
-use Rattle.network_adaptive_text.specs.Read.{choosing_text_of}
-use Rattle.network_adaptive_text.specs.Tables.{block_of}
-use Rattle.network_adaptive_text.proofs.reading.Choosing.choices.Given as goal
-
-abbrev pub invariant-loop-to : goal.invariant-loop-to
-invariant-loop-to g l = l.out.items ≡ first_lines (block_of (choosing_text_of l.self)) l.to

@@ -1,4 +1,0 @@
-pub mod Choosing
-pub mod Read
-pub mod Tables
-pub mod Printed

@@ -1,8 +1,0 @@
-use Rattle.network_run.proofs.Telling.{run_told}
-use Rattle.network_run.proofs.running.run_text.Goals as goal
-
-pub returns-in-Some : goal.returns-in-Some
-returns-in-Some g c =
-    run_told c.args.network.now c.args.depth c.in_ok-verdict.verdict c.in_ok-found.found c.in-Some.moves c.deref.result.now
-    record { text = c.in_ok-moves_text-in-Some.field-0; rising = c.is_rising-rising.result }
-    c.in-Some.is c.in_ok-found.ensures c.in_ok-verdict.ensures c.in_ok-moves_text-in-Some.ensures c.deref.ensures.value c.is_rising-rising.ensures

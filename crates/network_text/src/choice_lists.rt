@@ -1,0 +1,98 @@
+//! The lists of a network whose routers choose, as they are judged.
+
+ghost use Rattle.std.specs.Prelude.{◌≡◌, ◌+◌, ◌*◌, ◌<◌, ◌≤◌, ◌++◌, true, length, IfOk, OnOk};
+ghost use Rattle.network_text.specs.Network.{count_of};
+ghost use Rattle.network_text.specs.ChoosingRead.{choosing_text_of, IsChoosingRead};
+ghost use Rattle.network_text.specs.ChoiceLists.{choice_toward, choice_row, block_of, choice_list};
+ghost use Rattle.network_text.specs.ChoiceLists.{is_made_escape, AreEscapesOf};
+
+use crate::choosing::{Choosing, is_escape};
+use std::alloc::{AllocError, Allocator};
+
+impl<A: Allocator + Copy> Choosing<A> {
+    /// The choice behind a channel for packets to another one that comes after so many others.
+    fn choice(&self, to: usize, at: usize, place: usize) -> u32
+        requires read { IsChoosingRead self.now }
+        requires begun { self.now.fixed.begun ≡ true }
+        requires at { at < length self.now.fixed.kinds.items }
+        requires place { place ≤ self.now.layers }
+        ensures { result ≡ choice_toward (choosing_text_of self.now) to at place }
+    {
+        if !self.fixed.ejects(to) {
+            return self.fixed.kinds.len() as u32;
+        }
+        let cell = at * self.fixed.ejections + self.fixed.columns[to];
+        if place == 0 {
+            self.fixed.choices[cell]
+        } else {
+            self.further[(place - 1) * self.fixed.choices.len() + cell]
+        }
+    }
+
+    /// Adds the choices behind a channel for packets to another one.
+    fn put_row(&self, out: &mut Vec<u32, A>, to: usize, at: usize) -> Result<(), AllocError>
+        requires read { IsChoosingRead self.now }
+        requires begun { self.now.fixed.begun ≡ true }
+        requires at { at < length self.now.fixed.kinds.items }
+        ensures { OnOk result
+            (out.new.items ≡ out.old.items ++ choice_row (choosing_text_of self.now) to at) }
+    {
+        for place in 0..self.layers + 1 {
+            out.push(self.choice(to, at, place))?;
+        }
+        Ok(())
+    }
+
+    /// Adds the choices for packets to a channel.
+    fn put_block(&self, out: &mut Vec<u32, A>, to: usize) -> Result<(), AllocError>
+        requires read { IsChoosingRead self.now }
+        requires begun { self.now.fixed.begun ≡ true }
+        ensures { OnOk result
+            (out.new.items ≡ out.old.items ++ block_of (choosing_text_of self.now) to) }
+    {
+        for at in 0..self.fixed.kinds.len() {
+            self.put_row(out, to, at)?;
+        }
+        Ok(())
+    }
+
+    /// The choices: a block for each channel as destination, in it a row for each channel, and in it a
+    /// place for each choice.
+    ///
+    /// Errors: out of memory.
+    pub(crate) fn choices(&self, alloc: A) -> Result<Vec<u32, A>, AllocError>
+        requires read { IsChoosingRead self.now }
+        requires begun { self.now.fixed.begun ≡ true }
+        ensures { IfOk result (λ v. v.items ≡ choice_list (choosing_text_of self.now)) }
+    {
+        let mut out = Vec::new(alloc);
+        for to in 0..self.fixed.kinds.len() {
+            self.put_block(&mut out, to)?;
+        }
+        Ok(out)
+    }
+
+    /// Whether a channel is an escape.
+    fn is_made_escape(&self, channel: u32) -> bool
+        ensures { result ≡ is_made_escape self.now.escapes.items channel }
+    {
+        if self.escapes.is_empty() {
+            return true;
+        }
+        is_escape(&self.escapes, channel)
+    }
+
+    /// Flags of the escapes.
+    ///
+    /// Errors: out of memory.
+    pub(crate) fn escape_flags(&self, alloc: A) -> Result<Vec<bool, A>, AllocError>
+        requires read { IsChoosingRead self.now }
+        ensures { IfOk result (λ v. AreEscapesOf (choosing_text_of self.now) v.items) }
+    {
+        let mut flags = Vec::with_capacity(alloc, self.fixed.kinds.len())?;
+        for x in 0..self.fixed.kinds.len() {
+            flags.push(self.is_made_escape(x as u32))?;
+        }
+        Ok(flags)
+    }
+}
