@@ -11,7 +11,7 @@ use model_replies::read_values;
 use model_text::{LogReason, read_log};
 use network_rounds::TrafficSentence;
 use network_run::{RunSentence, replay_text};
-use network_text::{NetworkSentence, network_answer, read_network, routing_sentence};
+use network_text::{NetworkSentence, read_network, routing_sentence};
 use network_traffic::read_packets;
 use program_fault::{
     Kind, Names, ProgramFault, Texts, explain, explain_by, is_of_texts, named, told,
@@ -118,17 +118,6 @@ pub fn explain_simulation<R: Eprint + AllocGlobal>(
                 explain_by(rt, fault, sentence);
             }
         }
-    }
-}
-
-/// Says what the run uses by which a network deadlocks, where its verdict is that it does.
-pub fn explain_lock_up<R: Eprint + AllocGlobal>(rt: &R, network: &[u8]) {
-    if let Ok(answer) = network_answer(rt.alloc(), network)
-        && answer.text.ends_with(b"locks up\n")
-    {
-        let _ = eprintln!(rt;
-            "the run that deadlocks has packets of one flit, which senders put whenever they like, also on channels that answer"
-        );
     }
 }
 

@@ -3,6 +3,7 @@
 
 pub mod command;
 pub mod explaining;
+pub mod explaining_network;
 mod explaining_table;
 pub mod hints;
 pub mod json;
@@ -19,9 +20,10 @@ pub mod watched_table;
 
 pub use command::{Judged, linearize_text};
 pub use explaining::{
-    explain_lock_up, explain_models, explain_network, explain_no_order, explain_other_run,
-    explain_replay, explain_run_models, explain_simulation, explain_trace, explain_values,
+    explain_models, explain_network, explain_no_order, explain_other_run, explain_replay,
+    explain_run_models, explain_simulation, explain_trace, explain_values,
 };
+pub use explaining_network::explain_verdict;
 pub use hints::begins_table;
 pub use json::{Verdict, json_object, verdict_of_status};
 pub use model::{Modelled, is_report, judged_models_text, model_text, report_models_text};

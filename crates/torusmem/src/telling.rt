@@ -6,9 +6,9 @@ use crate::answering::Outcome;
 use command_jobs::{kind, names};
 use command_line::Job;
 use command_verdicts::{
-    Decided, Judged, Modelled, decided_status, explain_lock_up, explain_models, explain_network,
-    explain_no_order, explain_other_run, explain_replay, explain_run_models, explain_simulation,
-    explain_trace, explain_values, model_status, status, verdict_text,
+    Decided, Judged, Modelled, decided_status, explain_models, explain_network, explain_no_order,
+    explain_other_run, explain_replay, explain_run_models, explain_simulation, explain_trace,
+    explain_values, explain_verdict, model_status, status, verdict_text,
 };
 use model_answer::WrongSentence;
 use model_replies::{AlikeSentence, UnwrittenSentence};
@@ -92,7 +92,7 @@ pub(crate) fn status_told<R: Eprint>(rt: &R, outcome: &Outcome) -> u8 {
     outcome_status(outcome)
 }
 
-/// Says why a trace has no order from a line on, or what the run uses by which a network deadlocks,
+/// Says why a trace has no order from a line on, or why the verdict on a network is as it is,
 /// where that is the answer.
 pub(crate) fn explain_outcome<R: Eprint + AllocGlobal>(
     rt: &R,
@@ -100,8 +100,10 @@ pub(crate) fn explain_outcome<R: Eprint + AllocGlobal>(
     texts: &Texts,
     outcome: &Outcome,
 ) {
-    if let (Job::Network { .. } | Job::LockUp { .. }, Outcome::Sound(false)) = (*job, *outcome) {
-        explain_lock_up(rt, &texts.first);
+    if let (Job::Network { network } | Job::LockUp { network, .. }, Outcome::Sound(_)) = (
+        *job, *outcome,
+    ) {
+        explain_verdict(rt, network, &texts.first);
     }
     if let (Job::Linearize { trace, .. }, Outcome::Judged(judged, configurations)) = (
         *job, *outcome,
