@@ -1,5 +1,5 @@
 -- The command line is one of which clap says all.
-use Rattle.std.specs.Prelude.{◌≡◌, true, List, Option, Some, None, IfErr, IfOk, IfSome, Result, Ok, Err, codes, option_map}
+use Rattle.std.specs.Prelude.{◌≡◌, true, List, [], Option, Some, None, IfErr, IfOk, IfSome, Result, Ok, Err, option_map}
 use Rattle.std.proofs.Common.{refl, ap, sym, subst, ◌∙◌}
 use Rattle.clap.specs.Simple.{App, HasMatchesOf, is_simple, subcommand_of, subcommand_rows_of}
 use Rattle.clap.specs.Faults.{fault_of, is_simple_and_free}
@@ -65,3 +65,9 @@ pub fails_by_app : (made : Result ArgMatches Error) (a : App) (words : List Text
     → (is_simple_and_free a ≡ true → FailsBy (fault_of a words) made) → IfErr made (HasKind (fault_of torusmem_app words))
 fails_by_app (Ok m) a words e fails = tt
 fails_by_app (Err why) a words e fails = subst (λ b. is_simple_and_free b ≡ true → FailsBy {T = ArgMatches} (fault_of b words) (Err why)) e fails torusmem_is_free
+
+-- and where it doesn't fail, the parser finds no fault
+pub fits_app : (made : Result ArgMatches Error) (a : App) (words : List Text) → a ≡ torusmem_app
+    → (is_simple_and_free a ≡ true → FailsBy (fault_of a words) made) → IfOk made (λ _. fault_of torusmem_app words ≡ [])
+fits_app (Ok m) a words e fails = subst (λ b. is_simple_and_free b ≡ true → FailsBy {T = ArgMatches} (fault_of b words) (Ok m)) e fails torusmem_is_free
+fits_app (Err why) a words e fails = tt

@@ -1,5 +1,5 @@
 -- The table of the commands as text (this project's own format).
-use Rattle.std.specs.Prelude.{◌++◌, ℕ, List, codes, decimal, flat_map}
+use Rattle.std.specs.Prelude.{◌++◌, codes, decimal, flat_map}
 use Rattle.clap.specs.Words.{Text}
 use Rattle.command_line.specs.declared.words.WordKind.{WordKind}
 use Rattle.command_line.specs.declared.words.WordKind.TheVariants.{Flag, Path, Number, Long}

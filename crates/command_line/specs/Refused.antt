@@ -1,5 +1,5 @@
 -- Why the words of a command line name no job (this project's own format).
-use Rattle.std.specs.Prelude.{◌≡◌, ◌⊎◌, true, false, List, Option, Some, None, IfSome, codes, is_some}
+use Rattle.std.specs.Prelude.{◌≡◌, ◌⊎◌, true, false, List, [], Option, Some, None, IfSome, codes, is_some}
 use Rattle.std.specs.Prelude.{Result, Ok, Err}
 use Rattle.clap.specs.Words.{HasKind, Row, Text, all_of, fault_of, first_of}
 use Rattle.command_line.specs.declared.refused.Misuse.{Misuse}
@@ -51,11 +51,12 @@ TellsNoJob name rows (Options misuse) = (name ≡ Some (misused misuse))
     × IfSome rows (IsMisuse misuse)
 TellsNoJob name rows Missing = IfSome rows (NamesNothing name)
 
--- an error of the parser is one that it has at these words, or memory ran out; and what is wrong with
--- the values of a subcommand is so
+-- an error of the parser is one that it has at these words, or memory ran out; and where the parser
+-- finds no fault, what is wrong with the values of a subcommand is so
 abbrev pub TellsNoRequest : List Text → NoRequest → Type 0
 TellsNoRequest words (Parser error) = HasKind (fault_of torusmem_app words) error
-TellsNoRequest words (Values why) = TellsNoJob (name_by words) (rows_by words) why
+TellsNoRequest words (Values why) = (fault_of torusmem_app words ≡ [])
+    × TellsNoJob (name_by words) (rows_by words) why
 
 -- the sentence that says so
 abbrev pub misuse_text : Misuse → Text

@@ -1,4 +1,4 @@
-ghost use Rattle.std.specs.Prelude.{◌≡◌, ◌⊎◌, IfErr, IfOk, IfSome, None, Some, map, codes};
+ghost use Rattle.std.specs.Prelude.{◌≡◌, ◌⊎◌, [], IfErr, IfOk, IfSome, None, Some, map, codes};
 ghost use Rattle.clap.specs.Words.{HasKind, HasMatchesOf, fault_of, found_of, rows_of};
 ghost use Rattle.clap.specs.Words.{subcommand_name_of, subcommand_rows_of};
 ghost use Rattle.command_line.specs.CommandLine.{name_by, rows_by, torusmem_app};
@@ -228,6 +228,7 @@ pub fn read_request<'a, S: AsStr>(alloc: Global, words: &'a [S]) -> Result<Reque
 /// Errors: what it says of them, or that memory ran out.
 fn parsed<'a, S: AsStr>(alloc: Global, words: &'a [S]) -> Result<ArgMatches<'a>, Error>
     ensures matches { IfOk result (HasMatchesOf torusmem_app (map S.text words.entry.now)) }
+    ensures fits { IfOk result (λ _. fault_of torusmem_app (map S.text words.entry.now) ≡ []) }
     ensures parser { IfErr result
         (HasKind (fault_of torusmem_app (map S.text words.entry.now))) }
 {
