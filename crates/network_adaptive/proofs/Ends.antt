@@ -10,7 +10,8 @@ use Rattle.network_judge.specs.Marks.{is_marked_at}
 use Rattle.network_adaptive.specs.Spread.{Path, Stop, Go, choice_step}
 use Rattle.network_adaptive.specs.Edges.{AreSame}
 use Rattle.network_adaptive.specs.Flags.{IsEdgeOf, HasPut, IsWait, IsWaitOf, AreComes, ComesTo, IsBare, IsFirstBare, HasNoBare, IsBareTo, IsFirstBareTo, HasWaits}
-use Rattle.network_adaptive.proofs.Puts.{put_none, put_then, put_map, put_same, path_up, no_edge_of, within_edges}
+use Rattle.network_adaptive.proofs.Spreading.{path_up}
+use Rattle.network_adaptive.proofs.Puts.{put_none, put_then, put_map, put_same, no_edge_of, within_edges}
 use Rattle.network_adaptive.proofs.Bare.{escapes_from}
 use Rattle.network_adaptive.proofs.Ways.{step_parts}
 

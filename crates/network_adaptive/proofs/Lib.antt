@@ -1,7 +1,10 @@
 pub mod Flags
+pub mod Listed
+pub mod Spreading
 pub mod Begins
 pub mod Bare
 pub mod Puts
+pub mod Awaited
 pub mod Turned
 pub mod Ends
 pub mod Bridge

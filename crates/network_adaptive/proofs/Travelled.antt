@@ -21,7 +21,7 @@ use Rattle.network_adaptive.specs.Flags.{AreDown, AreComes, ComesTo}
 use Rattle.network_adaptive.specs.Longest.{ComesOver, BeginsThere, OneChoiceMore, IsLongestWay, AreFarthest, IsMostOf, PassesOver, StartsThere, OneStepMore, IsMostPassed}
 use Rattle.network_adaptive.specs.Travel.{ChoicesLead, Here, Onto, CanGoRound, IsTravel, chosen_at, is_taken, choice_graph, step_to, HasNumbersTo, GoesRoundAt, IsTravelOf}
 use Rattle.network_adaptive.proofs.Flags.{any_at, any_from, true_not, up_inside}
-use Rattle.network_adaptive.proofs.Puts.{path_up}
+use Rattle.network_adaptive.proofs.Spreading.{path_up}
 use Rattle.network_adaptive.proofs.Bridge.{step_goes, goes_step, to_comes, comes_to, is_adaptive}
 
 -- a choice leads to a channel

@@ -8,8 +8,9 @@ use Rattle.network_judge.specs.Marks.{is_marked_at}
 use Rattle.network_adaptive.specs.Spread.{Path, Stop, Go, names, opens, leads_on, choice_step}
 use Rattle.network_adaptive.specs.Flags.{AreBehind, AreComes}
 use Rattle.network_adaptive.specs.Between.{waits_at, IsWhether, IsChoiceBehind, LeadsToWait, StepsToward, HasStepToward, IsWayBetween, MayWaitTo}
-use Rattle.network_adaptive.proofs.Flags.{any_at, any_from, not_true, true_not, set_other, step_leads}
-use Rattle.network_adaptive.proofs.Puts.{path_up}
+use Rattle.network_adaptive.proofs.Flags.{any_at, any_from, not_true, true_not, set_other}
+use Rattle.network_adaptive.proofs.Spreading.{step_leads}
+use Rattle.network_adaptive.proofs.Spreading.{path_up}
 
 -- a path begins with a step, or goes nowhere
 pub path_first : (step : ℕ → ℕ → Bool) (x y : ℕ) → Path step x y → (x ≡ y) ⊎ ((z : ℕ) × (step x z ≡ true) × Path step z y)

@@ -10,7 +10,7 @@ use rising::chains::{Chains, chains_of};
 use rising::{Edge, Graph};
 use std::alloc::{AllocError, Allocator};
 
-/// Adds an edge, but not once more behind the same.
+/// Adds an edge, unless the last one is equal to it.
 ///
 /// Errors: out of memory.
 fn push_new<A: Allocator>(
@@ -70,7 +70,7 @@ fn turned<A: Allocator + Copy>(
     Ok(out)
 }
 
-/// The same edges, those from each node in the order of where they lead, none twice.
+/// A list of the edges that are given, those from each node in the order of where they lead, none twice.
 ///
 /// Errors: out of memory.
 pub fn distinct<A: Allocator + Copy>(
@@ -85,7 +85,7 @@ pub fn distinct<A: Allocator + Copy>(
     Ok(turned(alloc, nodes, &half)?)
 }
 
-/// The same edges; fewer where they are more than twice as many as were kept last.
+/// The edges that are given; none of them twice, where they are more than twice as many as were kept last.
 ///
 /// Errors: out of memory.
 pub fn thinned<A: Allocator + Copy>(

@@ -1,4 +1,4 @@
-use Rattle.network_adaptive.proofs.Flags.{AreListedSo}
+use Rattle.network_adaptive.proofs.Listed.{AreListedSo}
 use Rattle.network_adaptive.proofs.spread.list_of.Given as goal
 
 -- the flags so far are listed

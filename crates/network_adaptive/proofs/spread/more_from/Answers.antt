@@ -1,6 +1,6 @@
 use Rattle.std.proofs.Common.{◌≡◌, ℕ, ◌+◌, ◌*◌, ◌∙◌, ap, arith}
 use Rattle.std.specs.Prelude.{slice_index}
-use Rattle.network_adaptive.proofs.Flags.{raised_at, stayed_at}
+use Rattle.network_adaptive.proofs.Spreading.{raised_at, stayed_at}
 use Rattle.network_adaptive.proofs.spread.more_from.Goals as goal
 
 pub loop-k-preserved-then-seen-y : goal.loop-k-preserved-then-seen-y

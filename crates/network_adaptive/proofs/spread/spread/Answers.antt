@@ -1,6 +1,7 @@
 use Rattle.std.proofs.Common.{◌+◌, ◌<◌, ◌∙◌, length, sym, arith}
 use Rattle.std.proofs.lemmas.List.{get_or_read}
-use Rattle.network_adaptive.proofs.Flags.{listed_low, look_begin, look_more}
+use Rattle.network_adaptive.proofs.Listed.{listed_low}
+use Rattle.network_adaptive.proofs.Spreading.{look_begin, look_more}
 use Rattle.network_adaptive.proofs.spread.spread.Goals as goal
 
 pub steps-init : goal.steps-init

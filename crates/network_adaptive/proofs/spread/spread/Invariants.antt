@@ -1,6 +1,6 @@
 use Rattle.std.proofs.Common.{◌+◌, ◌-◌, length}
 use Rattle.network_adaptive.specs.Spread.{down}
-use Rattle.network_adaptive.proofs.Flags.{HasLooked}
+use Rattle.network_adaptive.proofs.Spreading.{HasLooked}
 use Rattle.network_adaptive.proofs.spread.spread.Given as goal
 
 -- the channels of the list so far are looked at

@@ -1,7 +1,7 @@
 use Rattle.std.proofs.Common.{◌≡◌, ◌+◌, ◌*◌, ◌∙◌, ◌<◌, ℕ, true, false, sym, ap, subst, arith}
 use Rattle.std.specs.Prelude.{slice_index}
 use Rattle.network_judge.specs.Marks.{is_marked_at}
-use Rattle.network_adaptive.proofs.Puts.{row_put, row_skip, row_end}
+use Rattle.network_adaptive.proofs.Awaited.{row_put, row_skip, row_end}
 use Rattle.network_adaptive.proofs.waits.row_from.Goals as goal
 
 pub loop-k-preserved-then-y-count : goal.loop-k-preserved-then-y-count

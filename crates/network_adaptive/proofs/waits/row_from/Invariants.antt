@@ -1,6 +1,6 @@
 use Rattle.std.proofs.Common.{◌+◌, ◌*◌}
 use Rattle.network_adaptive.specs.Flags.{HasPut}
-use Rattle.network_adaptive.proofs.Puts.{IsInRowSo}
+use Rattle.network_adaptive.proofs.Awaited.{IsInRowSo}
 use Rattle.network_adaptive.proofs.waits.row_from.Given as goal
 
 -- the choices so far

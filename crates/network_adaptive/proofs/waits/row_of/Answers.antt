@@ -1,6 +1,6 @@
 use Rattle.std.proofs.Common.{◌+◌, ◌∙◌, refl, sym, arith}
 use Rattle.std.specs.Prelude.{slice_index}
-use Rattle.network_adaptive.proofs.Puts.{rows_put, rows_skip, rows_end}
+use Rattle.network_adaptive.proofs.Awaited.{rows_put, rows_skip, rows_end}
 use Rattle.network_adaptive.proofs.waits.row_of.Goals as goal
 
 pub loop-k-preserved-then-not-goes_on : goal.loop-k-preserved-then-not-goes_on

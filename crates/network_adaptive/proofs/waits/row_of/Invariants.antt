@@ -1,5 +1,5 @@
 use Rattle.network_adaptive.specs.Flags.{HasPut}
-use Rattle.network_adaptive.proofs.Puts.{IsAwaitedSo}
+use Rattle.network_adaptive.proofs.Awaited.{IsAwaitedSo}
 use Rattle.network_adaptive.proofs.waits.row_of.Given as goal
 
 -- behind the channels so far

@@ -2,7 +2,7 @@ use Rattle.std.proofs.Common.{◌≡◌, ◌+◌, ◌<◌, ◌∙◌, ℕ, List,
 use Rattle.std.specs.Prelude.{slice_index}
 use Rattle.network_adaptive.specs.Flags.{HasPut, IsAwaited}
 use Rattle.network_adaptive.proofs.Flags.{up_inside}
-use Rattle.network_adaptive.proofs.Puts.{waits_put, waits_skip, waits_end}
+use Rattle.network_adaptive.proofs.Awaited.{waits_put, waits_skip, waits_end}
 use Rattle.network_adaptive.proofs.waits.rows_of.Goals as goal
 
 pub loop-e-preserved-then-not-seen-e : goal.loop-e-preserved-then-not-seen-e

@@ -1,5 +1,5 @@
 use Rattle.network_adaptive.specs.Flags.{HasPut}
-use Rattle.network_adaptive.proofs.Puts.{IsWaitSo}
+use Rattle.network_adaptive.proofs.Awaited.{IsWaitSo}
 use Rattle.network_adaptive.proofs.waits.rows_of.Given as goal
 
 -- what holds the channels so far
