@@ -1,8 +1,9 @@
 -- What the command that judges a network prints (this project's own format).
 use Rattle.std.specs.Prelude.{◌≡◌, List, ℕ, Bool, Result, Ok, Err}
-use Rattle.network_text.specs.declared.answer.Answer.{Answer}
+use Rattle.network_answer.specs.declared.answer.Answer.{Answer}
 use Rattle.network_text.specs.Network.{network_of}
-use Rattle.network_text.specs.Routing.{Routing, routing_of, TellsRouting}
+use Rattle.network_text.specs.Routing.{Routing, routing_of}
+use Rattle.network_answer.specs.Routing.{TellsRouting}
 use Rattle.program_fault.specs.declared.fault.ProgramFault.{ProgramFault}
 use Rattle.program_fault.specs.declared.fault.ProgramFault.TheVariants as program
 use Rattle.program_fault.specs.Done.{Does, Output}

@@ -1,7 +1,7 @@
 -- What the commands print that ask for a run of a network, or replay one (this project's own format).
 use Rattle.std.specs.Prelude.{◌≡◌, ◌⊎◌, List, ℕ, Bool, Result, Ok, Err}
 use Rattle.network_text.specs.Network.{NetworkSpec, network_of}
-use Rattle.network_text.specs.declared.answer.Answer.{Answer}
+use Rattle.network_answer.specs.declared.answer.Answer.{Answer}
 use Rattle.network_run.specs.declared.replaying.Replayed.{Replayed}
 use Rattle.network_run.specs.Answers.{IsRunFault, is_sound}
 use Rattle.network_run.specs.Printed.{TellsRunOrNoPair}

@@ -5,13 +5,12 @@ ghost use Rattle.network_text.specs.ChoosingRead.{IsChoosingRead};
 
 use network_adaptive::accepting::JudgedNet;
 use network_adaptive::{Dependency, How, NoEscape, Verdict as Chosen};
+use network_answer::verdict::next_place;
+use network_answer::{judge_network, judged_of};
 use network_judge::walk::kind_at;
 use network_judge::{By, Kind, Link, Verdict};
 use network_text::network::network_read;
-use network_text::verdict::next_place;
-use network_text::{
-    Choosing, Routers, Title, judge_network, judged_of, read_network_or_why, read_text_or_why,
-};
+use network_text::{Choosing, Routers, Title, read_network_or_why, read_text_or_why};
 use std::alloc::Global;
 
 /// A network, and its text as far as it has names.

@@ -4,7 +4,7 @@ ghost use Rattle.std.specs.Str.Lines.{lines};
 ghost use Rattle.program_fault.specs.Done.{output};
 ghost use Rattle.command_verdicts.specs.Printed.{PrintsNetwork};
 
-use network_text::routing_answer;
+use network_answer::routing_answer;
 use program_fault::ProgramFault;
 use report_lines::Out;
 use report_lines::output::put_all;

@@ -147,8 +147,8 @@ module _ (t : ChoiceTable) (none : List Bool) (down : AreDown none) (depth : ℕ
       inside j x (BeginsIn i joined) = slice_get_within t.kinds i Injection (shaped.senders i j joined)
       inside j x (ByChoice u v c s) = low_choice u j v s.chosen
 
-      end : (j x : ℕ) → Comes n j x → j < count
-      end j x (BeginsIn i joined) = slice_get_within t.kinds j Ejection (shaped.receivers i j joined)
+      end : (j x : ℕ) → Comes n j x → kind_of (table t) j ≡ Some Ejection
+      end j x (BeginsIn i joined) = shaped.receivers i j joined
       end j x (ByChoice u v c s) = end j u c
 
       written : (j x y : ℕ) → Comes n j x → IsChoice n j x y → IsWritten t x j y

@@ -1,13 +1,15 @@
 -- What packets of all destinations wait for.
-use Rattle.std.proofs.Common.{◌≡◌, inl, inr, ⊎_elim, ℕ, suc, ◌+◌, ◌*◌, ◌<◌, Bool, true, List, [], length, sym, subst, arith}
+use Rattle.std.proofs.Common.{◌≡◌, inl, inr, ⊎_elim, ℕ, suc, ◌+◌, ◌*◌, ◌<◌, Bool, true, false, Some, List, [], length, sym, ◌∙◌, ap, subst, arith}
+use Rattle.std.specs.Prelude.{slice_get}
 use Rattle.std.proofs.lemmas.Bool.{cases_lt}
 use Rattle.rising.specs.declared.edge.Edge.{Edge}
 use Rattle.rising.specs.Graph.{EdgesAreWithin}
 use Rattle.network_judge.specs.declared.table.Kind.{Kind}
 use Rattle.network_judge.specs.declared.table.Join.{Join}
-use Rattle.network_judge.specs.Table.{table_of, joins_of}
+use Rattle.network_judge.specs.declared.table.Kind.TheVariants.{Ejection}
+use Rattle.network_judge.specs.Table.{table_of, joins_of, is_receiver}
 use Rattle.network_judge.specs.Marks.{is_marked_at}
-use Rattle.network_adaptive.specs.Spread.{Path, Stop, Go, choice_step}
+use Rattle.network_adaptive.specs.Spread.{Path, Stop, Go, choice_step, block_base}
 use Rattle.network_adaptive.specs.Edges.{AreSame}
 use Rattle.network_adaptive.specs.Flags.{IsEdgeOf, HasPut, IsWait, IsWaitOf, AreComes, ComesTo, IsBare, IsFirstBare, HasNoBare, IsBareTo, IsFirstBareTo, HasWaits}
 use Rattle.network_adaptive.proofs.Spreading.{path_up}
@@ -17,7 +19,7 @@ use Rattle.network_adaptive.proofs.Ways.{step_parts}
 
 module _ (kinds : List Kind) (joins : List Join) (choices : List ℕ) (ways : ℕ) (marks none : List Bool) where
   abbrev base : ℕ → ℕ
-  base j = j * (length kinds * ways)
+  base j = block_base kinds ways j
 
   abbrev step : ℕ → ℕ → ℕ → Bool
   step j = choice_step kinds choices (base j) ways none
@@ -83,6 +85,38 @@ module _ (kinds : List Kind) (joins : List Join) (choices : List ℕ) (ways : �
     ];
   }
 
+  -- one destination more, whose block begins at b
+  pub so_more_at : (b j i : ℕ) (flags : List Bool) (mid new : List Edge) → b ≡ base j → i ≡ suc j → j < length kinds
+      → AreComes kinds joins (choice_step kinds choices b ways none) j flags
+      → HasNoBare kinds choices b ways marks flags → HasWaitsSo j mid
+      → HasPut (IsWait kinds choices b ways marks (λ x. is_marked_at flags x ≡ true)) mid new → HasWaitsSo i new
+  so_more_at b j i flags mid new is e low are clean h p = so_more j i flags mid new e low
+      (subst (λ z. AreComes kinds joins (choice_step kinds choices z ways none) j flags) is are)
+      (subst (λ z. HasNoBare kinds choices z ways marks flags) is clean) h
+      (subst (λ z. HasPut (IsWait kinds choices z ways marks (λ x. is_marked_at flags x ≡ true)) mid new) is p)
+
+  -- packets go to no other channel than an ejection channel
+  no_comes : ((i j : ℕ) → joins_of (table_of [] joins []) i j ≡ true → slice_get kinds j ≡ Some Ejection) → (j k x : ℕ)
+      → is_receiver (slice_get kinds j) ≡ false → k ≡ j → ComesTo joins (step k) k x → ⊥
+  no_comes receivers j k x other here c =
+      let bad : true ≡ false = sym (ap is_receiver (receivers c.0 k c.1)) ∙ (ap (λ z. is_receiver (slice_get kinds z)) here ∙ other) in
+      absurd (cc)
+
+  pub so_skip : ((i j : ℕ) → joins_of (table_of [] joins []) i j ≡ true → slice_get kinds j ≡ Some Ejection) → (j i : ℕ) (edges : List Edge) → i ≡ suc j
+      → is_receiver (slice_get kinds j) ≡ false → HasWaitsSo j edges → HasWaitsSo i edges
+  so_skip receivers j i edges e other h = record {
+    put = put_map (IsWaitOfSo j) (IsWaitOfSo i) [] edges (λ x y r. record { wait = r.wait; low = (let l = r.low in omega arith) })
+        (λ x y r. elim (cases_lt r.wait.to j) [
+          | inl less ↦ record { wait = r.wait; low = less }
+          | inr high ↦ (let l = r.low in absurd (no_comes receivers j r.wait.to x other (omega arith) r.wait.wait.comes))
+        ])
+        h.put;
+    clear = λ k x l b. elim (cases_lt k j) [
+      | inl less ↦ h.clear k x less b
+      | inr high ↦ absurd (no_comes receivers j k x other (omega arith) b.comes)
+    ];
+  }
+
   pub so_same : (k : ℕ) (edges other : List Edge) → AreSame edges other → HasWaitsSo k edges → HasWaitsSo k other
   so_same k edges other s h = record { put = put_same (IsWaitOfSo k) [] edges other h.put s; clear = h.clear }
 
@@ -93,6 +127,12 @@ module _ (kinds : List Kind) (joins : List Join) (choices : List ℕ) (ways : �
     before = λ i z l c. h.clear i z l c;
     beside = λ z l c. b.before z l (to_bare j z flags are c);
   }
+
+  pub so_first_at : (b j x : ℕ) (flags : List Bool) (mid : List Edge) → b ≡ base j → AreComes kinds joins (choice_step kinds choices b ways none) j flags
+      → IsFirstBare kinds choices b ways marks flags x → HasWaitsSo j mid → IsFirstBareTo kinds joins choices ways marks none j x
+  so_first_at b j x flags mid is are first h = so_first j x flags mid
+      (subst (λ z. AreComes kinds joins (choice_step kinds choices z ways none) j flags) is are)
+      (subst (λ z. IsFirstBare kinds choices z ways marks flags x) is first) h
 
   pub so_end : (i : ℕ) (edges : List Edge) → i ≡ length kinds → HasWaitsSo i edges → HasWaits kinds joins choices ways marks none edges
   so_end i edges e h = record {

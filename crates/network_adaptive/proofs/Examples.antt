@@ -14,22 +14,20 @@ use Rattle.network_adaptive.specs.Spread.{Stop, Go, names}
 use Rattle.network_adaptive.specs.Choosing.{ChoiceTable, table, base_of, chooses_of, IsWritten, IsShaped}
 use Rattle.network_adaptive.specs.Travel.{GoesRoundAt}
 
--- a block of rows for each destination; 4 is no channel, so no choice
+-- a block of rows for the one ejection channel; 4 is no channel, so no choice
 abbrev lists : ChoiceTable
 lists = record {
   kinds = Injection ∷ Hop ∷ Hop ∷ Ejection ∷ [];
   joins = record { from = 0; to = 3 } ∷ [];
   ways = 2;
-  choices =
-      4 ∷ 4 ∷ 4 ∷ 4 ∷ 4 ∷ 4 ∷ 4 ∷ 4 ∷ 4 ∷ 4 ∷ 4 ∷ 4 ∷ 4 ∷ 4 ∷ 4 ∷ 4 ∷ 4 ∷ 4 ∷ 4 ∷ 4 ∷ 4 ∷ 4 ∷ 4 ∷ 4
-      ∷ 1 ∷ 2 ∷ 3 ∷ 4 ∷ 4 ∷ 3 ∷ 4 ∷ 4 ∷ [];
+  choices = 1 ∷ 2 ∷ 3 ∷ 4 ∷ 4 ∷ 3 ∷ 4 ∷ 4 ∷ [];
   marks = true ∷ true ∷ false ∷ true ∷ [];
 }
 
--- the choices of the last block
+-- the choices of the block
 choices_are :
     (chooses_of lists 0 3 1 ≡ true) × (chooses_of lists 0 3 2 ≡ true) × (chooses_of lists 2 3 3 ≡ true)
-    × (chooses_of lists 1 3 2 ≡ false) × (chooses_of lists 0 2 1 ≡ false)
+    × (chooses_of lists 1 3 2 ≡ false) × (chooses_of lists 1 3 1 ≡ false)
 choices_are = (refl, refl, refl, refl, refl)
 
 -- a channel that packets to channel j must not go on to
@@ -40,14 +38,21 @@ off y j = is_sender (kind_of (table lists) y) || (is_receiver (kind_of (table li
 abbrev breaks : ℕ → ℕ → ℕ → Bool
 breaks x j y = chooses_of lists x j y && (x == y || off y j)
 
-none_breaks : any (λ x. any (λ j. any (λ y. breaks x j y) 4) 4) 4 ≡ false
+none_breaks : any (λ x. any (λ y. breaks x 3 y) 4) 4 ≡ false
 none_breaks = refl
+
+end_at : (j : ℕ) → kind_of (table lists) j ≡ Some Ejection → j ≡ 3
+end_at zero e = cc
+end_at (suc zero) e = cc
+end_at (suc (suc zero)) e = cc
+end_at (suc (suc (suc zero))) e = refl
+end_at (suc (suc (suc (suc x)))) e = (let low = slice_get_within lists.kinds (suc (suc (suc (suc x)))) Ejection e in absurd (omega (arith, low)))
 
 holds : (x j y : ℕ) → IsWritten lists x j y → breaks x j y ≡ true → ⊥
 holds x j y w b =
     let low : y < 4 = ltb-true y 4 (and_parts (nat_lt y 4) (names lists.choices (base_of lists j + x * 2) 2 y) w.2).0 in
-    let some = any_at (λ x. any (λ j. any (λ y. breaks x j y) 4) 4) 4 x w.0
-    (any_at (λ j. any (λ y. breaks x j y) 4) 4 j w.1 (any_at (λ y. breaks x j y) 4 y low b)) in
+    let some = any_at (λ x. any (λ y. breaks x 3 y) 4) 4 x w.0
+    (any_at (λ y. breaks x 3 y) 4 y low (subst (λ z. breaks x z y ≡ true) (end_at j w.1) b)) in
     let bad : true ≡ false = sym some ∙ none_breaks in
     absurd (cc)
 
@@ -75,7 +80,7 @@ marked x k e other = elim (marked_or_hop x (slice_get_within lists.kinds x k e))
 -- so the lists have the shape that the judge asks for
 shaped : IsShaped lists
 shaped = record {
-  full = (let same : 32 ≤ 32 = omega arith in same);
+  full = (let same : 8 ≤ 8 = omega arith in same);
   marks = refl;
   senders = λ i j e. subst (λ z. kind_of (table lists) z ≡ Some Injection) (sym (joined i j e).0) refl;
   receivers = λ i j e. subst (λ z. kind_of (table lists) z ≡ Some Ejection) (sym (joined i j e).1) refl;
@@ -94,9 +99,7 @@ shaped = record {
 
 -- with a choice from channel 1 to channel 2, and one back, packets to channel 3 can go round
 abbrev around : List ℕ
-around =
-    4 ∷ 4 ∷ 4 ∷ 4 ∷ 4 ∷ 4 ∷ 4 ∷ 4 ∷ 4 ∷ 4 ∷ 4 ∷ 4 ∷ 4 ∷ 4 ∷ 4 ∷ 4 ∷ 4 ∷ 4 ∷ 4 ∷ 4 ∷ 4 ∷ 4 ∷ 4 ∷ 4
-    ∷ 1 ∷ 2 ∷ 3 ∷ 2 ∷ 1 ∷ 3 ∷ 4 ∷ 4 ∷ []
+around = 1 ∷ 2 ∷ 3 ∷ 2 ∷ 1 ∷ 3 ∷ 4 ∷ 4 ∷ []
 
 packets_go_round : GoesRoundAt lists.kinds lists.joins around 2 [] 3 1
 packets_go_round = record { comes = (0, refl, Go 0 1 Stop refl); last = 2; way = Go 1 2 Stop refl; back = refl }

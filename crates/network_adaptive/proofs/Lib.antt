@@ -1,6 +1,7 @@
 pub mod Flags
 pub mod Listed
 pub mod Spreading
+pub mod Bases
 pub mod Begins
 pub mod Bare
 pub mod Puts
@@ -9,6 +10,7 @@ pub mod Turned
 pub mod Ends
 pub mod Bridge
 pub mod Circles
+pub mod Skipped
 pub mod Farthest
 pub mod Travelled
 pub mod Rising

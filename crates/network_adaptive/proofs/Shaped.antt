@@ -1,18 +1,21 @@
 -- Lists whose pairs and choices fit are of a network.
-use Rattle.std.proofs.Common.{◌≡◌, ◌≢◌, inl, inr, ℕ, ◌+◌, ◌*◌, ◌≤◌, ◌||◌, not, Bool, true, false, Option, Some, None, List, length, refl, sym, ◌∙◌, ap, subst, eq-eqb}
+use Rattle.std.proofs.Common.{◌≡◌, ◌≢◌, inl, inr, ℕ, suc, ◌+◌, ◌*◌, ◌≤◌, arith, ◌||◌, not, Bool, true, false, Option, Some, None, List, length, refl, sym, ◌∙◌, ap, subst, eq-eqb}
 use Rattle.std.specs.Prelude.{slice_get, slice_index, nat_lt, ◌==◌, if◌then◌else◌}
 use Rattle.std.proofs.lemmas.Bool.{cases_Bool, and_parts, eqb-true}
 use Rattle.network_judge.specs.declared.table.Kind.{Kind}
 use Rattle.network_judge.specs.declared.table.Kind.TheVariants.{Injection, Hop, Ejection}
 use Rattle.network_judge.specs.declared.table.Join.{Join}
 use Rattle.network_judge.specs.declared.table.Why.TheVariants.{NoSender, NoReceiver}
-use Rattle.network_judge.specs.Table.{is_sender, is_receiver}
+use Rattle.std.specs.List.{count_by}
+use Rattle.std.proofs.lemmas.Bool.{cases_lt}
+use Rattle.std.proofs.lemmas.Option.{slice_get_within}
+use Rattle.network_judge.specs.Table.{is_sender, is_receiver, ejects}
 use Rattle.network_judge.specs.Verdicts.{join_at}
 use Rattle.network_judge.proofs.Marking.{place_of}
 use Rattle.network_adaptive.specs.declared.shape.Misfit.TheVariants.{Itself, Ejects}
-use Rattle.network_adaptive.specs.Spread.{names}
+use Rattle.network_adaptive.specs.Spread.{names, block_base}
 use Rattle.network_adaptive.specs.Choosing.{ChoiceTable, table, base_of, IsWritten, IsShaped}
-use Rattle.network_adaptive.specs.Shape.{misfit_by_kind, misfit_of, ChoicesFit, PairsFit, pair_fault, EndsAreMarked}
+use Rattle.network_adaptive.specs.Shape.{misfit_by_kind, misfit_of, BlockFits, ChoicesFit, PairsFit, pair_fault, EndsAreMarked}
 use Rattle.network_adaptive.proofs.Flags.{any_from}
 
 sends : (k : Option Kind) → is_sender k ≡ true → k ≡ Some Injection
@@ -79,9 +82,9 @@ module _ (t : ChoiceTable) (fit : ChoicesFit t.kinds t.choices t.ways (length t.
       let b = and_parts (nat_lt y (length t.kinds)) (names t.choices (base_of t j + x * t.ways) t.ways y) w.2 in
       let k = any_from (λ k. slice_index t.choices (base_of t j + x * t.ways + k) == y) t.ways b.1 in
       let same : slice_index t.choices (base_of t j + x * t.ways + k.0) ≡ y = eqb-true (slice_index t.choices (base_of t j + x * t.ways + k.0)) y k.2 in
-      subst (λ z. misfit_of t.kinds x j z ≡ None) same (fit j w.1 x w.0 k.0 k.1)
+      subst (λ z. misfit_of t.kinds x j z ≡ None) same (fit j (slice_get_within t.kinds j Ejection w.1) w.1 x w.0 k.0 k.1)
 
-  pub shaped : length t.kinds * (length t.kinds * t.ways) ≤ length t.choices → length t.marks ≡ length t.kinds → EndsAreMarked t.kinds t.marks
+  pub shaped : count_by ejects t.kinds * (length t.kinds * t.ways) ≤ length t.choices → length t.marks ≡ length t.kinds → EndsAreMarked t.kinds t.marks
       → PairsFit t.kinds t.joins (length t.joins) → IsShaped t
   shaped full size ends pairs = record {
     full = full;
@@ -96,3 +99,14 @@ module _ (t : ChoiceTable) (fit : ChoicesFit t.kinds t.choices t.ways (length t.
     marked = λ x is. ends x (or_right (is_sender (slice_get t.kinds x)) (is_receiver (slice_get t.kinds x)) (ap is_receiver is));
     sends = λ x is. ends x (or_left (is_sender (slice_get t.kinds x)) (is_receiver (slice_get t.kinds x)) (ap is_sender is));
   }
+
+-- one block more
+pub fits_more : (kinds : List Kind) (choices : List ℕ) (ways m i : ℕ) → i ≡ suc m
+    → (slice_get kinds m ≡ Some Ejection → BlockFits kinds choices (block_base kinds ways m) ways m (length kinds))
+    → ChoicesFit kinds choices ways m → ChoicesFit kinds choices ways i
+fits_more kinds choices ways m i e here before j low kind = elim (cases_lt j m) [
+  | inl less ↦ before j less kind
+  | inr high ↦ (let same : m ≡ j = omega arith in
+      subst (λ z. BlockFits kinds choices (block_base kinds ways z) ways z (length kinds)) same
+      (here (ap (slice_get kinds) same ∙ kind)))
+]

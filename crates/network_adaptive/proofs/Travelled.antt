@@ -15,7 +15,7 @@ use Rattle.network_adaptive.specs.Choices.{AdaptiveNet, Comes, BeginsIn, ByChoic
 use Rattle.network_adaptive.specs.Work.{AreNearer}
 use Rattle.network_adaptive.specs.declared.verdict.Travel.{Travel}
 use Rattle.network_adaptive.specs.declared.verdict.Travel.TheVariants.{Bounded, Round}
-use Rattle.network_adaptive.specs.Spread.{Path, Stop, Go, names, opens, leads_on}
+use Rattle.network_adaptive.specs.Spread.{block_base, Path, Stop, Go, names, opens, leads_on}
 use Rattle.network_adaptive.specs.Choosing.{ChoiceTable, network, IsShaped}
 use Rattle.network_adaptive.specs.Flags.{AreDown, AreComes, ComesTo}
 use Rattle.network_adaptive.specs.Longest.{ComesOver, BeginsThere, OneChoiceMore, IsLongestWay, AreFarthest, IsMostOf, PassesOver, StartsThere, OneStepMore, IsMostPassed}
@@ -34,7 +34,7 @@ choices_within kinds choices base ways seen x k end leads =
 module _ (kinds : List Kind) (joins : List Join) (choices : List ℕ) (ways : ℕ) (none : List Bool) (down : AreDown none) (j : ℕ) (seen : List Bool)
     (are : AreComes kinds joins (step_to kinds choices ways none j) j seen) where
   abbrev base : ℕ
-  base = j * (length kinds * ways)
+  base = block_base kinds ways j
 
   abbrev graph : Digraph
   graph = choice_graph kinds choices base ways seen

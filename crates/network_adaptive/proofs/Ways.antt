@@ -1,11 +1,13 @@
 -- The ways between the channels of a cycle.
-use Rattle.std.proofs.Common.{◌≡◌, ◌≢◌, ◌⊎◌, inl, inr, ℕ, suc, ◌+◌, ◌*◌, ◌<◌, ◌&&◌, not, Bool, true, false, List, [], ◌∷◌, ◌++◌, length, set, refl, sym, ◌∙◌, ap, subst, arith, append_assoc}
-use Rattle.std.specs.Prelude.{nat_lt, slice_index, ◌==◌}
+use Rattle.std.proofs.Common.{◌≡◌, ◌≢◌, ◌⊎◌, inl, inr, ℕ, suc, ◌+◌, ◌*◌, ◌<◌, ◌&&◌, not, Bool, true, false, Some, List, [], ◌∷◌, ◌++◌, length, set, refl, sym, ◌∙◌, ap, subst, arith, append_assoc}
+use Rattle.std.specs.Prelude.{nat_lt, slice_get, slice_index, ◌==◌}
 use Rattle.std.proofs.lemmas.Bool.{cases_eq, cases_lt, cases_Bool, eqb-true, eq-eqb, ltb-true, lt-ltb, and_parts, and_from}
 use Rattle.network_judge.specs.declared.table.Kind.{Kind}
 use Rattle.network_judge.specs.declared.table.Join.{Join}
 use Rattle.network_judge.specs.Marks.{is_marked_at}
-use Rattle.network_adaptive.specs.Spread.{Path, Stop, Go, names, opens, leads_on, choice_step}
+use Rattle.network_judge.specs.declared.table.Kind.TheVariants.{Ejection}
+use Rattle.network_judge.specs.Table.{table_of, joins_of, is_receiver}
+use Rattle.network_adaptive.specs.Spread.{Path, Stop, Go, names, opens, leads_on, choice_step, block_base}
 use Rattle.network_adaptive.specs.Flags.{AreBehind, AreComes}
 use Rattle.network_adaptive.specs.Between.{waits_at, IsWhether, IsChoiceBehind, LeadsToWait, StepsToward, HasStepToward, IsWayBetween, MayWaitTo}
 use Rattle.network_adaptive.proofs.Flags.{any_at, any_from, not_true, true_not, set_other}
@@ -179,10 +181,19 @@ no_wait_more kinds joins choices ways marks none x y to m e here before j l = el
 
 -- those to a channel that they don't come to
 pub not_come : (kinds : List Kind) (joins : List Join) (choices : List ℕ) (ways : ℕ) (marks none seen : List Bool) (x y to : ℕ)
-    → AreComes kinds joins (choice_step kinds choices (to * (length kinds * ways)) ways none) to seen → is_marked_at seen x ≡ false
+    → AreComes kinds joins (choice_step kinds choices (block_base kinds ways to) ways none) to seen → is_marked_at seen x ≡ false
     → MayWaitTo kinds joins choices ways marks none to x y → ⊥
 not_come kinds joins choices ways marks none seen x y to are down w =
     let c = w.comes in
-    let up = path_up (choice_step kinds choices (to * (length kinds * ways)) ways none) seen c.0 x are.closed (are.begin c.0 c.1) c.2 in
+    let up = path_up (choice_step kinds choices (block_base kinds ways to) ways none) seen c.0 x are.closed (are.begin c.0 c.1) c.2 in
     let bad : true ≡ false = sym up ∙ down in
+    absurd (cc)
+
+-- those to a channel that is no ejection channel
+pub no_end : (kinds : List Kind) (joins : List Join) (choices : List ℕ) (ways : ℕ) (marks none : List Bool) (x y to : ℕ)
+    → ((i j : ℕ) → joins_of (table_of [] joins []) i j ≡ true → slice_get kinds j ≡ Some Ejection) → is_receiver (slice_get kinds to) ≡ false
+    → MayWaitTo kinds joins choices ways marks none to x y → ⊥
+no_end kinds joins choices ways marks none x y to receivers other w =
+    let c = w.comes in
+    let bad : true ≡ false = sym (ap is_receiver (receivers c.0 to c.1)) ∙ other in
     absurd (cc)

@@ -3,15 +3,16 @@ use Rattle.std.specs.Prelude.{◌≡◌, ◌≢◌, ℕ, ◌+◌, ◌*◌, ◌<�
 use Rattle.network_judge.specs.declared.table.Kind.{Kind}
 use Rattle.network_judge.specs.declared.table.Kind.TheVariants.{Injection, Ejection}
 use Rattle.network_judge.specs.declared.table.Join.{Join}
-use Rattle.network_judge.specs.Table.{Table, table_of, kind_of, joins_of, is_sender, is_receiver}
+use Rattle.network_judge.specs.Table.{Table, table_of, kind_of, joins_of, is_sender, is_receiver, ejects}
 use Rattle.network_judge.specs.TableNet.{Flits}
 use Rattle.network_judge.specs.Marks.{is_marked_at}
 use Rattle.network_adaptive.specs.Choices.{AdaptiveNet}
-use Rattle.network_adaptive.specs.Spread.{opens}
+use Rattle.network_adaptive.specs.Spread.{opens, block_base}
+use Rattle.std.specs.List.{count_by}
 
--- kinds and pairs as of any table; the choices have a block for each channel as destination, in
--- it a row for each channel, and in it so many places: a number that is no channel's is no
--- choice. And which channels are marked as escapes (this project's own format)
+-- kinds and pairs as of any table; the choices have a block for each ejection channel as
+-- destination, in channel order, in it a row for each channel, and in it so many places: a number
+-- that is no channel's is no choice. And which channels are marked as escapes (this project's own format)
 pub record ChoiceTable : Type 0 where
   pub kinds : List Kind
   pub joins : List Join
@@ -27,11 +28,11 @@ choosing_of kinds joins ways choices marks =
 abbrev pub table : ChoiceTable → Table
 table t = table_of t.kinds t.joins []
 
--- where the block of a destination begins
+-- where the block of an ejection channel begins
 abbrev pub base_of : ChoiceTable → ℕ → ℕ
-base_of t j = j * (length t.kinds * t.ways)
+base_of t j = block_base t.kinds t.ways j
 
--- whether channel y is chosen behind channel x for packets to channel j
+-- whether channel y is chosen behind channel x for packets to ejection channel j
 abbrev pub chooses_of : ChoiceTable → ℕ → ℕ → ℕ → Bool
 chooses_of t x j y = opens (length t.kinds) t.choices (base_of t j + x * t.ways) t.ways [] y
 
@@ -58,15 +59,15 @@ network t depth flits = record {
   marked = is_marked_at t.marks;
 }
 
--- behind channel x there is a choice for packets to channel j, both channels of the network
+-- behind channel x of the network there is a choice for packets to an ejection channel j of it
 abbrev pub IsWritten : ChoiceTable → ℕ → ℕ → ℕ → Type 0
 IsWritten t x j y =
-    (x < length t.kinds) × (j < length t.kinds) × (chooses_of t x j y ≡ true)
+    (x < length t.kinds) × (kind_of (table t) j ≡ Some Ejection) × (chooses_of t x j y ≡ true)
 
 -- what is asked of the lists: pairs and choices are between channels of the right kinds, and
 -- ejection and injection channels are marked
 pub record IsShaped (t : ChoiceTable) : Type 0 where
-  pub full : length t.kinds * (length t.kinds * t.ways) ≤ length t.choices
+  pub full : count_by ejects t.kinds * (length t.kinds * t.ways) ≤ length t.choices
   pub marks : length t.marks ≡ length t.kinds
   pub senders : (i j : ℕ) → joins_of (table t) i j ≡ true → kind_of (table t) i ≡ Some Injection
   pub receivers : (i j : ℕ) → joins_of (table t) i j ≡ true → kind_of (table t) j ≡ Some Ejection

@@ -7,7 +7,7 @@ use Rattle.network_judge.specs.declared.table.Kind.{Kind}
 use Rattle.network_judge.specs.declared.table.Join.{Join}
 use Rattle.network_judge.specs.Table.{table_of, joins_of}
 use Rattle.network_judge.specs.Marks.{is_marked_at}
-use Rattle.network_adaptive.specs.Spread.{Path, opens, leads_on, choice_step, AreClosed}
+use Rattle.network_adaptive.specs.Spread.{block_base, Path, opens, leads_on, choice_step, AreClosed}
 use Rattle.network_adaptive.specs.declared.waits.Waits.{Waits}
 use Rattle.network_adaptive.specs.declared.waits.Waits.TheVariants.{Bare, Edges}
 
@@ -110,16 +110,16 @@ pub record IsWaitOf (kinds : List Kind) (joins : List Join) (choices : List ℕ)
     (marks none : List Bool) (x y : ℕ) : Type 0 where
   pub to : ℕ
   pub low : to < length kinds
-  pub wait : IsWait kinds choices (to * (length kinds * ways)) ways marks
-      (ComesTo joins (choice_step kinds choices (to * (length kinds * ways)) ways none) to) x y
+  pub wait : IsWait kinds choices (block_base kinds ways to) ways marks
+      (ComesTo joins (choice_step kinds choices (block_base kinds ways to) ways none) to) x y
 
 -- a channel that packets to channel j come to and go on from, without a choice that is marked
 pub record IsBareTo (kinds : List Kind) (joins : List Join) (choices : List ℕ) (ways : ℕ)
     (marks none : List Bool) (j x : ℕ) : Type 0 where
-  pub comes : ComesTo joins (choice_step kinds choices (j * (length kinds * ways)) ways none) j x
+  pub comes : ComesTo joins (choice_step kinds choices (block_base kinds ways j) ways none) j x
   pub leads : leads_on kinds x ≡ true
   pub bare : (y : ℕ)
-      → escapes_to (length kinds) choices (j * (length kinds * ways) + x * ways) ways marks y
+      → escapes_to (length kinds) choices (block_base kinds ways j + x * ways) ways marks y
       ≡ false
 
 -- the first such, by destination and then by channel

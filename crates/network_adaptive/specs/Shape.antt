@@ -18,6 +18,7 @@ use Rattle.network_adaptive.specs.declared.accepting.JudgedNet.TheVariants.{Judg
 use Rattle.network_adaptive.specs.declared.shape.Misfit.{Misfit}
 use Rattle.network_adaptive.specs.declared.shape.Misfit.TheVariants.{Itself, Injects, Ejects}
 use Rattle.network_adaptive.specs.declared.shape.NoChoice as no_choice
+use Rattle.network_adaptive.specs.Spread.{block_base}
 use Rattle.network_adaptive.specs.Choosing.{ChoiceTable, IsShaped}
 use Rattle.network_adaptive.specs.Judged.{IsAdaptiveVerdict, Promises}
 
@@ -49,10 +50,10 @@ abbrev pub BlockFits : List Kind → List ℕ → ℕ → ℕ → ℕ → ℕ �
 BlockFits kinds choices base ways j m =
     (z : ℕ) → z < m → RowFits kinds choices base ways z j ways
 
--- the first m blocks have no choice that doesn't fit
+-- the blocks of the ejection channels below m have no choice that doesn't fit
 abbrev pub ChoicesFit : List Kind → List ℕ → ℕ → ℕ → Type 0
 ChoicesFit kinds choices ways m =
-    (i : ℕ) → i < m → BlockFits kinds choices (i * (length kinds * ways)) ways i (length kinds)
+    (i : ℕ) → i < m → slice_get kinds i ≡ Some Ejection → BlockFits kinds choices (block_base kinds ways i) ways i (length kinds)
 
 -- the first such choice of a row
 pub record IsMisfitInRow (kinds : List Kind) (choices : List ℕ) (base ways x j : ℕ)
@@ -75,8 +76,8 @@ pub record IsMisfitInBlock (kinds : List Kind) (choices : List ℕ) (base ways j
 -- the first of all, by destination, then by channel, then by place
 pub record IsFirstMisfit (kinds : List Kind) (choices : List ℕ) (ways : ℕ) (c : no_choice.NoChoice)
     : Type 0 where
-  pub to : c.to < length kinds
-  pub in_block : IsMisfitInBlock kinds choices (c.to * (length kinds * ways)) ways c.to c
+  pub to : slice_get kinds c.to ≡ Some Ejection
+  pub in_block : IsMisfitInBlock kinds choices (block_base kinds ways c.to) ways c.to c
   pub before : ChoicesFit kinds choices ways c.to
 
 -- why no packets can go from the source to the destination of a pair, if so

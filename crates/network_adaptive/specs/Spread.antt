@@ -1,15 +1,19 @@
 -- Flags that spread over steps from channel to channel.
 use Rattle.std.specs.Prelude.{◌≡◌, ◌⊎◌, ℕ, ◌+◌, ◌*◌, ◌<◌, ◌≤◌, zero, suc, ◌==◌, nat_lt, ◌&&◌, ◌||◌, not, Bool, true, false, List, length}
-use Rattle.std.specs.Prelude.{slice_get, slice_index}
+use Rattle.std.specs.Prelude.{slice_get, slice_index, take}
 use Rattle.std.specs.List.{count_by}
 use Rattle.network_judge.specs.declared.table.Kind.{Kind}
-use Rattle.network_judge.specs.Table.{is_receiver}
+use Rattle.network_judge.specs.Table.{is_receiver, ejects}
 use Rattle.network_judge.specs.Marks.{is_marked_at}
 
 -- steps that lead from x to a number
 pub data Path (step : ℕ → ℕ → Bool) (x : ℕ) : ℕ → Type 0 where
   Stop : Path step x x
   Go : (y z : ℕ) → Path step x y → step y z ≡ true → Path step x z
+
+-- where the block of an ejection channel begins: one for each, in channel order
+abbrev pub block_base : List Kind → ℕ → ℕ → ℕ
+block_base kinds ways j = count_by ejects (take j kinds) * (length kinds * ways)
 
 -- whether a test passes below n
 abbrev pub any_below : (ℕ → Bool) → ℕ → Bool

@@ -8,7 +8,7 @@ use Rattle.network_adaptive.specs.Choices.{AdaptiveNet, Comes, IsChoice}
 use Rattle.network_adaptive.specs.Work.{AreNearer}
 use Rattle.network_adaptive.specs.declared.verdict.Travel.{Travel}
 use Rattle.network_adaptive.specs.declared.verdict.Travel.TheVariants.{Bounded, Round}
-use Rattle.network_adaptive.specs.Spread.{Path, leads_on, choice_step}
+use Rattle.network_adaptive.specs.Spread.{block_base, Path, leads_on, choice_step}
 use Rattle.network_adaptive.specs.Flags.{ComesTo}
 use Rattle.network_adaptive.specs.Longest.{IsLongestWay, IsMostPassed}
 
@@ -56,7 +56,7 @@ choice_graph kinds choices base ways seen = record {
 -- the steps of packets to channel j
 abbrev pub step_to : List Kind → List ℕ → ℕ → List Bool → ℕ → ℕ → ℕ → Bool
 step_to kinds choices ways none j =
-    choice_step kinds choices (j * (length kinds * ways)) ways none
+    choice_step kinds choices (block_base kinds ways j) ways none
 
 -- numbers below the number of channels rise over each step of packets to channel j
 pub record HasNumbersTo (kinds : List Kind) (joins : List Join) (choices : List ℕ) (ways : ℕ)

@@ -1,6 +1,8 @@
 //! The judgement of any lists: those of a network, and others.
 
 ghost use Rattle.std.specs.Prelude.{◌≡◌, ◌+◌, ◌*◌, ◌<◌, ◌≤◌, ◌^◌, ℕ, length, IfOk, MatchOption};
+ghost use Rattle.std.specs.List.{count_by};
+ghost use Rattle.network_judge.specs.Table.{ejects};
 ghost use Rattle.network_judge.specs.Replies.{AreReplies};
 ghost use Rattle.network_adaptive.specs.Choosing.{choosing_of, table};
 ghost use Rattle.network_adaptive.specs.Shape.{pair_fault, PairsFit, IsFirstWrongPair, AreMarksOf};
@@ -84,14 +86,11 @@ pub fn judge_lists<A: Allocator + Copy>(
     choices: &[u32],
     marks: &[bool],
 ) -> Result<JudgedNet<A>, AllocError>
-    requires full { length kinds.now * (length kinds.now * ways) ≤ length choices.now }
+    requires full { count_by ejects kinds.now * (length kinds.now * ways) ≤ length choices.now }
     requires marks { length marks.now ≡ length kinds.now }
     requires ends { EndsAreMarked kinds.now marks.now }
     requires replies { AreReplies
         (table (choosing_of kinds.now joins.now ways choices.now marks.now)) replies.now }
-    requires small { length kinds.now ≤ 2 ^ 32 }
-    requires square { length kinds.now * length kinds.now < 2 ^ 64 }
-    requires room { length kinds.now + length replies.now < 2 ^ 64 }
     ensures { IfOk result (IsJudgedNet
         (choosing_of kinds.now joins.now ways choices.now marks.now) replies.now) }
 {

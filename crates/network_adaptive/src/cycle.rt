@@ -1,7 +1,9 @@
 //! The dependencies of a cycle: each channel, and how it leads on to the next.
 
-ghost use Rattle.std.specs.Prelude.{◌≡◌, ◌+◌, ◌*◌, ◌^◌, ◌<◌, ◌≤◌, ℕ, true, [], length, IfOk};
-ghost use Rattle.network_judge.specs.Table.{table_of, joins_of};
+ghost use Rattle.std.specs.Prelude.{◌≡◌, ◌+◌, ◌*◌, ◌^◌, ◌<◌, ◌≤◌, ℕ, true, [], length, IfOk, slice_get, Some};
+ghost use Rattle.network_judge.specs.Table.{table_of, joins_of, ejects};
+ghost use Rattle.std.specs.List.{count_by};
+ghost use Rattle.network_judge.specs.declared.table.Kind.TheVariants.{Ejection};
 ghost use Rattle.rising.specs.Search.{path_look};
 ghost use Rattle.network_adaptive.specs.Flags.{AreDown};
 ghost use Rattle.network_adaptive.specs.Between.{MayWait, IsHowOver, IsWaitingLook, IsHow};
@@ -9,7 +11,9 @@ ghost use Rattle.network_adaptive.specs.Between.{IsDependencyOf, AreDependencies
 
 use crate::between::{leads_to_wait, way_between};
 use crate::comes::comes_to;
+use crate::spread::base_of;
 use crate::verdict::{Dependency, How};
+use network_judge::walk::{is_receiver, kind_at};
 use network_judge::{Join, Kind, Reply};
 use rising::{Edge, Look};
 use std::alloc::{AllocError, Allocator};
@@ -29,18 +33,22 @@ fn how_it_waits<A: Allocator + Copy>(
     x: usize,
     y: usize,
 ) -> Result<How<A>, AllocError>
-    requires room { length kinds.now * (length kinds.now * ways) ≤ length choices.now }
+    requires room { count_by ejects kinds.now * (length kinds.now * ways) ≤ length choices.now }
     requires marks { length marks.now ≡ length kinds.now }
     requires none { length none.now ≡ length kinds.now }
     requires within { (i j : ℕ) → joins_of (table_of [] joins.now []) i j ≡ true
         → i < length kinds.now }
+    requires receivers { (i j : ℕ) → joins_of (table_of [] joins.now []) i j ≡ true
+        → slice_get kinds.now j ≡ Some Ejection }
     requires x { x < length kinds.now }
     requires waits { MayWait kinds.now joins.now choices.now ways marks.now none.now x y }
     ensures { IfOk result (IsHowOver kinds.now joins.now choices.now ways marks.now none.now x y) }
 {
-    let block = kinds.len() * ways;
     for to in 0..kinds.len() {
-        let base = to * block;
+        if !is_receiver(kind_at(kinds, to)) {
+            continue;
+        }
+        let base = base_of(kinds, ways, to);
         let seen = comes_to(alloc, kinds, joins, choices, base, ways, none, to)?;
         if !seen[x] {
             continue;
@@ -69,11 +77,13 @@ fn dependency_of<A: Allocator + Copy>(
     waits: &[Edge],
     look: Look,
 ) -> Result<Dependency<A>, AllocError>
-    requires room { length kinds.now * (length kinds.now * ways) ≤ length choices.now }
+    requires room { count_by ejects kinds.now * (length kinds.now * ways) ≤ length choices.now }
     requires marks { length marks.now ≡ length kinds.now }
     requires none { length none.now ≡ length kinds.now }
     requires within { (i j : ℕ) → joins_of (table_of [] joins.now []) i j ≡ true
         → i < length kinds.now }
+    requires receivers { (i j : ℕ) → joins_of (table_of [] joins.now []) i j ≡ true
+        → slice_get kinds.now j ≡ Some Ejection }
     requires look { IsWaitingLook kinds.now joins.now replies.now choices.now ways marks.now
         none.now waits.now look }
     ensures { IfOk result (IsDependencyOf kinds.now joins.now replies.now choices.now ways
@@ -118,11 +128,13 @@ pub fn dependencies_of<A: Allocator + Copy>(
     waits: &[Edge],
     looks: &[Look],
 ) -> Result<Vec<Dependency<A>, A>, AllocError>
-    requires room { length kinds.now * (length kinds.now * ways) ≤ length choices.now }
+    requires room { count_by ejects kinds.now * (length kinds.now * ways) ≤ length choices.now }
     requires marks { length marks.now ≡ length kinds.now }
     requires none { length none.now ≡ length kinds.now }
     requires within { (i j : ℕ) → joins_of (table_of [] joins.now []) i j ≡ true
         → i < length kinds.now }
+    requires receivers { (i j : ℕ) → joins_of (table_of [] joins.now []) i j ≡ true
+        → slice_get kinds.now j ≡ Some Ejection }
     requires looks { (k : ℕ) → k < length looks.now
         → IsWaitingLook kinds.now joins.now replies.now choices.now ways marks.now none.now
         waits.now (path_look looks.now k) }

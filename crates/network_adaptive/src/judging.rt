@@ -55,8 +55,9 @@ fn judge_waits<A: Allocator + Copy>(
 
 /// Judges a network by its lists: the kind of each channel, the source-destination pairs that packets go
 /// between, on which injection channels packets from an ejection channel are answered, the routers'
-/// choices, and which channels are escapes. The choices have a block for each channel as destination, in it
-/// a row for each channel, and in it so many places: a number that is no channel's is no choice.
+/// choices, and which channels are escapes. The choices have a block for each ejection channel as destination,
+/// in channel order, in it a row for each channel, and in it so many places: a number that is no channel's
+/// is no choice.
 ///
 /// Errors: out of memory, and no other.
 pub fn judge<A: Allocator + Copy>(
@@ -71,9 +72,6 @@ pub fn judge<A: Allocator + Copy>(
     requires shaped { IsShaped (choosing_of kinds.now joins.now ways choices.now marks.now) }
     requires replies { AreReplies
         (table (choosing_of kinds.now joins.now ways choices.now marks.now)) replies.now }
-    requires small { length kinds.now ≤ 2 ^ 32 }
-    requires square { length kinds.now * length kinds.now < 2 ^ 64 }
-    requires room { length kinds.now + length replies.now < 2 ^ 64 }
     ensures { IfOk result (IsAdaptiveVerdict
         (choosing_of kinds.now joins.now ways choices.now marks.now) replies.now) }
 {

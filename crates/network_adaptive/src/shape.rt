@@ -1,12 +1,15 @@
 //! Choices that can't stand in a table.
 
 ghost use Rattle.std.specs.Prelude.{◌≡◌, ◌+◌, ◌*◌, ◌<◌, ◌≤◌, ℕ, length, MatchOption};
+ghost use Rattle.std.specs.List.{count_by};
+ghost use Rattle.network_judge.specs.Table.{ejects};
 ghost use Rattle.network_adaptive.specs.Shape.{misfit_by_kind, misfit_of, RowFits, BlockFits};
 ghost use Rattle.network_adaptive.specs.Shape.{ChoicesFit, IsMisfitInRow, IsMisfitInBlock};
 ghost use Rattle.network_adaptive.specs.Shape.{IsFirstMisfit};
 
+use crate::spread::base_of;
 use network_judge::Kind;
-use network_judge::walk::{cell, kind_at};
+use network_judge::walk::{cell, is_receiver, kind_at};
 
 /// Why a channel is no choice behind another one.
 #[derive(Clone, Copy)]
@@ -107,13 +110,16 @@ fn misfit_in_block(
 
 /// The first choice that can't stand: by destination, then by channel, then by place.
 pub fn first_misfit(kinds: &[Kind], choices: &[u32], ways: usize) -> Option<NoChoice>
-    requires room { length kinds.now * (length kinds.now * ways) ≤ length choices.now }
+    requires room { count_by ejects kinds.now * (length kinds.now * ways) ≤ length choices.now }
     ensures { MatchOption result (ChoicesFit kinds.now choices.now ways (length kinds.now))
         (IsFirstMisfit kinds.now choices.now ways) }
 {
-    let block = kinds.len() * ways;
     for to in 0..kinds.len() {
-        match misfit_in_block(kinds, choices, to * block, ways, to) {
+        if !is_receiver(kind_at(kinds, to)) {
+            continue;
+        }
+        let base = base_of(kinds, ways, to);
+        match misfit_in_block(kinds, choices, base, ways, to) {
             None => {}
             Some(found) => return Some(found),
         }

@@ -1,7 +1,10 @@
 //! Flags that spread over the routers' choices.
 
-ghost use Rattle.std.specs.Prelude.{◌≡◌, ◌+◌, ◌*◌, ◌<◌, ◌≤◌, length, IfOk, OnOk};
-ghost use Rattle.network_adaptive.specs.Spread.{leads_on, opens, choice_step, HasMore, AreFlagsOf};
+ghost use Rattle.std.specs.Prelude.{◌≡◌, ◌+◌, ◌*◌, ◌^◌, ◌<◌, ◌≤◌, length, slice_get, Some, IfOk, OnOk};
+ghost use Rattle.std.specs.List.{count_by};
+ghost use Rattle.network_judge.specs.Table.{ejects};
+ghost use Rattle.network_judge.specs.declared.table.Kind.TheVariants.{Ejection};
+ghost use Rattle.network_adaptive.specs.Spread.{block_base, leads_on, opens, choice_step, HasMore, AreFlagsOf};
 ghost use Rattle.network_adaptive.specs.Spread.{HasSpread};
 
 use network_judge::Kind;
@@ -18,6 +21,24 @@ pub fn goes_on(kinds: &[Kind], x: usize) -> bool
         Kind::Hop => true,
         Kind::Ejection => false,
     }
+}
+
+/// Where the block of an ejection channel begins: one for each, in channel order.
+pub fn base_of(kinds: &[Kind], ways: usize, to: usize) -> usize
+    requires to { slice_get kinds.now to ≡ Some Ejection }
+    requires room { count_by ejects kinds.now * (length kinds.now * ways) < 2 ^ 64 }
+    ensures value { result ≡ block_base kinds.now ways to }
+    ensures room { result + length kinds.now * ways
+        ≤ count_by ejects kinds.now * (length kinds.now * ways) }
+{
+    let mut before = 0;
+    for x in 0..to {
+        if goes_on(kinds, x) {
+            continue;
+        }
+        before += 1;
+    }
+    before * (kinds.len() * ways)
 }
 
 /// Lists the channels whose flags are up.

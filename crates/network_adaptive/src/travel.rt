@@ -1,14 +1,18 @@
 //! How far packets can go: whether the choices for some destination lead around.
 
-ghost use Rattle.std.specs.Prelude.{◌≡◌, ◌+◌, ◌*◌, ◌^◌, ◌<◌, ◌≤◌, ℕ, true, [], length, IfOk};
-ghost use Rattle.network_judge.specs.Table.{table_of, joins_of};
+ghost use Rattle.std.specs.Prelude.{◌≡◌, ◌+◌, ◌*◌, ◌^◌, ◌<◌, ◌≤◌, ℕ, true, [], length, IfOk, slice_get, Some};
+ghost use Rattle.network_judge.specs.Table.{table_of, joins_of, ejects};
+ghost use Rattle.std.specs.List.{count_by};
+ghost use Rattle.network_judge.specs.declared.table.Kind.TheVariants.{Ejection};
 ghost use Rattle.network_adaptive.specs.Flags.{AreDown};
 ghost use Rattle.network_adaptive.specs.Travel.{IsTravelOf};
 
 use crate::choices::Choices;
 use crate::comes::comes_to;
 use crate::longest::{farthest, most_from};
+use crate::spread::base_of;
 use crate::verdict::{Round, Travel};
+use network_judge::walk::{is_receiver, kind_at};
 use network_judge::{Join, Kind};
 use rising::{Searched, find};
 use std::alloc::{AllocError, Allocator};
@@ -25,17 +29,21 @@ pub fn travel_of<A: Allocator + Copy>(
     ways: usize,
     none: &[bool],
 ) -> Result<Travel, AllocError>
-    requires room { length kinds.now * (length kinds.now * ways) ≤ length choices.now }
+    requires room { count_by ejects kinds.now * (length kinds.now * ways) ≤ length choices.now }
     requires none { length none.now ≡ length kinds.now }
     requires down { AreDown none.now }
     requires within { (i j : ℕ) → joins_of (table_of [] joins.now []) i j ≡ true
         → i < length kinds.now }
+    requires receivers { (i j : ℕ) → joins_of (table_of [] joins.now []) i j ≡ true
+        → slice_get kinds.now j ≡ Some Ejection }
     ensures { IfOk result (IsTravelOf kinds.now joins.now choices.now ways none.now) }
 {
-    let block = kinds.len() * ways;
     let mut most = 0;
     for to in 0..kinds.len() {
-        let base = to * block;
+        if !is_receiver(kind_at(kinds, to)) {
+            continue;
+        }
+        let base = base_of(kinds, ways, to);
         let seen = comes_to(alloc, kinds, joins, choices, base, ways, none, to)?;
         let graph = Choices {
             kinds,

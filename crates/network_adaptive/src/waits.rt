@@ -1,15 +1,17 @@
 //! What packets wait for: a list of edges.
 
-ghost use Rattle.std.specs.Prelude.{◌≡◌, ◌+◌, ◌*◌, ◌<◌, ◌≤◌, ℕ, true, [], length, slice_index, IfOk, OnOk};
-ghost use Rattle.network_judge.specs.Table.{table_of, joins_of};
+ghost use Rattle.std.specs.Prelude.{◌≡◌, ◌+◌, ◌*◌, ◌<◌, ◌≤◌, ℕ, true, [], length, slice_index, IfOk, OnOk, slice_get, Some};
+ghost use Rattle.network_judge.specs.Table.{table_of, joins_of, ejects};
+ghost use Rattle.std.specs.List.{count_by};
+ghost use Rattle.network_judge.specs.declared.table.Kind.TheVariants.{Ejection};
 ghost use Rattle.network_judge.specs.Marks.{is_marked_at};
 ghost use Rattle.network_adaptive.specs.Flags.{HasPut, IsAwaited, IsWait, escapes_to, AreWaits};
 
 use crate::comes::{behind, comes_to, first_bare};
 use crate::edges::{distinct, thinned};
-use crate::spread::goes_on;
+use crate::spread::{base_of, goes_on};
 use crate::verdict::NoEscape;
-use network_judge::walk::cell;
+use network_judge::walk::{cell, is_receiver, kind_at};
 use network_judge::{Join, Kind};
 use rising::Edge;
 use std::alloc::{AllocError, Allocator, Global};
@@ -130,18 +132,22 @@ pub fn waits_of<A: Allocator + Copy>(
     marks: &[bool],
     none: &[bool],
 ) -> Result<Waits<A>, AllocError>
-    requires room { length kinds.now * (length kinds.now * ways) ≤ length choices.now }
+    requires room { count_by ejects kinds.now * (length kinds.now * ways) ≤ length choices.now }
     requires marks { length marks.now ≡ length kinds.now }
     requires none { length none.now ≡ length kinds.now }
     requires within { (i j : ℕ) → joins_of (table_of [] joins.now []) i j ≡ true
         → i < length kinds.now }
+    requires receivers { (i j : ℕ) → joins_of (table_of [] joins.now []) i j ≡ true
+        → slice_get kinds.now j ≡ Some Ejection }
     ensures { IfOk result (AreWaits kinds.now joins.now choices.now ways marks.now none.now) }
 {
-    let block = kinds.len() * ways;
     let mut edges = Vec::new(alloc);
     let mut kept = kinds.len();
     for to in 0..kinds.len() {
-        let base = to * block;
+        if !is_receiver(kind_at(kinds, to)) {
+            continue;
+        }
+        let base = base_of(kinds, ways, to);
         let seen = comes_to(alloc, kinds, joins, choices, base, ways, none, to)?;
         match first_bare(kinds, choices, base, ways, marks, &seen) {
             Some(at) => return Ok(Waits::Bare(NoEscape { to, at })),

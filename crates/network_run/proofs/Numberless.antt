@@ -10,7 +10,7 @@ use Rattle.network_judge.specs.TableNet.{Flits, table_network}
 use Rattle.network_judge.specs.Receivers.{GoesWhere, CanBeTaken}
 use Rattle.network_judge.specs.LockUps.{IsLockUp}
 use Rattle.network_text.specs.Network.{NetworkSpec}
-use Rattle.network_text.specs.Answer.{NeverLocksUp}
+use Rattle.network_answer.specs.Answer.{NeverLocksUp}
 
 module _ (t : Table) (depth : ℕ) (flits : Flits) (number other : ℕ → ℕ) (top bound : ℕ) where
   -- the network with the one numbering, and with the other

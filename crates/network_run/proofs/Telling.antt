@@ -5,8 +5,8 @@ use Rattle.network_judge.specs.declared.table.Verdict.{Verdict}
 use Rattle.network_judge.specs.declared.table.Verdict.TheVariants.{Rising, NoRoute, Cycle}
 use Rattle.network_judge.specs.Verdicts.{IsVerdict}
 use Rattle.network_text.specs.Network.{NetworkSpec}
-use Rattle.network_text.specs.Answer.{is_rising}
-use Rattle.network_text.specs.declared.answer.Answer.{Answer}
+use Rattle.network_answer.specs.Answer.{is_rising}
+use Rattle.network_answer.specs.declared.answer.Answer.{Answer}
 use Rattle.network_machine.specs.declared.moves.Move.{Move}
 use Rattle.network_run.specs.Printed.{IsLockingRun, FindsRun, IsOfCycle, IsOfVerdict, AnswersRun}
 use Rattle.network_run.specs.Written.{moves_text}

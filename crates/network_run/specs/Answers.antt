@@ -5,7 +5,7 @@ use Rattle.lexer.specs.declared.refusal.Refusal.{Refusal}
 use Rattle.script.specs.declared.fault.LineFault.{LineFault}
 use Rattle.script.specs.Outcome.{fault_of_refusal}
 use Rattle.network_text.specs.Network.{NetworkSpec, network_of}
-use Rattle.network_text.specs.declared.answer.Answer.{Answer}
+use Rattle.network_answer.specs.declared.answer.Answer.{Answer}
 use Rattle.network_machine.specs.declared.moves.Ending.TheVariants as ending
 use Rattle.network_run.specs.declared.answering.ReplayAnswer.{ReplayAnswer}
 use Rattle.network_run.specs.declared.reason.RunReason.{RunReason}

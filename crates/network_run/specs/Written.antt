@@ -5,7 +5,8 @@ use Rattle.network_machine.specs.declared.moves.Move.TheVariants.{Send, More, Ta
 use Rattle.network_machine.specs.declared.moves.Move.TheVariants.{Credit}
 use Rattle.network_machine.specs.declared.moves.Ending.{Ending}
 use Rattle.network_machine.specs.declared.moves.Ending.TheVariants as ending
-use Rattle.network_text.specs.Answer.{first_lines, no_route_line}
+use Rattle.network_text.specs.Lines.{first_lines}
+use Rattle.network_answer.specs.Answer.{no_route_line}
 use Rattle.network_run.specs.declared.replaying.Replayed.{Replayed}
 use Rattle.network_run.specs.declared.replaying.Replayed.TheVariants as replayed
 

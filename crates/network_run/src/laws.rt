@@ -7,7 +7,7 @@ ghost use Rattle.network_judge.specs.LockUps.{IsLockUp, LocksUp, plain_format};
 ghost use Rattle.network_judge.specs.Table.{Table};
 ghost use Rattle.network_judge.specs.TableNet.{Flits, table_network};
 ghost use Rattle.network_machine.specs.declared.moves.Move.{Move};
-ghost use Rattle.network_text.specs.Answer.{NeverLocksUp};
+ghost use Rattle.network_answer.specs.Answer.{NeverLocksUp};
 ghost use Rattle.network_text.specs.Network.{NetworkSpec};
 ghost use Rattle.network_run.specs.LockedUp.{HasNoLockUp, MovesLockUp};
 

@@ -10,9 +10,10 @@ ghost use Rattle.network_run.specs.Replays.{RunEnds};
 use crate::reading::{RunMoves, read_run};
 use crate::reason::RunReason;
 use lexer::Refusal;
+use network_answer::judge_network;
 use network_judge::{NoRoute, Verdict};
 use network_machine::{Ending, Hindrance, Machine, Move};
-use network_text::{Network, judge_network};
+use network_text::Network;
 use std::alloc::{AllocError, Allocator};
 
 /// What becomes of moves over the empty network.

@@ -3,15 +3,16 @@
 ghost use Rattle.std.specs.Prelude.{◌≡◌, ◌≤◌, IfOk};
 ghost use Rattle.network_judge.specs.Verdicts.{AllArrive, IsVerdict};
 ghost use Rattle.network_judge.specs.Cycles.{IsCycle};
-ghost use Rattle.network_text.specs.Answer.{is_rising};
+ghost use Rattle.network_answer.specs.Answer.{is_rising};
 ghost use Rattle.network_run.specs.Printed.{FindsRun, IsLockingRun, AnswersRun, TellsRunOrNoPair};
 
 use crate::filling::filling_moves;
 use crate::writing::moves_text;
+use network_answer::answer::no_pair;
+use network_answer::{Answer, judge_network, verdict_text};
 use network_judge::{Fill, Link, Verdict, find_jam};
 use network_machine::Move;
-use network_text::answer::no_pair;
-use network_text::{Answer, Network, judge_network, verdict_text};
+use network_text::Network;
 use std::alloc::{AllocError, Allocator};
 
 /// A run by which a network with a cycle deadlocks; none where its channels hold no flit.

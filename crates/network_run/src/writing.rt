@@ -1,15 +1,15 @@
 //! The text of a run and of its end.
 
 ghost use Rattle.std.specs.Prelude.{◌≡◌, ◌++◌, ◌<◌, length, decimal, codes, IfOk, OnOk};
-ghost use Rattle.network_text.specs.Answer.{first_lines};
+ghost use Rattle.network_text.specs.Lines.{first_lines};
 ghost use Rattle.network_run.specs.Written.{move_words, move_line_at, moves_text, ending_line};
 ghost use Rattle.network_run.specs.Written.{replay_line};
 
 use crate::replaying::Replayed;
 use itoa::Buffer;
+use network_answer::verdict_text;
 use network_judge::Verdict;
 use network_machine::{Ending, Move, Packet};
-use network_text::verdict_text;
 use std::alloc::{AllocError, Allocator};
 
 /// Adds a text and a number.

@@ -5,9 +5,9 @@ use Rattle.std.proofs.Math.Nat.{mul-le-mul_right}
 -- with one ejection channel more there are few more
 pub record IsSmall (n e : ℕ) : Type 0 where
   pub each : e ≤ 2 ^ 27
-  pub all : n * (e + 1) ≤ 2 ^ 27 + 16384
+  pub all : n * (e + 1) ≤ 2 ^ 27 + 65536
 
-pub is_small : (n e w : ℕ) → 0 < n → n ≤ 16384 → e ≡ w → n * w ≤ 2 ^ 27 → IsSmall n e
+pub is_small : (n e w : ℕ) → 0 < n → n ≤ 65536 → e ≡ w → n * w ≤ 2 ^ 27 → IsSmall n e
 is_small n e w some many is few =
     let here : n * e ≤ 2 ^ 27 = subst (λ z. n * z ≤ 2 ^ 27) (sym is) few in
     let one : 1 * e ≤ n * e = mul-le-mul_right e (omega arith) in

@@ -94,7 +94,7 @@ name_words_keep r f (a ∷ ws) each =
     keeps_if r _ _ _ (keeps_bind r (number_at 1 a) _ (λ x. keeps_if r _ _ _ (each x) (keeps_err r _))) (keeps_err r _)
 
 named_by : (r : Reading) (b : Bool) → r.begun ≡ true
-    → Same r (if b then reading_with r.table r.replies r.begun (replicate 16384 unnamed) else r)
+    → Same r (if b then reading_with r.table r.replies r.begun (replicate 65536 unnamed) else r)
 named_by r true given = (given, refl)
 named_by r false given = (given, refl)
 
@@ -103,7 +103,7 @@ with_keeps r x n given = keeps_ok r (with_names r x n) (named_by r (length r.nam
 
 router_keeps : (r : Reading) (x : ℕ) → r.begun ≡ true → Keeps r (after_router r x)
 router_keeps r x given =
-    keeps_if r (count_of r == 0) _ _ (keeps_err r _) (keeps_if r (nat_le 16384 x) _ _ (keeps_err r _)
+    keeps_if r (count_of r == 0) _ _ (keeps_err r _) (keeps_if r (nat_le 65536 x) _ _ (keeps_err r _)
     (keeps_if r (names_at r x).router _ _ (keeps_err r _) (with_keeps r x _ given)))
 
 link_keeps : (r : Reading) (x a b : ℕ) → r.begun ≡ true → Keeps r (after_link r x a b)
@@ -118,7 +118,7 @@ name_keeps r x given = keeps_unless r (lacks r 1 x) _ (keeps_if r (names_at r x)
 channels_keeps : (r : Reading) (n : ℕ) → r.begun ≡ true → Keeps r (after_channels r n)
 channels_keeps r n given =
     keeps_if r (not (count_of r == 0)) _ _ (keeps_err r _)
-    (keeps_if r (nat_le 1 n && nat_le n 16384) _ _ (keeps_ok r _ (given, refl)) (keeps_err r _))
+    (keeps_if r (nat_le 1 n && nat_le n 65536) _ _ (keeps_ok r _ (given, refl)) (keeps_err r _))
 
 inject_keeps : (r : Reading) (x : ℕ) → r.begun ≡ true → Keeps r (after_inject r x)
 inject_keeps r x given =
@@ -133,7 +133,7 @@ eject_keeps r x given =
 join_keeps : (r : Reading) (i j : ℕ) → r.begun ≡ true → Keeps r (after_join r i j)
 join_keeps r i j given =
     keeps_unless r (lacks r 1 i) _ (keeps_unless r (lacks r 2 j) _
-    (keeps_if r (nat_le 1048576 (length r.table.joins)) _ _ (keeps_err r _) (keeps_ok r _ (given, refl))))
+    (keeps_if r (nat_le 4194304 (length r.table.joins)) _ _ (keeps_err r _) (keeps_ok r _ (given, refl))))
 
 reply_keeps : (r : Reading) (x y : ℕ) → r.begun ≡ true → Keeps r (after_reply r x y)
 reply_keeps r x y given =

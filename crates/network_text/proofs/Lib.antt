@@ -8,14 +8,13 @@ pub mod Refused
 pub mod Pieces
 pub mod Plain
 pub mod Behind
-pub mod Jams
 pub mod Bounds
 pub mod Without
 pub mod Kept
 pub mod ChoosingWords
 pub mod Layers
 pub mod Fixed
-pub mod Counted
+pub mod Placed
 pub mod Three
 pub mod OneChoice
 pub mod Alike

@@ -4,7 +4,7 @@ use Rattle.std.specs.List.{flat_map, range_with_len}
 use Rattle.std.proofs.lemmas.List.Concat.{flat_map-append}
 use Rattle.std.proofs.lemmas.List.Folds.{flat_map-map}
 use Rattle.std.proofs.lemmas.List.FromFn.{map-range_with_len_more}
-use Rattle.network_text.specs.Answer.{first_lines}
+use Rattle.network_text.specs.Lines.{first_lines}
 
 -- one line more
 pub first_lines-more : (line : ℕ → List ℕ) (n : ℕ) → first_lines line (n + 1) ≡ first_lines line n ++ line n

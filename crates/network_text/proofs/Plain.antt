@@ -70,10 +70,10 @@ three_mapped s k f h (a ∷ b ∷ c ∷ d ∷ more) each = refl
 -- what each line gives
 channels_mapped : (s : List GivenNames) (r : Reading) (x : ℕ) → after_channels (forget s r) x ≡ mapped s (after_channels r x)
 channels_mapped s r x =
-    ap (λ (o : Read). if not (count_of r == 0) then Err reason.ChannelsTwice else o) (if_mapped s (nat_le 1 x && nat_le x 16384)
+    ap (λ (o : Read). if not (count_of r == 0) then Err reason.ChannelsTwice else o) (if_mapped s (nat_le 1 x && nat_le x 65536)
     (Ok (reading_with (table_of (replicate x Hop) r.table.joins r.table.choices) r.replies r.begun r.names)) (Err reason.ChannelsLimits))
     ∙ if_mapped s (not (count_of r == 0)) (Err reason.ChannelsTwice)
-    (if nat_le 1 x && nat_le x 16384
+    (if nat_le 1 x && nat_le x 65536
     then Ok (reading_with (table_of (replicate x Hop) r.table.joins r.table.choices) r.replies r.begun r.names)
     else Err reason.ChannelsLimits)
 
@@ -95,7 +95,7 @@ eject_mapped s r x =
 
 join_mapped : (s : List GivenNames) (r : Reading) (i j : ℕ) → after_join (forget s r) i j ≡ mapped s (after_join r i j)
 join_mapped s r i j = unless_mapped s (lacks r 1 i) _ _ (unless_mapped s (lacks r 2 j) _ _
-    (if_mapped s (nat_le 1048576 (length r.table.joins)) (Err reason.JoinsLimits)
+    (if_mapped s (nat_le 4194304 (length r.table.joins)) (Err reason.JoinsLimits)
     (Ok (reading_with (table_of r.table.kinds (r.table.joins ++ record { from = i; to = j } ∷ []) r.table.choices) r.replies r.begun r.names))))
 
 begun_by : (s : List GivenNames) (r : Reading) (b : Bool) → (if b then forget s r else started (forget s r)) ≡ forget s (if b then r else started r)

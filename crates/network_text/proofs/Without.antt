@@ -47,7 +47,7 @@ keeps_bind s r (Err e) f a = keeps_err s r e
 
 -- names under a number keep all else
 begun_by_names : (s : List GivenNames) (r : Reading) (b : Bool)
-    → forget s (if b then reading_with r.table r.replies r.begun (replicate 16384 unnamed) else r) ≡ forget s r
+    → forget s (if b then reading_with r.table r.replies r.begun (replicate 65536 unnamed) else r) ≡ forget s r
 begun_by_names s r true = refl
 begun_by_names s r false = refl
 
@@ -56,7 +56,7 @@ with_keeps s r x n = keeps_ok s r (with_names r x n) (begun_by_names s r (length
 
 router_keeps : (s : List GivenNames) (r : Reading) (x : ℕ) → Keeps s r (after_router r x)
 router_keeps s r x =
-    keeps_if s r (count_of r == 0) _ _ (keeps_err s r _) (keeps_if s r (nat_le 16384 x) _ _ (keeps_err s r _)
+    keeps_if s r (count_of r == 0) _ _ (keeps_err s r _) (keeps_if s r (nat_le 65536 x) _ _ (keeps_err s r _)
     (keeps_if s r (names_at r x).router _ _ (keeps_err s r _) (with_keeps s r x _)))
 
 link_keeps : (s : List GivenNames) (r : Reading) (x a b : ℕ) → Keeps s r (after_link r x a b)

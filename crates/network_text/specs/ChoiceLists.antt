@@ -1,14 +1,11 @@
--- The lists of a network whose routers choose, as they are judged, and the judgement of a text.
+-- The lists of a network whose routers choose, as they are judged.
 use Rattle.std.specs.Prelude.{◌≡◌, ℕ, ◌+◌, ◌-◌, ◌<◌, ◌==◌, Bool, true, List, [], ◌∷◌}
 use Rattle.std.specs.Prelude.{length, slice_get, slice_index, if◌then◌else◌}
 use Rattle.std.specs.List.{list_any}
 use Rattle.network_judge.specs.Table.{is_receiver}
 use Rattle.network_judge.specs.Marks.{is_marked_at}
 use Rattle.network_text.specs.Network.{count_of, cell_of}
-use Rattle.network_text.specs.Answer.{first_lines}
-use Rattle.network_adaptive.specs.Choosing.{ChoiceTable, choosing_of}
-use Rattle.network_adaptive.specs.Shape.{AreMarksOf, IsJudgedNet}
-use Rattle.network_adaptive.specs.declared.accepting.JudgedNet.{JudgedNet}
+use Rattle.network_text.specs.Lines.{first_lines}
 use Rattle.network_text.specs.Choosing.{ChoosingText, further_at}
 
 -- the choice that comes after so many others, in the order of the text
@@ -22,15 +19,18 @@ choice_toward t j x place =
     if is_receiver (slice_get t.fixed.table.kinds j)
     then listed_choice t (cell_of t.fixed x j) place else count_of t.fixed
 
--- all behind a channel, all for packets to a channel, and all
+-- all behind a channel, all for packets to a channel, and all: those to the ejection channels
 abbrev pub choice_row : ChoosingText → ℕ → ℕ → List ℕ
 choice_row t j x = first_lines (λ place. choice_toward t j x place ∷ []) (t.layers + 1)
 
 abbrev pub block_of : ChoosingText → ℕ → List ℕ
 block_of t j = first_lines (choice_row t j) (count_of t.fixed)
 
+abbrev pub block_toward : ChoosingText → ℕ → List ℕ
+block_toward t j = if is_receiver (slice_get t.fixed.table.kinds j) then block_of t j else []
+
 abbrev pub choice_list : ChoosingText → List ℕ
-choice_list t = first_lines (block_of t) (count_of t.fixed)
+choice_list t = first_lines (block_toward t) (count_of t.fixed)
 
 -- whether a channel is an escape: one that a line makes one, and any where no line does
 abbrev pub is_made_escape : List ℕ → ℕ → Bool
@@ -41,20 +41,3 @@ is_made_escape (e ∷ escapes) x = list_any (λ f. f == x) (e ∷ escapes)
 pub record AreEscapesOf (t : ChoosingText) (flags : List Bool) : Type 0 where
   pub size : length flags ≡ count_of t.fixed
   pub each : (x : ℕ) → x < count_of t.fixed → is_marked_at flags x ≡ is_made_escape t.escapes x
-
--- the lists of a text with these marks
-abbrev pub choice_table : ChoosingText → List Bool → ChoiceTable
-choice_table t marks =
-    choosing_of t.fixed.table.kinds t.fixed.table.joins (t.layers + 1) (choice_list t) marks
-
--- flags of the escapes, and of the injection and ejection channels
-pub record AreMarks (t : ChoosingText) (marks : List Bool) : Type 0 where
-  pub flags : List Bool
-  pub escapes : AreEscapesOf t flags
-  pub are : AreMarksOf t.fixed.table.kinds flags marks
-
--- what is judged of the lists of a text
-pub record IsChoosingJudgement {A : Type 0} (t : ChoosingText) (judged : JudgedNet A) : Type 0 where
-  pub marks : List Bool
-  pub marked : AreMarks t marks
-  pub holds : IsJudgedNet (choice_table t marks) t.fixed.replies judged

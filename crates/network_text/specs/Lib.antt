@@ -1,9 +1,9 @@
 pub mod Reasons
+pub mod Lines
 pub mod Shapes
 pub mod Network
 pub mod Reading
 pub mod Inside
-pub mod Answer
 pub mod Before
 pub mod Sentences
 pub mod Names

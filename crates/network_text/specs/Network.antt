@@ -55,7 +55,7 @@ lacks r place x =
 abbrev pub after_channels : Reading → ℕ → Result Reading NetworkReason
 after_channels r count =
     if not (count_of r == 0) then Err reason.ChannelsTwice
-    else (if nat_le 1 count && nat_le count 16384
+    else (if nat_le 1 count && nat_le count 65536
     then Ok (reading_with (table_of (replicate count Hop) r.table.joins r.table.choices) r.replies
     r.begun r.names)
     else Err reason.ChannelsLimits)
@@ -90,7 +90,7 @@ after_eject r x = unless (lacks r 1 x)
 -- packets go from one channel to another
 abbrev pub after_join : Reading → ℕ → ℕ → Result Reading NetworkReason
 after_join r i j = unless (lacks r 1 i) (unless (lacks r 2 j)
-    (if nat_le 1048576 (length r.table.joins) then Err reason.JoinsLimits
+    (if nat_le 4194304 (length r.table.joins) then Err reason.JoinsLimits
     else Ok (reading_with (table_of r.table.kinds
     (r.table.joins ++ record { from = i; to = j } ∷ []) r.table.choices)
     r.replies r.begun r.names)))
@@ -162,14 +162,14 @@ begun_names room r = if length r.names == 0
 -- with these names under a number
 abbrev pub with_names : Reading → ℕ → GivenNames → Reading
 with_names r x n =
-    let b = begun_names 16384 r in
+    let b = begun_names 65536 r in
     reading_with b.table b.replies b.begun (slice_set b.names x n)
 
--- a router is given once; its number is below 16384
+-- a router is given once; its number is below 65536
 abbrev pub after_router : Reading → ℕ → Result Reading NetworkReason
 after_router r x =
     if count_of r == 0 then Err reason.ChannelsFirst
-    else (if nat_le 16384 x then Err reason.RouterLimits
+    else (if nat_le 65536 x then Err reason.RouterLimits
     else (if (names_at r x).router then Err reason.RouterTwice
     else Ok (with_names r x (record {
       router = true;

@@ -3,7 +3,7 @@
 ghost use Rattle.std.specs.Prelude.{◌≡◌, ◌+◌, ◌*◌, ◌<◌, ◌≤◌, ◌++◌, true, length, IfOk, OnOk};
 ghost use Rattle.network_text.specs.Network.{count_of};
 ghost use Rattle.network_text.specs.ChoosingRead.{choosing_text_of, IsChoosingRead};
-ghost use Rattle.network_text.specs.ChoiceLists.{choice_toward, choice_row, block_of, choice_list};
+ghost use Rattle.network_text.specs.ChoiceLists.{choice_toward, choice_row, block_toward, choice_list};
 ghost use Rattle.network_text.specs.ChoiceLists.{is_made_escape, AreEscapesOf};
 
 use crate::choosing::{Choosing, is_escape};
@@ -43,29 +43,33 @@ impl<A: Allocator + Copy> Choosing<A> {
         Ok(())
     }
 
-    /// Adds the choices for packets to a channel.
+    /// Adds the choices for packets to a channel, if it is an ejection channel.
     fn put_block(&self, out: &mut Vec<u32, A>, to: usize) -> Result<(), AllocError>
         requires read { IsChoosingRead self.now }
         requires begun { self.now.fixed.begun ≡ true }
         ensures { OnOk result
-            (out.new.items ≡ out.old.items ++ block_of (choosing_text_of self.now) to) }
+            (out.new.items ≡ out.old.items ++ block_toward (choosing_text_of self.now) to) }
     {
+        if !self.fixed.ejects(to) {
+            return Ok(());
+        }
         for at in 0..self.fixed.kinds.len() {
             self.put_row(out, to, at)?;
         }
         Ok(())
     }
 
-    /// The choices: a block for each channel as destination, in it a row for each channel, and in it a
-    /// place for each choice.
+    /// The choices: a block for each ejection channel as destination, in it a row for each channel, and in
+    /// it a place for each choice.
     ///
     /// Errors: out of memory.
-    pub(crate) fn choices(&self, alloc: A) -> Result<Vec<u32, A>, AllocError>
+    pub fn choices(&self, alloc: A) -> Result<Vec<u32, A>, AllocError>
         requires read { IsChoosingRead self.now }
         requires begun { self.now.fixed.begun ≡ true }
         ensures { IfOk result (λ v. v.items ≡ choice_list (choosing_text_of self.now)) }
     {
-        let mut out = Vec::new(alloc);
+        let all = self.fixed.choices.len() + self.further.len();
+        let mut out = Vec::with_capacity(alloc, all)?;
         for to in 0..self.fixed.kinds.len() {
             self.put_block(&mut out, to)?;
         }
@@ -85,7 +89,7 @@ impl<A: Allocator + Copy> Choosing<A> {
     /// Flags of the escapes.
     ///
     /// Errors: out of memory.
-    pub(crate) fn escape_flags(&self, alloc: A) -> Result<Vec<bool, A>, AllocError>
+    pub fn escape_flags(&self, alloc: A) -> Result<Vec<bool, A>, AllocError>
         requires read { IsChoosingRead self.now }
         ensures { IfOk result (λ v. AreEscapesOf (choosing_text_of self.now) v.items) }
     {

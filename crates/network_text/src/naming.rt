@@ -21,7 +21,7 @@ use std::alloc::{AllocError, Allocator};
 const MOST_BYTES: usize = 40;
 
 /// Routers have numbers below this, and so have channels.
-const MOST_NUMBERS: usize = 16384;
+const MOST_NUMBERS: usize = 65536;
 
 /// Whether all bytes are visible ASCII.
 fn are_visible(bytes: &[u8]) -> bool
@@ -162,10 +162,10 @@ impl<A: Allocator + Copy> Reading<A> {
     /// Errors: out of memory.
     fn begin_names(&mut self, alloc: A, room: usize) -> Result<(), AllocError>
         requires read { IsRead self.old }
-        requires room { room ≡ 16384 }
+        requires room { room ≡ 65536 }
         ensures value { OnOk result
             (reading_of self.new ≡ begun_names room (reading_of self.old)) }
-        ensures room { OnOk result (length self.new.names.items ≡ 16384) }
+        ensures room { OnOk result (length self.new.names.items ≡ 65536) }
         ensures read { OnOk result (IsRead self.new) }
     {
         if !self.names.is_empty() {
@@ -178,7 +178,7 @@ impl<A: Allocator + Copy> Reading<A> {
     /// Has these names under a number.
     fn put_names(&mut self, alloc: A, x: usize, names: GivenNames) -> Result<(), NetworkReason>
         requires read { IsRead self.old }
-        requires small { x < 16384 }
+        requires small { x < 65536 }
         ensures value { OnOk result (reading_of self.new
             ≡ with_names (reading_of self.old) x names) }
         ensures memory { IfErr result (λ e. e ≡ NetworkReason.Memory) }

@@ -41,7 +41,7 @@ impl<A: Allocator> Model for Network<A> {
 }
 
 impl<A: Allocator> Network<A> {
-    /// The kind of each channel, 1 to 16384 of them.
+    /// The kind of each channel, 1 to 65536 of them.
     pub fn kinds(&self) -> &[Kind]
         ensures value { result.now ≡ self.now.table.kinds }
         ensures full { IsFull self.now.table }

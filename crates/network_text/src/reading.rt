@@ -40,7 +40,7 @@ pub struct Reading<A: Allocator> {
     pub columns: Vec<usize, A>,
     /// The choices, once one was given; where there is none, the number of channels.
     pub choices: Vec<u32, A>,
-    /// Which names are given under each number below 16384; none before the first.
+    /// Which names are given under each number below 65536; none before the first.
     pub names: Vec<GivenNames, A>,
 }
 

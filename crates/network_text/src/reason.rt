@@ -37,7 +37,7 @@ pub enum NetworkReason {
     ChannelsMissing,
     /// The number of channels is given already.
     ChannelsTwice,
-    /// The number of channels is not 1 to 16384.
+    /// The number of channels is not 1 to 65536.
     ChannelsLimits,
     /// The channel at this place is not below this number of channels.
     ChannelLimits(u32, usize),
@@ -47,7 +47,7 @@ pub enum NetworkReason {
     EjectionLate,
     /// One more ejection channel, times the number of channels, is more than 134217728.
     EjectionsLimits,
-    /// There are 1048576 source-destination pairs already.
+    /// There are 4194304 source-destination pairs already.
     JoinsLimits,
     /// The channel at this place is no ejection channel.
     NotEjection(u32),
@@ -59,7 +59,7 @@ pub enum NetworkReason {
     ReplyTwice,
     /// A word of a name is longer than 40 bytes, or isn't all visible ASCII.
     NotName,
-    /// The number of the router is not below 16384.
+    /// The number of the router is not below 65536.
     RouterLimits,
     /// The router at this place isn't given.
     NotRouter(u32),

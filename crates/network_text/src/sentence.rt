@@ -93,7 +93,7 @@ fn text_of(reason: NetworkReason) -> &'static str {
         NetworkReason::ChannelsFirst => "A: it comes behind channels, which is not given yet",
         NetworkReason::ChannelsMissing => "the text ends without channels",
         NetworkReason::ChannelsTwice => "channels: it is given at line N already",
-        NetworkReason::ChannelsLimits => "channels B: a network has 1 to 16384 channels",
+        NetworkReason::ChannelsLimits => "channels B: a network has 1 to 65536 channels",
         NetworkReason::ChannelLimits(_, _) => { "channel W: the network has the channels 0 to N" }
         NetworkReason::KindTwice => "channel B: its kind is given at line N already",
         NetworkReason::EjectionLate => {
@@ -102,13 +102,13 @@ fn text_of(reason: NetworkReason) -> &'static str {
         NetworkReason::EjectionsLimits => {
             "eject B: channels times ejection channels are at most 134217728"
         }
-        NetworkReason::JoinsLimits => "join B C: a network has at most 1048576 joins",
+        NetworkReason::JoinsLimits => "join B C: a network has at most 4194304 joins",
         NetworkReason::NotEjection(_) => "channel W: it is no ejection channel",
         NetworkReason::NotInjection(_) => "channel W: it is no injection channel",
         NetworkReason::ChoiceTwice => "next B C: it is given at line N already",
         NetworkReason::ReplyTwice => "reply B C: it is given at line N already",
         NetworkReason::NotName => { "A B: a word of a name has at most 40 bytes, each from ! to ~" }
-        NetworkReason::RouterLimits => "router B: routers have the numbers 0 to 16383",
+        NetworkReason::RouterLimits => "router B: routers have the numbers 0 to 65535",
         NetworkReason::NotRouter(_) => "link B: router W is not given before it",
         NetworkReason::RouterTwice => "router B: it is given at line N already",
         NetworkReason::LinkTwice => "link B: it is given at line N already",

@@ -13,13 +13,13 @@ use network_judge::{Join, Kind, Reply};
 use std::alloc::Allocator;
 
 /// The most channels of a network.
-const MOST_CHANNELS: u32 = 16384;
+const MOST_CHANNELS: u32 = 65536;
 
 /// The most choices: channels times ejection channels.
 const MOST_CHOICES: usize = 1 << 27;
 
 /// The most source-destination pairs that packets go between.
-const MOST_JOINS: usize = 1048576;
+const MOST_JOINS: usize = 4194304;
 
 impl<A: Allocator + Copy> Reading<A> {
     /// Takes the number of channels.

@@ -18,7 +18,7 @@ use Rattle.network_rounds.specs.Routers.{AreRouters}
 use Rattle.network_rounds.specs.Senders.{queue_of}
 use Rattle.network_rounds.specs.Simulations.{flits_in_channels}
 use Rattle.network_text.specs.Network.{NetworkSpec}
-use Rattle.network_text.specs.Answer.{first_lines}
+use Rattle.network_text.specs.Lines.{first_lines}
 use Rattle.network_traffic.specs.declared.running.Extent.{Extent}
 use Rattle.network_traffic.specs.declared.watch.Watch.{Watch}
 use Rattle.network_traffic.specs.Plans.{GoToReceivers}

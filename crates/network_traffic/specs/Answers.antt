@@ -28,7 +28,7 @@ use Rattle.network_rounds.specs.Senders.{queue_of}
 use Rattle.network_rounds.specs.Simulations.{IsSimulation, flits_in_channels}
 use Rattle.network_rounds.specs.Traffic.{TrafficSpec, traffic_spec, traffic_or_why}
 use Rattle.network_text.specs.Network.{NetworkSpec, network_of}
-use Rattle.network_text.specs.Answer.{no_route_line}
+use Rattle.network_answer.specs.Answer.{no_route_line}
 use Rattle.network_traffic.specs.declared.answering.SimulationAnswer.{SimulationAnswer}
 use Rattle.network_traffic.specs.declared.running.Extent.{Extent}
 use Rattle.network_traffic.specs.Fates.{log_of, begun_in_round, delivered_in_round, rounds_waited}

@@ -5,7 +5,7 @@ use Rattle.network_machine.specs.declared.moves.Ending.{Ending}
 use Rattle.network_machine.specs.declared.moves.Ending.TheVariants as ending
 use Rattle.network_rounds.specs.declared.senders.Timed.{Timed}
 use Rattle.network_rounds.specs.Packets.{timed_of}
-use Rattle.network_text.specs.Answer.{first_lines}
+use Rattle.network_text.specs.Lines.{first_lines}
 use Rattle.network_traffic.specs.declared.running.Extent.{Extent}
 
 -- a round, or that there is none

@@ -9,8 +9,9 @@ ghost use Rattle.torusmem_c.specs.Room.{LacksMemory};
 
 use crate::outcome::{Code, Outcome, fault_outcome, no_memory};
 use crate::room::put_as;
+use network_answer::{judge_network, judged_text};
 use network_judge::Verdict;
-use network_text::{Network, judge_network, judged_text, read_network};
+use network_text::{Network, read_network};
 use std::alloc::Global;
 
 /// The code of a verdict.

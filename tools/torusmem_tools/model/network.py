@@ -10,7 +10,7 @@ from torusmem_tools.command import Refusal
 Place = Tuple[float, float]
 Pair = Tuple[int, int]
 # What `torusmem network` takes at most.
-MOST_CHANNELS, MOST_CHOICES, MOST_PAIRS = 16384, 1 << 27, 1048576
+MOST_CHANNELS, MOST_CHOICES, MOST_PAIRS = 65536, 1 << 27, 4194304
 # How many bytes a word of a name has at most.
 MOST_NAME = 40
 

@@ -1,5 +1,5 @@
 use Rattle.std.proofs.Common.{◌≡◌}
-use Rattle.network_text.specs.Answer.{first_lines}
+use Rattle.network_text.specs.Lines.{first_lines}
 use Rattle.network_run.specs.Written.{move_line_at}
 use Rattle.network_run.proofs.writing.moves_text.Given as goal
 

@@ -1,6 +1,6 @@
 use Rattle.std.proofs.Common.{◌≡◌, ◌++◌}
 use Rattle.std.specs.Prelude.{slice_index}
-use Rattle.network_text.specs.Answer.{first_lines}
+use Rattle.network_text.specs.Lines.{first_lines}
 use Rattle.network_traffic.specs.Written.{channel_line_at}
 use Rattle.network_traffic.proofs.writing.put_channels.Given as goal
 

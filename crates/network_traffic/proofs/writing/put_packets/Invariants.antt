@@ -1,6 +1,6 @@
 use Rattle.std.proofs.Common.{◌≡◌, ◌++◌, None}
 use Rattle.std.specs.Prelude.{slice_index_or}
-use Rattle.network_text.specs.Answer.{first_lines}
+use Rattle.network_text.specs.Lines.{first_lines}
 use Rattle.network_traffic.specs.Written.{packet_line_at}
 use Rattle.network_traffic.proofs.writing.put_packets.Given as goal
 

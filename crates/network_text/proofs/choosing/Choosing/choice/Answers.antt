@@ -7,7 +7,7 @@ use Rattle.network_text.proofs.Begun.{begun_same}
 use Rattle.network_text.proofs.Cells.{cell_at}
 use Rattle.network_text.specs.ChoosingRead.{choosing_text_of}
 use Rattle.network_text.proofs.Layers.{place_low}
-use Rattle.network_text.proofs.Counted.{first_choice, further_choice}
+use Rattle.network_text.proofs.Placed.{first_choice, further_choice}
 use Rattle.network_text.proofs.choosing.Choosing.choice.Goals as goal
 
 pub overflow_add-cell : goal.overflow_add-cell

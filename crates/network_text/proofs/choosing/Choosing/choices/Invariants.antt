@@ -1,8 +1,8 @@
 use Rattle.std.proofs.Common.{◌≡◌}
-use Rattle.network_text.specs.Answer.{first_lines}
+use Rattle.network_text.specs.Lines.{first_lines}
 use Rattle.network_text.specs.ChoosingRead.{choosing_text_of}
-use Rattle.network_text.specs.ChoiceLists.{block_of}
+use Rattle.network_text.specs.ChoiceLists.{block_toward}
 use Rattle.network_text.proofs.choosing.Choosing.choices.Given as goal
 
 abbrev pub invariant-loop-to : goal.invariant-loop-to
-invariant-loop-to g l = l.out.items ≡ first_lines (block_of (choosing_text_of l.self)) l.to
+invariant-loop-to g l = l.out.items ≡ first_lines (block_toward (choosing_text_of l.self)) l.to

@@ -1,5 +1,5 @@
 use Rattle.std.proofs.Common.{◌≡◌, ◌++◌}
-use Rattle.network_text.specs.Answer.{first_lines}
+use Rattle.network_text.specs.Lines.{first_lines}
 use Rattle.network_text.specs.ChoosingRead.{choosing_text_of}
 use Rattle.network_text.specs.ChoiceLists.{choice_row}
 use Rattle.network_text.proofs.choosing.Choosing.put_block.Given as goal

@@ -1,5 +1,5 @@
 use Rattle.network_text.specs.ChoosingRead.{choosing_text_of}
-use Rattle.network_text.proofs.Counted.{choice_put}
+use Rattle.network_text.proofs.Placed.{choice_put}
 use Rattle.network_text.proofs.choosing.Choosing.put_row.Goals as goal
 
 pub loop-place-preserved : goal.loop-place-preserved

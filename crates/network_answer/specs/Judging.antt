@@ -1,0 +1,24 @@
+-- The judgement of a text whose routers choose.
+use Rattle.std.specs.Prelude.{List, Bool, ◌+◌}
+use Rattle.network_adaptive.specs.Choosing.{ChoiceTable, choosing_of}
+use Rattle.network_adaptive.specs.Shape.{AreMarksOf, IsJudgedNet}
+use Rattle.network_adaptive.specs.declared.accepting.JudgedNet.{JudgedNet}
+use Rattle.network_text.specs.Choosing.{ChoosingText}
+use Rattle.network_text.specs.ChoiceLists.{choice_list, AreEscapesOf}
+
+-- the lists of a text with these marks
+abbrev pub choice_table : ChoosingText → List Bool → ChoiceTable
+choice_table t marks =
+    choosing_of t.fixed.table.kinds t.fixed.table.joins (t.layers + 1) (choice_list t) marks
+
+-- flags of the escapes, and of the injection and ejection channels
+pub record AreMarks (t : ChoosingText) (marks : List Bool) : Type 0 where
+  pub flags : List Bool
+  pub escapes : AreEscapesOf t flags
+  pub are : AreMarksOf t.fixed.table.kinds flags marks
+
+-- what is judged of the lists of a text
+pub record IsChoosingJudgement {A : Type 0} (t : ChoosingText) (judged : JudgedNet A) : Type 0 where
+  pub marks : List Bool
+  pub marked : AreMarks t marks
+  pub holds : IsJudgedNet (choice_table t marks) t.fixed.replies judged

@@ -1,0 +1,134 @@
+-- What is written of a network whose routers choose, and what is answered to a network text (this
+-- project's own format).
+use Rattle.std.specs.Prelude.{◌≡◌, ◌⊎◌, ℕ, ◌==◌, if◌then◌else◌, Bool, true, false}
+use Rattle.std.specs.Prelude.{List, [], ◌∷◌, ◌++◌}
+use Rattle.std.specs.Prelude.{length, slice_index}
+use Rattle.std.specs.Prelude.{Result, Ok, Err, Option, Some, None, codes, decimal}
+use Rattle.torus.specs.declared.fault.Fault.TheVariants as fault
+use Rattle.script.specs.declared.fault.LineFault.{LineFault}
+use Rattle.network_answer.specs.declared.answer.Answer.{Answer}
+use Rattle.network_text.specs.Network.{Reading, taken_cell}
+use Rattle.network_answer.specs.Answer.{pair_line, number_line, no_route_line}
+use Rattle.network_text.specs.Lines.{first_lines}
+use Rattle.network_answer.specs.Answer.{SaysNoPair, TellsFixedRoutes}
+use Rattle.network_judge.specs.declared.table.Join.{Join}
+use Rattle.network_adaptive.specs.declared.accepting.JudgedNet.{JudgedNet}
+use Rattle.network_adaptive.specs.declared.accepting.JudgedNet.TheVariants.{WrongPair, WrongChoice}
+use Rattle.network_adaptive.specs.declared.accepting.JudgedNet.TheVariants.{Judged}
+use Rattle.network_adaptive.specs.declared.shape.Misfit.{Misfit}
+use Rattle.network_adaptive.specs.declared.shape.Misfit.TheVariants.{Itself, Injects, Ejects}
+use Rattle.network_adaptive.specs.declared.shape.NoChoice as no_choice
+use Rattle.network_adaptive.specs.declared.verdict.NoEscape as no_escape
+use Rattle.network_adaptive.specs.declared.verdict.Dependency as dependency
+use Rattle.network_adaptive.specs.declared.verdict.How.{How}
+use Rattle.network_adaptive.specs.declared.verdict.How.TheVariants.{Over, Replied}
+use Rattle.network_adaptive.specs.declared.verdict.Travel.{Travel}
+use Rattle.network_adaptive.specs.declared.verdict.Travel.TheVariants.{Bounded, Round}
+use Rattle.network_adaptive.specs.declared.verdict.Verdict.{Verdict}
+use Rattle.network_adaptive.specs.declared.verdict.Verdict.TheVariants.{Rising, NoEscape, Cycle}
+use Rattle.network_adaptive.specs.Between.{dependency_at}
+use Rattle.network_text.specs.Choosing.{ChoosingText}
+use Rattle.network_answer.specs.Judging.{IsChoosingJudgement}
+use Rattle.network_text.specs.Routing.{Routing, Fixed, Chosen, routing_of}
+
+-- why a channel is no choice
+abbrev pub misfit_words : Misfit → List ℕ
+misfit_words Itself = codes "the channel itself"
+misfit_words Injects = codes "an injection channel"
+misfit_words Ejects = codes "another ejection channel"
+
+-- the line of a choice that can't stand
+abbrev pub no_choice_line : no_choice.NoChoice → List ℕ
+no_choice_line c = (codes "no choice " ++ decimal c.at)
+    ++ (pair_line (codes " ") c.to (codes " ") c.next (codes ": ")
+    ++ (misfit_words c.why ++ codes "\n"))
+
+-- the line of a channel without an escape for packets, where a text has this place of a choice for
+-- them, or none
+abbrev pub no_escape_line : Option ℕ → no_escape.NoEscape → List ℕ
+no_escape_line (Some cell) f = pair_line (codes "no escape ") f.at (codes " ") f.to (codes "\n")
+no_escape_line None f = pair_line (codes "no choice ") f.at (codes " ") f.to (codes "\n")
+
+-- the line on how far packets can go
+abbrev pub travel_line : Travel → List ℕ
+travel_line (Bounded most) = (codes "bounded " ++ decimal most) ++ codes "\n"
+travel_line (Round r) = pair_line (codes "round ") r.to (codes " ") r.at (codes "\n")
+
+-- a channel behind a space
+abbrev pub spaced_number : List ℕ → ℕ → List ℕ
+spaced_number over k = codes " " ++ decimal (slice_index over k)
+
+-- over which channels, if any
+abbrev pub over_words : List ℕ → List ℕ
+over_words over = if length over == 0 then []
+    else codes " over" ++ first_lines (spaced_number over) (length over)
+
+-- how channel x leads on: by packets to ejection channel j that go on over these channels, or to the
+-- channel on which it is answered
+abbrev pub how_line : {A : Type 0} → ℕ → How A → List ℕ
+how_line x (Over j over) =
+    pair_line [] x (codes " to ") j [] ++ (over_words over.items ++ codes "\n")
+how_line x (Replied y) = pair_line [] x (codes " replies ") y (codes "\n")
+
+-- the line of a dependency
+abbrev pub dependency_line : {A : Type 0} → List (dependency.Dependency A) → ℕ → List ℕ
+dependency_line edges k = how_line (dependency_at edges k).channel (dependency_at edges k).how
+
+-- what is written of a cycle
+abbrev pub circuit_text : {A : Type 0} → List (dependency.Dependency A) → List ℕ
+circuit_text edges =
+    codes "cycle\n" ++ (first_lines (dependency_line edges) (length edges)
+    ++ codes "may lock up\n")
+
+-- what is written of a verdict on the network of these lines
+abbrev pub choosing_verdict_text : {A : Type 0} → Reading → Verdict A → List ℕ
+choosing_verdict_text r (Rising numbers travel) =
+    first_lines (number_line numbers.items) (length numbers.items)
+    ++ (travel_line travel ++ codes "rising\n")
+choosing_verdict_text r (NoEscape f) = no_escape_line (taken_cell r f.at f.to) f
+choosing_verdict_text r (Cycle edges) = circuit_text edges.items
+
+-- what is written of what is judged
+abbrev pub judgement_text : {A : Type 0} → Reading → JudgedNet A → List ℕ
+judgement_text r (WrongPair p) = no_route_line p
+judgement_text r (WrongChoice c) = no_choice_line c
+judgement_text r (Judged v) = choosing_verdict_text r v
+
+-- whether there are numbers that rise
+abbrev pub verdict_rises : {A : Type 0} → Verdict A → Bool
+verdict_rises (Rising numbers travel) = true
+verdict_rises (NoEscape f) = false
+verdict_rises (Cycle edges) = false
+
+abbrev pub judgement_rises : {A : Type 0} → JudgedNet A → Bool
+judgement_rises (WrongPair r) = false
+judgement_rises (WrongChoice c) = false
+judgement_rises (Judged v) = verdict_rises v
+
+-- what is judged of a network whose routers choose, and whether its numbers rise
+pub record TellsJudged {A : Type 0} (t : ChoosingText) (a : Answer A) : Type 0 where
+  pub judged : JudgedNet A
+  pub holds : IsChoosingJudgement t judged
+  pub text : a.text.items ≡ judgement_text t.fixed judged
+  pub rising : a.rising ≡ judgement_rises judged
+
+-- what is said of such a network with these pairs
+abbrev pub TellsChoosingOf : {A : Type 0} → List Join → ChoosingText → Answer A → Type 0
+TellsChoosingOf [] t a = SaysNoPair a
+TellsChoosingOf (join ∷ joins) t a = TellsJudged t a
+
+-- what is said of such a network: what is judged of it, if it has pairs
+abbrev pub TellsChoosing : {A : Type 0} → ChoosingText → Answer A → Type 0
+TellsChoosing t a = TellsChoosingOf t.fixed.table.joins t a
+
+-- what is judged of a network, and whether its numbers rise
+abbrev pub TellsRouting : {A : Type 0} → Routing → Answer A → Type 0
+TellsRouting (Fixed n) a = TellsFixedRoutes n a
+TellsRouting (Chosen t) a = TellsChoosing t a
+
+-- what is answered to a text of these lines: the verdict of its network, or its first fault, or out
+-- of memory
+abbrev pub AnswersRouting : {A : Type 0} → List (List ℕ) → Result (Answer A) LineFault → Type 0
+AnswersRouting lines (Ok a) = (n : Routing) × (routing_of lines ≡ Ok n) × TellsRouting n a
+AnswersRouting lines (Err e) =
+    (e ≡ record { fault = fault.Memory; line = 0 }) ⊎ (routing_of lines ≡ Err e)

@@ -1,0 +1,16 @@
+//! What is answered to a network text: the text of what is judged of its network, of fixed routes with the
+//! channels that fill up where it deadlocks, or of routers that choose.
+#![tactic(auto)]
+
+pub mod answer;
+pub mod jam;
+pub mod judgement;
+pub mod judging;
+pub mod routing;
+pub mod verdict;
+
+pub use answer::{Answer, judge_network, network_answer};
+pub use jam::judged_text;
+pub use judging::judged_of;
+pub use routing::routing_answer;
+pub use verdict::verdict_text;

@@ -1,0 +1,102 @@
+//! The answer to a network text, of fixed routes or of routers that choose.
+
+ghost use Rattle.std.specs.Prelude.{◌≡◌, true, IfOk};
+ghost use Rattle.std.specs.Str.Lines.{lines};
+ghost use Rattle.network_text.specs.ChoosingRead.{choosing_text_of, IsChoosingRead};
+ghost use Rattle.network_answer.specs.Routing.{AnswersRouting, TellsChoosing, TellsRouting};
+ghost use Rattle.network_text.specs.Routing.{routing_of_all};
+ghost use Rattle.network_answer.specs.Routing.{judgement_rises, verdict_rises};
+
+use crate::answer::{Answer, answered, no_pair};
+use crate::judgement::judgement_text;
+use crate::judging::judged_of;
+use network_adaptive::Verdict;
+use network_adaptive::accepting::JudgedNet;
+use network_text::choosing::{Choosing, Routers};
+use network_text::choosing_text::read_text_or_why;
+use network_text::network::network_read;
+use script::LineFault;
+use std::alloc::{AllocError, Allocator};
+use torus::Fault;
+
+/// Out of memory, which is of no line.
+const MEMORY: LineFault = LineFault {
+    fault: Fault::Memory,
+    line: 0,
+};
+
+/// Whether a verdict has numbers.
+fn verdict_rises<A: Allocator>(verdict: &Verdict<A>) -> bool
+    ensures { result ≡ verdict_rises verdict.now }
+{
+    match verdict {
+        Verdict::Rising(_, _) => true,
+        Verdict::NoEscape(_) => false,
+        Verdict::Cycle(_) => false,
+    }
+}
+
+/// Whether there are numbers that rise.
+fn judgement_rises<A: Allocator>(judged: &JudgedNet<A>) -> bool
+    ensures { result ≡ judgement_rises judged.now }
+{
+    match judged {
+        JudgedNet::WrongPair(_) => false,
+        JudgedNet::WrongChoice(_) => false,
+        JudgedNet::Judged(verdict) => verdict_rises(verdict),
+    }
+}
+
+/// Judges a network whose routers choose, and makes the text of what is judged: that it has no
+/// source-destination pair, or else what is judged of it.
+///
+/// Errors: out of memory.
+fn answered_choosing<A: Allocator + Copy>(
+    alloc: A,
+    network: &Choosing<A>,
+) -> Result<Answer<A>, AllocError>
+    requires read { IsChoosingRead network.now }
+    requires begun { network.now.fixed.begun ≡ true }
+    ensures { IfOk result (TellsChoosing (choosing_text_of network.now)) }
+{
+    if network.fixed.joins.is_empty() {
+        return no_pair(alloc);
+    }
+    let judged = judged_of(alloc, network)?;
+    let text = judgement_text(alloc, &network.fixed, &judged)?;
+    Ok(Answer {
+        text,
+        rising: judgement_rises(&judged),
+    })
+}
+
+/// Judges the network of a text, and makes the text of what is judged.
+///
+/// Errors: out of memory.
+fn answered_routing<A: Allocator + Copy>(
+    alloc: A,
+    network: Choosing<A>,
+) -> Result<Answer<A>, AllocError>
+    requires read { IsChoosingRead network }
+    requires begun { network.fixed.begun ≡ true }
+    ensures { IfOk result (TellsRouting (routing_of_all (choosing_text_of network))) }
+{
+    if network.is_fixed() {
+        return answered(alloc, &network_read(network));
+    }
+    answered_choosing(alloc, &network)
+}
+
+/// Reads a network text, judges the network and answers with the text of what is judged: as
+/// `network_answer` does where its routes are fixed, and else by routers that choose.
+///
+/// Errors: the first fault of the text and its line, or `Fault::Memory` at line 0.
+pub fn routing_answer<A: Allocator + Copy>(alloc: A, text: &[u8]) -> Result<Answer<A>, LineFault>
+    ensures { AnswersRouting (lines text.now) result }
+{
+    let network = read_text_or_why(alloc, text, Routers::AnyChoices)?;
+    match answered_routing(alloc, network) {
+        Ok(answer) => Ok(answer),
+        Err(_) => Err(MEMORY),
+    }
+}

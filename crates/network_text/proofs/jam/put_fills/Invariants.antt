@@ -1,6 +1,0 @@
-use Rattle.std.proofs.Common.{◌≡◌, ◌++◌}
-use Rattle.network_text.specs.Answer.{first_lines, fill_line_at}
-use Rattle.network_text.proofs.jam.put_fills.Given as goal
-
-abbrev pub invariant-loop-k : goal.invariant-loop-k
-invariant-loop-k g l = l.out.items ≡ l.fn.out.items ++ first_lines (fill_line_at l.fills) l.k

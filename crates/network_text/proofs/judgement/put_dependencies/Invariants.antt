@@ -1,7 +1,0 @@
-use Rattle.std.proofs.Common.{◌≡◌, ◌++◌}
-use Rattle.network_text.specs.Answer.{first_lines}
-use Rattle.network_text.specs.Routing.{dependency_line}
-use Rattle.network_text.proofs.judgement.put_dependencies.Given as goal
-
-abbrev pub invariant-loop-k : goal.invariant-loop-k
-invariant-loop-k g l = l.out.items ≡ l.fn.out.items ++ first_lines (dependency_line l.edges) l.k

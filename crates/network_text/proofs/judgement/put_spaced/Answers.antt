@@ -1,8 +1,0 @@
-use Rattle.network_text.proofs.Pieces.{line_put}
-use Rattle.network_text.specs.Routing.{spaced_number}
-use Rattle.network_text.proofs.judgement.put_spaced.Goals as goal
-
-pub loop-k-preserved : goal.loop-k-preserved
-loop-k-preserved g c =
-    line_put c.args.out.now.items c.loop-k.out.items c.put_number.new.out.items (spaced_number c.args.over.now) c.loop-k.k
-    c.loop-k.invariant c.in_ok-put_number.ensures

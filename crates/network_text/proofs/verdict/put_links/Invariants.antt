@@ -1,6 +1,0 @@
-use Rattle.std.proofs.Common.{◌≡◌, ◌++◌}
-use Rattle.network_text.specs.Answer.{first_lines, link_line}
-use Rattle.network_text.proofs.verdict.put_links.Given as goal
-
-abbrev pub invariant-loop-k : goal.invariant-loop-k
-invariant-loop-k g l = l.out.items ≡ l.fn.out.items ++ first_lines (link_line l.links) l.k
