@@ -1,2 +1,3 @@
 pub mod Jams
 pub mod Counted
+mod Mapped

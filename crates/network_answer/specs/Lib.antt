@@ -1,3 +1,4 @@
 pub mod Answer
 pub mod Judging
 pub mod Routing
+pub mod Causes

@@ -1,8 +1,10 @@
 //! What is answered to a network text: the text of what is judged of its network, of fixed routes with the
-//! channels that fill up where it deadlocks, or of routers that choose.
+//! channels that fill up where it deadlocks, or of routers that choose; and why the verdict is so.
 #![tactic(auto)]
 
 pub mod answer;
+pub mod cause_sentence;
+pub mod causes;
 pub mod jam;
 pub mod judgement;
 pub mod judging;
@@ -10,6 +12,8 @@ pub mod routing;
 pub mod verdict;
 
 pub use answer::{Answer, judge_network, network_answer};
+pub use cause_sentence::CauseSentence;
+pub use causes::{Cause, Wait, judged_causes, verdict_causes};
 pub use jam::judged_text;
 pub use judging::judged_of;
 pub use routing::routing_answer;
