@@ -1,0 +1,3 @@
+pub mod LockUps
+pub mod Fillings
+pub mod DeadSets
