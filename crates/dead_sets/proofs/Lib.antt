@@ -1,0 +1,7 @@
+pub mod Counting
+pub mod Zeros
+pub mod Closing
+pub mod Looking
+pub mod Adding
+pub mod Gathered
+pub mod Out

@@ -1,0 +1,4 @@
+pub mod Cases
+pub mod Peeling
+pub mod Numbers
+pub mod Greatest
