@@ -20,6 +20,21 @@ verdict() {
   fi
 }
 
+# is NAME WANTED GOT: both are the same.
+is() {
+  [ "$2" = "$3" ] && verdict "$1" '' || verdict "$1" "'$3' in place of '$2'"
+}
+
+# ended NAME STATUS GOT: a command ended with the status GOT, and printed to got.out and got.err; it must have ended with STATUS, and
+# printed what want.out and want.err have.
+ended() {
+  local why=""
+  [ "$3" = "$2" ] || why="status $3 in place of $2; "
+  cmp -s want.out got.out || why+="standard output: $(head -c 300 got.out | tr -d '\0'); "
+  cmp -s want.err got.err || why+="standard error: $(head -c 300 got.err)"
+  verdict "$1" "$why"
+}
+
 skip() {
   echo "$check: skipped: $1"
 }
@@ -52,6 +67,49 @@ find_program() {
     built=$root/crates/torusmem/out/torusmem
   fi
   [ -x "$built" ] || { verdict 'the program' "$(cat build)"; finish; }
+}
+
+# expect NAME STATUS OUT ERR TOOL WORD..: runs a tool of the folder `tools` on the words. OUT is a file of what it must print, to the
+# last byte, or `-` for nothing; ERR is what stands on standard error, without the tool's name ahead of it, or empty. Where it
+# names a text that torusmem refuses, in one line, a second one must begin with that text and its line, and say why.
+expect() {
+  local name=$1 status=$2 out=$3 err=$4 tool=$5 got reason
+  [ "$out" = - ] && out=/dev/null
+  cat "$out" >want.out
+  printf '%s' "${err:+$tool: $err
+}" >want.err
+  timeout "$patience" "$tools/$tool" "${@:6}" >got.out 2>got.err
+  got=$?
+  case $err in
+  *$'\n'*) ;;
+  *': fault F'*' at line '* | *': bad report at line '*)
+    reason=$(sed -n 2p got.err)
+    [ "${reason#"${err%%: *}:${err##* }: "}" != "$reason" ] && sed -i 2d got.err || echo 'no reason' >>got.err
+    ;;
+  esac
+  ended "$name" "$status" "$got"
+}
+
+# refused NAME STATUS ERR TOOL WORD..: the tool prints nothing but ERR.
+refused() {
+  expect "$4: $1" "$2" - "$3" "${@:4}"
+}
+
+# prints NAME STATUS TEXT ERR TOOL WORD..: the tool prints this text, of which \n ends a line.
+prints() {
+  printf '%b' "$3" >want.txt
+  expect "$1" "$2" want.txt "${@:4}"
+}
+
+# helps TOOL WORD..: the tool's help names all of these.
+helps() {
+  local tool=$1 why="" word
+  "$tools/$tool" --help >got.out 2>got.err || why="status $?; "
+  for word in "usage: $tool" "${tools##*/}/$tool" "${@:2}"; do
+    grep -qF -e "$word" got.out || why+="nothing of $word; "
+  done
+  [ -s got.err ] && why+="standard error: $(head -c 300 got.err)"
+  verdict "$tool: help" "$why"
 }
 
 # Ends a check of tools where there is no Python.

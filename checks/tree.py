@@ -5,6 +5,8 @@ import os
 import re
 from typing import Iterable, Iterator
 
+from crates import rows
+
 ROOT = os.path.dirname(os.path.dirname(os.path.realpath(__file__)))
 SKIPPED = {".git", ".ci", "__pycache__", "out", "target"}
 
@@ -75,8 +77,7 @@ class Tree:
             folders[:] = sorted(it for it in folders if it not in SKIPPED)
             self.files += [os.path.relpath(f"{folder}/{it}", ROOT) for it in sorted(files)]
         self.there = set(self.files) | {it for path in self.files for it in parents(path)}
-        rows = [it.partition("#")[0].partition(":") for it in read("crates.txt").split("\n")]
-        self.needs = {name.split()[0]: deps.split() for name, colon, deps in rows if colon}
+        self.needs = {name: uses for name, (_, uses) in rows(ROOT).items()}
         self.names: dict[str, set[str]] = {it: set() for it in self.needs}  # by crate, but those of proofs/
         self.laws: dict[str, set[str]] = {it: set() for it in self.needs}
         self.by_file: dict[str, set[str]] = {}

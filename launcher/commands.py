@@ -1,17 +1,20 @@
 """The commands of the program with their words, and the help that it prints of them, made of launcher/commands.txt; the built
 program is compared with these (checks/program). The parser of the words adds the command `help` by itself.
 
-    python3 launcher/commands.py         prints the names of the commands
-    python3 launcher/commands.py NAME    prints the help of a command, or, for `torusmem`, of the program
+    python3 launcher/commands.py                    prints the names of the commands
+    python3 launcher/commands.py NAME               prints the help of a command, or, for `torusmem`, of the program
+    python3 launcher/commands.py --write PROGRAM    writes launcher/commands.txt as this program prints the table: the path that
+                                                    launcher/look.py prints, say
 """
 from __future__ import annotations
 
 import functools
 import os
+import subprocess
 import sys
 from dataclasses import dataclass, field
 
-HERE = os.path.dirname(os.path.realpath(__file__))
+PATH = f"{os.path.dirname(os.path.realpath(__file__))}/commands.txt"
 # The columns of a help text.
 WIDTH = 100
 
@@ -65,7 +68,7 @@ class Table:
 
 def text() -> str:
     """What `torusmem --commands` prints."""
-    with open(f"{HERE}/commands.txt", encoding="utf-8") as file:
+    with open(PATH, encoding="utf-8") as file:
         return "".join(it for it in file if not it.startswith("#"))
 
 
@@ -133,8 +136,20 @@ def help_text(name: str) -> str:
     return "\n".join(lines) + "\n"
 
 
+def write(program: str) -> int:
+    """Writes the table that the program prints, behind the comment of the file."""
+    printed = subprocess.run([program, "--commands"], stdout=subprocess.PIPE, check=True).stdout.decode("utf-8")
+    with open(PATH, encoding="utf-8") as file:
+        head = "".join(it for it in file if it.startswith("#"))
+    with open(PATH, "w", encoding="utf-8") as file:
+        file.write(head + printed)
+    return 0
+
+
 def main() -> int:
     """Prints what is asked for."""
+    if sys.argv[1:2] == ["--write"] and len(sys.argv) == 3:
+        return write(sys.argv[2])
     names = [*table().commands]
     if sys.argv[1:] and sys.argv[1] not in (*names, "torusmem") or len(sys.argv) > 2:
         sys.stderr.write(__doc__ or "")

@@ -2,7 +2,6 @@
 from __future__ import annotations
 
 import ast
-import importlib
 import os
 import pkgutil
 import sys
@@ -52,8 +51,7 @@ def main() -> NoReturn:
     if name not in names():
         command.leave(TOOL, 2, f"there is no tool '{name}' (--help names them)")
     sys.argv = [name, *words]
-    importlib.import_module(f"torusmem_tools.cli.{name}").main()
-    command.leave(TOOL, 0)
+    command.start(name)
 
 
 if __name__ == "__main__":

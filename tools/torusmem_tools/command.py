@@ -9,8 +9,9 @@ goes away, as `head` does, it ends without a word by SIGPIPE.
 from __future__ import annotations
 
 import argparse
-import mmap
 import functools
+import importlib
+import mmap
 import os
 import shutil
 import signal
@@ -81,6 +82,13 @@ def whole(least: int, most: int) -> Callable[[str], int]:
 def bad_word(why: str) -> Exception:
     """What the reader of a word of the command line raises."""
     return argparse.ArgumentTypeError(why)
+
+
+def start(tool: str) -> NoReturn:
+    """Runs the tool of this name: the work of its module, which says what its status is where a text or a file is refused, if that
+    isn't 1."""
+    module = importlib.import_module(f"torusmem_tools.cli.{tool}")
+    run(tool, module.work, getattr(module, "REFUSED", 1))
 
 
 def run(tool: str, work: Callable[[], str], status: int = 1) -> NoReturn:
@@ -171,7 +179,7 @@ def refuse_twice(*paths: Optional[str]) -> None:
         raise WrongWords("- is given twice, and there is one standard input")
 
 
-def mapped(path: str) -> bytes | mmap.mmap:
+def map_file(path: str) -> bytes | mmap.mmap:
     """The bytes of a file, or of standard input for `-`. A long file isn't read into memory, and may have any length."""
     try:
         if path != "-" and os.path.isfile(path) and os.path.getsize(path) > 2**20:
@@ -234,20 +242,20 @@ def torusmem_on(texts: dict[str, str], *words: str, fine: tuple[int, ...] = (0,)
         return torusmem(*words, fine=fine)
     except Refusal as why:
         for path, name in texts.items():
-            reasons = explained(path, *words)
+            reasons = explain_refusal(path, *words)
             if reasons or len(texts) == 1:
-                raise named(why, name, reasons) from None
+                raise name_refusal(why, name, reasons) from None
         raise
 
 
-def named(why: Refusal, name: str, reasons: Sequence[str]) -> Refusal:
+def name_refusal(why: Refusal, name: str, reasons: Sequence[str]) -> Refusal:
     """A refusal of the program by the name of the text, with its reasons."""
     made = Refusal(f"{name}: {why}")
     made.lines = [f"{name}:{it}" for it in reasons]
     return made
 
 
-def explained(path: str, *words: str) -> list[str]:
+def explain_refusal(path: str, *words: str) -> list[str]:
     """What the program says of a text with `--explain`, behind its first line: each line without the text's name. The
     text is one of the words, or else the last one."""
     program = program_path()
@@ -271,7 +279,7 @@ def last_line(lines: Iterable[bytes]) -> str:
 
 
 @contextmanager
-def kept(text: bytes) -> Iterator[str]:
+def temporary_file(text: bytes) -> Iterator[str]:
     """A file of the text, for as long as the program reads it: it reads what the tool has read, also of a pipe."""
     with tempfile.TemporaryDirectory(prefix="torusmem-") as room:
         path = os.path.join(room, "text")

@@ -34,7 +34,7 @@ from torusmem_tools.draw.network_film import film_of as film_of_network
 from torusmem_tools.draw.paper import Paper
 from torusmem_tools.draw.svg_text import Point
 from torusmem_tools.model import replay, schedule_runs
-from torusmem_tools.model.network import parsed
+from torusmem_tools.model.network import parse_network
 from torusmem_tools.model.network_words import text_of
 from torusmem_tools.model.packet_rounds import read_traffic
 
@@ -144,7 +144,7 @@ def standing(machine: replay.Machine, spots: Spots, film: Film) -> list[list[Any
     return [[number, round(x, 1), round(y, 1)] for number, (x, y) in sorted(found)]
 
 
-def happened(machine: replay.Machine, now: int) -> list[str]:
+def events_of(machine: replay.Machine, now: int) -> list[str]:
     """The events of a round, in their order."""
     found = []
     for it in machine.operations():
@@ -164,7 +164,7 @@ def film_of(texts: replay.Texts, first: int | None, last: int | None, on: Paper 
     if machine.shape.tiles > MOST_TILES:
         raise command.Refusal(f"the machine has more than {MOST_TILES} tiles")
     spots, film, left_out = Spots(machine, on), Film(), 0
-    for machine, now in replay.replayed(texts):
+    for machine, now in replay.replay_rounds(texts):
         if now < (first or 0) or (last is not None and now > last):
             continue
         if len(film.rounds) == MOST_ROUNDS:
@@ -172,7 +172,7 @@ def film_of(texts: replay.Texts, first: int | None, last: int | None, on: Paper 
             continue
         film.rounds.append(now)
         film.flits.append(standing(machine, spots, film))
-        film.events.append(happened(machine, now))
+        film.events.append(events_of(machine, now))
     if not film.rounds:
         raise command.Refusal("nothing moves in these rounds")
     if left_out:
@@ -222,7 +222,7 @@ def page(film: Film, spots: Spots, unit: str) -> str:
 
 def of_network(given: argparse.Namespace) -> str:
     """The page of packets through a written network."""
-    net = parsed(text_of(given.network), given.network)
+    net = parse_network(text_of(given.network), given.network)
     if net.is_adaptive():
         raise command.Refusal("packets are sent through networks whose routers don't choose")
     traffic = read_traffic(net, text_of(given.machine), given.machine)
@@ -255,8 +255,3 @@ def work() -> str:
     texts = schedule_runs.read(given)
     film, spots = film_of(texts, given.first, given.last, given.width)
     return page(film, spots, texts.schedule.unit())
-
-
-def main() -> None:
-    """Runs the tool."""
-    command.run(TOOL, work)

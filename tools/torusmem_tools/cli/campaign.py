@@ -30,7 +30,7 @@ from torusmem_tools import command
 from torusmem_tools.model import campaign_cases, shrinking, trial
 from torusmem_tools.model.seed_runs import rows_made
 from torusmem_tools.progress import rewrite
-from torusmem_tools.texts.campaign_record import Row, add, appended, recorded, summary, write_record
+from torusmem_tools.texts.campaign_record import Row, add, append_row, read_rows, summary, write_record
 
 TOOL = "campaign"
 MOST_SEED = 2**60
@@ -82,12 +82,12 @@ def programs_of(given: argparse.Namespace, folder: str) -> trial.Programs:
 
 def campaign(given: argparse.Namespace, folder: str) -> list[Row]:
     """Makes the runs of the seeds that the record doesn't have, as far as there is time; answers the record."""
-    rows = recorded(given.record) if given.record and os.path.exists(given.record) else {}
+    rows = read_rows(given.record) if given.record and os.path.exists(given.record) else {}
     left = [it for it in given.seeds if (given.by, it) not in rows]
     until = time.monotonic() + 60 * given.minutes if given.minutes else None
     progress, wrong, done = Progress(), 0, 0
     programs = programs_of(given, folder)
-    with appended(given.record, rows) as record, contextlib.closing(rows_made(left, given, programs, folder)) as made:
+    with append_row(given.record, rows) as record, contextlib.closing(rows_made(left, given, programs, folder)) as made:
         for row in made:
             add(rows, row)
             record.write(row.text())
@@ -103,11 +103,11 @@ def campaign(given: argparse.Namespace, folder: str) -> list[Row]:
     return sorted((it for it in rows.values() if it.seed in wanted and it.key()[0] == given.by), key=Row.key)
 
 
-def joined(given: argparse.Namespace) -> list[Row]:
+def join_records(given: argparse.Namespace) -> list[Row]:
     """The lines of all records together; written, where that is asked."""
     rows: dict[tuple[str, int], Row] = {}
     for path in given.join:
-        for row in recorded(path).values():
+        for row in read_rows(path).values():
             add(rows, row)
     found = sorted(rows.values(), key=Row.key)
     if given.record:
@@ -119,7 +119,7 @@ def given_case(given: argparse.Namespace, folder: str) -> tuple[campaign_cases.C
     """The run that is to be made smaller, that of a seed or of the texts of a folder; and the programs for it."""
     if given.shrink.isascii() and given.shrink.isdigit():
         programs = programs_of(given, folder)
-        return campaign_cases.drawn(int(given.shrink), given.by, programs.draws), programs
+        return campaign_cases.draw_case(int(given.shrink), given.by, programs.draws), programs
     text: Callable[[str], str] = lambda name: command.contents(os.path.join(given.shrink, name)).decode("ascii", "replace")
     there: Callable[[str], bool] = lambda name: os.path.exists(os.path.join(given.shrink, name))
     words = text("words.txt").split() if there("words.txt") else [given.by]
@@ -127,7 +127,7 @@ def given_case(given: argparse.Namespace, folder: str) -> tuple[campaign_cases.C
         steps = text("steps.txt") if there("steps.txt") else ""
         # where there are steps, the words that drew them are of no use any more
         options = [] if steps else words[1:]
-        case = campaign_cases.read(words[0], text("machine.txt"), text("script.txt"), steps, options)
+        case = campaign_cases.case_of_texts(words[0], text("machine.txt"), text("script.txt"), steps, options)
         given.by = case.way
         return case, programs_of(given, folder)
     except (ValueError, KeyError, IndexError):
@@ -153,7 +153,7 @@ def shrunk(given: argparse.Namespace, folder: str) -> str:
 
     small = shrinking.smaller(case, fails)
     with tempfile.TemporaryDirectory(prefix="torusmem-") as room:
-        last = trial.tried(small, programs, room, True)
+        last = trial.try_case(small, programs, room, True)
     progress.put("")
     where = given.keep or f"small-{case.way}"
     trial.store(small, last, where)
@@ -211,13 +211,8 @@ def work() -> str:
     with tempfile.TemporaryDirectory(prefix="torusmem-") as folder:
         if given.shrink:
             return shrunk(given, folder)
-        rows = joined(given) if given.join else campaign(given, folder)
+        rows = join_records(given) if given.join else campaign(given, folder)
     if any(not it.is_good() for it in rows):
         command.put(TOOL, summary(rows))
         raise command.Refusal(f"{sum(not it.is_good() for it in rows)} of {len(rows)} runs went wrong")
     return summary(rows)
-
-
-def main() -> None:
-    """Runs the tool."""
-    command.run(TOOL, work)

@@ -27,7 +27,7 @@ from typing import Dict
 from torusmem_tools import command
 from torusmem_tools.command import Refusal
 from torusmem_tools.draw import paper
-from torusmem_tools.draw.log_cycle import REASONS, Cycle, Log, drawn
+from torusmem_tools.draw.log_cycle import REASONS, Cycle, Log, draw_cycle
 
 TOOL = "cycle"
 MOST = 200
@@ -87,13 +87,8 @@ def work() -> str:
     if given.verdict:
         said = command.contents(given.verdict).decode("utf-8", "replace")
     else:
-        with command.kept(text) as path:
+        with command.temporary_file(text) as path:
             # Both a model that is broken and a refused log have the status 1, but then nothing is printed.
             said = command.torusmem("model", path, fine=(0, 1)) or command.torusmem_on({path: given.log}, "model", path)
     log = log_of(text.decode("utf-8", "replace"), given.log)
-    return drawn(log, cycle_of(said, log, given.log, given.verdict or given.log), os.path.basename(given.log), given.width, TOOL)
-
-
-def main() -> None:
-    """Runs the tool."""
-    command.run(TOOL, work)
+    return draw_cycle(log, cycle_of(said, log, given.log, given.verdict or given.log), os.path.basename(given.log), given.width, TOOL)

@@ -166,7 +166,7 @@ def check(given: Namespace) -> Found:
     tiles = report.product(given.shape) if given.shape else None
     limits = table.Limits(tiles, given.words, is_hex=given.hex)
     memory = memory_of(given, limits)
-    text: Any = command.mapped(given.table)  # bytes, or a map of a file
+    text: Any = command.map_file(given.table)  # bytes, or a map of a file
     found = trace_check.Table(given.table, table.with_commas(text, given.table), limits)
     table.first_row(found.text[: found.begin()], given.table)
     with tempfile.TemporaryDirectory(prefix="torusmem-") as folder:
@@ -218,7 +218,7 @@ def opening_words(given: Namespace) -> dict[int, int]:
 def log(given: Namespace) -> Found:
     """The log text, or with --check what the program says of it."""
     opening = opening_words(given)
-    found = operation_log.read(command.contents(given.table), given.table, opening, given.hex)
+    found = operation_log.read_log(command.contents(given.table), given.table, opening, given.hex)
     lines_made = list(found.lines(words_of(given, found, opening), opening))
     if not given.check:
         return Found("".join(f"{text}\n" for _, text in lines_made))
@@ -231,7 +231,7 @@ def trace(given: Namespace) -> Found:
     gc.disable()  # it would look again and again at rows that hold no circles
     told = progress.Progress(TOOL)
     opening = opening_words(given)
-    calls = call_table.read(command.contents(given.table), given.table, given.strict, told, given.hex)
+    calls = call_table.read_calls(command.contents(given.table), given.table, given.strict, told, given.hex)
     told.say("putting events in order")
     opening = calls.opening(opening, given.opening)
     words = words_of(given, calls, opening)
@@ -290,7 +290,7 @@ def result_for_build(given: Namespace) -> Found:
     try:
         found = result(given)
     except command.Refusal as why:
-        put([junit.refused(given.table, why, REFUSED)])
+        put([junit.refused_case(given.table, why, REFUSED)])
         raise
     put(list(found.cases) or [junit.Case(given.table, found.status, found.text.rstrip("\n"), found.lines)])
     return found
@@ -322,8 +322,3 @@ def work() -> str:
             command.say(TOOL, it)
         command.leave(TOOL, found.status)
     return found.text
-
-
-def main() -> None:
-    """Runs the tool."""
-    command.run(TOOL, work, REFUSED)

@@ -36,7 +36,6 @@ there is no such operation: a load is left out, and another refused.
 """
 from __future__ import annotations
 
-from argparse import Namespace
 from typing import List
 
 from torusmem_tools import command
@@ -82,8 +81,9 @@ def log(reader: port_signals.Reader) -> List[str]:
     return lines + [text for _, _, text in sorted(placed, key=lambda it: it[:2])]
 
 
-def work(given: Namespace) -> str:
+def work() -> str:
     """What the tool prints."""
+    given = words().parse_args()
     command.refuse_twice(given.dump, given.signals)
     names = port_signals.read(given.signals)
     reader = port_signals.Reader(waveform.read(given.dump), names)
@@ -91,8 +91,3 @@ def work(given: Namespace) -> str:
     if not any(reader.made):
         raise command.Refusal(f"{given.dump}: no operation is issued")
     return "".join(f"{it}\n" for it in lines)
-
-
-def main() -> None:
-    """Runs the tool."""
-    command.run(TOOL, lambda: work(words().parse_args()))

@@ -36,10 +36,10 @@ from typing import Any, Callable, Sequence
 
 from torusmem_tools import command
 from torusmem_tools.draw import channel_load, network_load, paper, svg_text, torus_layout
-from torusmem_tools.draw.histogram import drawn_bars, spread
+from torusmem_tools.draw.histogram import drawn_bars, summary_of
 from torusmem_tools.draw.paper import Paper
 from torusmem_tools.model import cycles, replay, schedule_runs
-from torusmem_tools.model.network import parsed
+from torusmem_tools.model.network import parse_network
 from torusmem_tools.model.network_words import text_of
 from torusmem_tools.texts import traffic_report
 from torusmem_tools.texts.columns import aligned
@@ -103,7 +103,7 @@ def times_of(rows: list[dict[str, Any]]) -> dict[str, Any]:
     answered = [it for it in rows if it["answered"] is not None]
     made["service_to_answer"] = [it["answered"] - it["served"] for it in answered]
     made["hops"] = [it["hops"] for it in rows]
-    return {it: spread(made[it]) for it in (*TIMES, "hops")}
+    return {it: summary_of(made[it]) for it in (*TIMES, "hops")}
 
 
 def figures(texts: replay.Texts, top: int, cycle: int) -> dict[str, Any]:
@@ -166,8 +166,8 @@ def histograms(made: dict[str, Any], given: Paper | None) -> str:
 
 def of_network(given: argparse.Namespace, top: int) -> str:
     """What the tool prints of a report on packets through a written network."""
-    net = parsed(text_of(given.network), given.network)
-    made = network_load.figures(net, traffic_report.report_of(net, given.machine), top, given.cycle)
+    net = parse_network(text_of(given.network), given.network)
+    made = network_load.figures(net, traffic_report.read_traffic_report(net, given.machine), top, given.cycle)
     if given.json:
         return json.dumps(made, indent=2) + "\n"
     if given.histogram:
@@ -208,8 +208,3 @@ def work() -> str:
     if given.histogram:
         return histograms(made, given.width)
     return channel_load.picture(made, replay.Machine(texts.case).shape, given.width, TOOL) if given.svg else table(made)
-
-
-def main() -> None:
-    """Runs the tool."""
-    command.run(TOOL, work)

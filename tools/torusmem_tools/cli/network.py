@@ -105,12 +105,12 @@ from torusmem_tools.model import traffic_draw
 from torusmem_tools.model.adaptive_verdict import sentences
 from torusmem_tools.model.adaptive_walk import duato_verdict
 from torusmem_tools.model.deadlock import run_of
-from torusmem_tools.model.network import Network, channel_dependencies, parsed
-from torusmem_tools.model.network_verdict import Verdict, explained, verdict_of, verdict_read
-from torusmem_tools.model.network_words import generated, text_of
-from torusmem_tools.model.packet_rounds import ARBITERS, simulated
+from torusmem_tools.model.network import Network, channel_dependencies, parse_network
+from torusmem_tools.model.network_verdict import Verdict, explain, verdict_of, verdict_read
+from torusmem_tools.model.network_words import network_of, text_of
+from torusmem_tools.model.packet_rounds import ARBITERS, simulate
 from torusmem_tools.model.turn_models import TURNS
-from torusmem_tools.model.wormhole import replayed
+from torusmem_tools.model.wormhole import replay_moves
 from torusmem_tools.texts.network_rows import table
 
 TOOL = "network"
@@ -135,7 +135,7 @@ def walk(net: Network, path: str, is_explained: bool) -> str:
     if net.is_adaptive():
         return walk_adaptive(net, path, is_explained)
     found = verdict(net, path) if path or is_explained else Verdict(channel_dependencies(net)[0], "")
-    said = explained(net, found) if is_explained else f"{found.kind}\n"
+    said = explain(net, found) if is_explained else f"{found.kind}\n"
     if found.kind != "rising":
         command.put(TOOL, said)
         command.leave(TOOL, 1)
@@ -154,7 +154,7 @@ def walk_adaptive(net: Network, path: str, is_explained: bool) -> str:
     return ""
 
 
-def locked(net: Network, path: str, depth: int) -> str:
+def deadlock_run(net: Network, path: str, depth: int) -> str:
     """The run of a network that deadlocks."""
     alone(net)
     found = verdict(net, path)
@@ -163,7 +163,7 @@ def locked(net: Network, path: str, depth: int) -> str:
     return "\n".join(run_of(net, found.fills, depth)) + "\n"
 
 
-def drawn(net: Network, path: str, on: Optional[paper.Paper]) -> str:
+def draw_network(net: Network, path: str, on: Optional[paper.Paper]) -> str:
     """The picture of a network. What its links and its choices say of a router must be the same."""
     if len(net.kinds) > MOST_DRAWN:
         raise Refusal(f"a picture has at most {MOST_DRAWN} channels, and the network has {len(net.kinds)}")
@@ -247,23 +247,18 @@ def work() -> str:
     if given.what == "table":
         return table(text_of(given.which), given.which)
     if given.what in GENERATORS:
-        net = generated(given)
+        net = network_of(given)
         if given.what == "from-booksim" and channel_dependencies(net)[0] == "cycle":
             command.say(TOOL, "shortest paths have a cycle here")
-        return drawn(net, given.verdict, given.width) if given.svg else net.text(given.names)
-    net = parsed(text_of(given.which), given.which)
+        return draw_network(net, given.verdict, given.width) if given.svg else net.text(given.names)
+    net = parse_network(text_of(given.which), given.which)
     if given.what == "traffic":
-        return traffic_draw.written(net, given)
+        return traffic_draw.traffic_text(net, given)
     if given.what in ("replay", "simulate"):
         alone(net)
         words = net, given.depth or 1, text_of(given.moves), given.moves
-        shown = replayed(*words) if given.what == "replay" else simulated(*words, given.arbiter or ARBITERS[0])
+        shown = replay_moves(*words) if given.what == "replay" else simulate(*words, given.arbiter or ARBITERS[0])
         return "\n".join(shown) + "\n"
     if given.what == "run":
-        return locked(net, given.verdict, given.depth or 1)
-    return drawn(net, given.verdict, given.width) if given.svg else walk(net, given.verdict, given.explain)
-
-
-def main() -> None:
-    """Runs the tool."""
-    command.run(TOOL, work)
+        return deadlock_run(net, given.verdict, given.depth or 1)
+    return draw_network(net, given.verdict, given.width) if given.svg else walk(net, given.verdict, given.explain)

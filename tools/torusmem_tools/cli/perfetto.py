@@ -90,12 +90,7 @@ def work() -> str:
     parser = command.parser(TOOL, __doc__)
     report.add_words(parser)
     given = parser.parse_args()
-    found = report.read(given)
+    found = report.read_report(given)
     if found.entries and not found.ordered():
         raise command.Refusal(f"{given.report} has no `order` lines, so that the times of its operations aren't known")
     return text_of(found)
-
-
-def main() -> None:
-    """Runs the tool."""
-    command.run(TOOL, work)

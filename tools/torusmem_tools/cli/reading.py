@@ -126,12 +126,7 @@ def work() -> str:
     if given.where is not None:
         if not re.fullmatch(r"[A-Za-z][\w-]*", given.where):
             raise command.WrongWords(f"argument --where: '{given.where}' is no word of letters, digits, - and _")
-        return "\n".join(word_places.listed(given.where)) + "\n"
+        return "\n".join(word_places.list_places(given.where)) + "\n"
     if not given.items:
         raise command.WrongWords("the following arguments are required: ITEM (--help says more)")
     return "\n".join(reading(given.items, given.but)) + "\n"
-
-
-def main() -> None:
-    """Runs the tool."""
-    command.run(TOOL, work)

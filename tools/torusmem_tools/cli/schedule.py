@@ -39,15 +39,10 @@ def work() -> str:
     given = words().parse_args()
     command.refuse_twice(given.machine, given.script)
     machine, script = (command.contents(it) for it in (given.machine, given.script))
-    with command.kept(machine) as first, command.kept(script) as second:
+    with command.temporary_file(machine) as first, command.temporary_file(script) as second:
         texts = {first: given.machine, second: given.script}
         told = by_program(texts, given.rounds, given.clocked)
         made = schedule_runs.in_rounds(replay.case_of(machine, script), given.rounds, given.clocked)
         if made != told:
             raise command.Refusal("these are not the moves that `torusmem schedule` prints")
     return made
-
-
-def main() -> None:
-    """Runs the tool."""
-    command.run(TOOL, work)

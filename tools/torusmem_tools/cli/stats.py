@@ -108,10 +108,5 @@ def words() -> command.Parser:
 def work() -> str:
     """What the tool prints."""
     given = words().parse_args()
-    made = figures(report.read(given), given.top)
+    made = figures(report.read_report(given), given.top)
     return json.dumps(made, indent=2) + "\n" if given.json else table(made)
-
-
-def main() -> None:
-    """Runs the tool."""
-    command.run(TOOL, work)

@@ -63,7 +63,7 @@ STUDENT = (12.706, 4.303, 3.182, 2.776, 2.571, 2.447, 2.365, 2.306, 2.262, 2.228
 SATURATION = 3
 
 
-def ignored() -> None:
+def ignore_interrupts() -> None:
     """A process of its own leaves an interrupt to the one that started it."""
     signal.signal(signal.SIGINT, signal.SIG_IGN)
 
@@ -82,7 +82,7 @@ def numbered_result(numbered: tuple[int, Point]) -> tuple[int, offered_load.Foun
 def all_measured(points: list[Point], jobs: int) -> list[offered_load.Found]:
     """What all runs came to, so many made at once, in their order."""
     found: list[offered_load.Found | None] = [None] * len(points)
-    with multiprocessing.get_context("fork").Pool(min(jobs, len(points)), ignored) as pool:
+    with multiprocessing.get_context("fork").Pool(min(jobs, len(points)), ignore_interrupts) as pool:
         for done, (at, made) in enumerate(pool.imap_unordered(numbered_result, list(enumerate(points)))):
             if isinstance(made, str):
                 raise command.Refusal(made)
@@ -92,7 +92,7 @@ def all_measured(points: list[Point], jobs: int) -> list[offered_load.Found]:
     return [it for it in found if it is not None]
 
 
-def spread(values: list[float]) -> tuple[float, float]:
+def mean_within(values: list[float]) -> tuple[float, float]:
     """The mean, and the half width of its 95 % interval."""
     mean = sum(values) / len(values)
     variance = sum((it - mean) ** 2 for it in values) / (len(values) - 1)
@@ -101,7 +101,7 @@ def spread(values: list[float]) -> tuple[float, float]:
 
 def row_of(point: Point, found: list[offered_load.Found]) -> dict[str, Any]:
     """What the runs of a load came to."""
-    accepted, latency = spread([it.accepted for it in found]), spread([it.latency for it in found])
+    accepted, latency = mean_within([it.accepted for it in found]), mean_within([it.latency for it in found])
     drained, zero = sum(it.is_drained for it in found), offered_packets.zero_load(point) if isinstance(point, offered_packets.Point) else offered_load.zero_load(point)
     row: dict[str, Any] = {"shape": point.shape(), "traffic": point.traffic, "offered": point.load}
     row.update(accepted=round(accepted[0], 5), accepted_within=round(accepted[1], 5))
@@ -231,8 +231,3 @@ def work() -> str:
     rounds, stores = "rounds in order" if given.rounds_in_order else "clocked rounds", STORES if given.stores is None else given.stores
     said = f"{rounds}, {stores} % stores, depth {given.depth}, {given.tags or TAGS} tags"
     return curves.plot(rows, given.width, said, f"offered, operations per tile and {unit}", unit)
-
-
-def main() -> None:
-    """Runs the tool."""
-    command.run(TOOL, work)

@@ -109,15 +109,15 @@ def work() -> str:
             raise command.WrongWords("--processors and --addresses choose nothing of a trace text")
         if given.unchecked:
             raise command.WrongWords("--unchecked is of no use with a trace text (--help says more)")
-        trace = trace_timeline.read(command.contents(given.report), given.report)
-        return trace_timeline.drawn(trace, trace_timeline.window_of(trace, given.first, given.last), given.width, TOOL)
+        trace = trace_timeline.judge_trace(command.contents(given.report), given.report)
+        return trace_timeline.draw_trace(trace, trace_timeline.window_of(trace, given.first, given.last), given.width, TOOL)
     if call_table.is_calls(given.report):
         if given.processors or given.addresses or given.unchecked:
             raise command.WrongWords("--processors, --addresses and --unchecked are of no use with a table or a log (--help says more)")
         text = command.contents(given.report)
         return call_timeline.picture(text, given.report, given.first, given.last, TOOL, given.width, given.hex)
     call_table.refuse_other_table(given.report)
-    found = report.read(given)
+    found = report.read_report(given)
     total = len(found.ordered())
     if found.entries and not total:
         raise command.Refusal(f"{given.report} has no `order` lines, so that the times of its operations aren't known")
@@ -125,9 +125,4 @@ def work() -> str:
     window = window_of(entries, total, given.first, given.last)
     if window.note:
         command.say(TOOL, f"draws {window.note}")
-    return lanes.on_paper(found, window, processors, given.width, TOOL) if given.width else lanes.drawn(found, window, processors)
-
-
-def main() -> None:
-    """Runs the tool."""
-    command.run(TOOL, work)
+    return lanes.on_paper(found, window, processors, given.width, TOOL) if given.width else lanes.draw_lanes(found, window, processors)

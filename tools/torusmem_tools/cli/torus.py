@@ -114,7 +114,7 @@ def badge(x: float, y: float, said: str, colour: str, is_full: bool = True) -> l
     return [ground, svg_text.text(x, y + 4, said, 11, text_anchor="middle", fill=ink, font_family=svg_text.MONO)]
 
 
-def shortened(layout: Layout, way: list[Point]) -> list[Point]:
+def shorten(layout: Layout, way: list[Point]) -> list[Point]:
     """A way whose last piece ends at the border of the tile, so that an arrow's head is seen."""
     (x, y), (u, v) = way[-2:]
     part = min(*(half / abs(far) if far else 1 for half, far in ((layout.tile / 2 + 2, u - x), (HIGH / 2 + 2, v - y))), 1)
@@ -125,7 +125,7 @@ def drawn_hop(layout: Layout, hop: Channel) -> str:
     """A hop of a route: an arrow along its link, and the channel's number."""
     start = hop.tile if hop.by == 1 else layout.shape.next_tile(hop.tile, hop.dim, -1)
     way = layout.link(start, hop.dim)
-    line = svg_text.path(shortened(layout, way if hop.by == 1 else way[::-1]))
+    line = svg_text.path(shorten(layout, way if hop.by == 1 else way[::-1]))
     arrow: dict[str, Any] = {
         "fill": "none",
         "stroke": BITS[hop.bit],
@@ -184,7 +184,7 @@ def heading(shape: Shape, route: list[Channel], kind: str) -> str:
     return said + (f": the route of a {kind} from tile {route[0].tile} to tile {route[-1].tile}" if route else "")
 
 
-def drawn(shape: Shape, numbers: dict[tuple[int, int], int], route: list[Channel], kind: str) -> str:
+def draw_torus(shape: Shape, numbers: dict[tuple[int, int], int], route: list[Channel], kind: str) -> str:
     """The whole picture."""
     layout = Layout(shape)
     parts = [heads(), svg_text.text(12, 24, heading(shape, route, kind), 14, font_weight="bold")]
@@ -230,7 +230,7 @@ def work() -> str:
     if given.reply and not given.route:
         raise command.WrongWords("--reply wants --route")
     text = command.contents(given.machine)
-    with command.kept(text) as path:
+    with command.temporary_file(text) as path:
         numbers = numbers_of(command.torusmem_on({path: given.machine}, "channels", path))
         shape = shape_of(text)
         if given.route and max(given.route) >= shape.tiles:
@@ -241,9 +241,4 @@ def work() -> str:
             asked = ["route", path, *map(str, given.route), *(["--reply"] if given.reply else [])]
             route = route_of(command.torusmem(*asked))
     told = shape, numbers, route, "reply" if given.reply else "request"
-    return on_paper(*told, given.width) if given.width else drawn(*told)
-
-
-def main() -> None:
-    """Runs the tool."""
-    command.run(TOOL, work)
+    return on_paper(*told, given.width) if given.width else draw_torus(*told)

@@ -72,13 +72,13 @@ def bar(x: float, end: float, top: float, said: str, colour: str, did: str, is_o
     return svg_text.group(parts)
 
 
-class Told:
+class StoryPicture:
     """What a picture of a no says: its heads, and the operations, each with its role, its words and what it did."""
 
     def __init__(self, why: trace_verdict.NoOrder) -> None:
         self.found, self.calls = refusal_story.story_of(why.calls, why.trace, why.event), why.calls
         found, calls, names = self.found, self.calls, why.calls.names
-        teller = refusal_story.Teller(calls, why.trace)
+        teller = refusal_story.StoryTeller(calls, why.trace)
         self.roles = roles_of(found, names.shown(str(found.value)))
         if why.is_failed_cas:
             self.roles = {at: it for at, it in self.roles.items() if it[0] != OVER or it[1] == "open then"}
@@ -105,7 +105,7 @@ class Told:
         return self.roles[it.at][0] if it.at in self.roles else OTHER
 
 
-def drawn(told: Told) -> str:
+def draw_story(told: StoryPicture) -> str:
     """The picture of a no."""
     mine, calls = told.mine, told.calls
     wide = {it.at: max(wide_of(told.said[it.at], FONT), wide_of(told.did[it.at], SMALL)) for it in mine}
@@ -128,7 +128,7 @@ def drawn(told: Told) -> str:
     return svg_text.svg(right + RIGHT, low + 12, [*parts, *bars])
 
 
-def on_paper(told: Told, on: Paper, tool: str) -> str:
+def on_paper(told: StoryPicture, on: Paper, tool: str) -> str:
     """The picture of a no on paper: a row for each operation, with its words above its bar, and what it did below."""
     parts: List[str] = []
     low = paper.say(parts, paper.MARGIN, 16, told.heads[0], on.inside(), font_weight="bold")
@@ -157,21 +157,21 @@ def on_paper(told: Told, on: Paper, tool: str) -> str:
 def picture(text: bytes, path: str, first: int | None, last: int | None, tool: str, on: Paper | None, is_hex: bool) -> str:
     """The picture of a table or of a log: of the key at fault, or of its whole trace."""
     told = Progress(tool)
-    calls = call_table.read(text, path, False, told, is_hex)
+    calls = call_table.read_calls(text, path, False, told, is_hex)
     opening = calls.opening({}, None)
     judge = trace_verdict.Judge(calls, max([calls.greatest_address(), *opening]) + 1, opening, [], told)
     try:
         trace_verdict.verdict(judge, True)
     except trace_verdict.NoOrder as why:
         if first is None and last is None and not why.is_undecided:
-            return on_paper(Told(why), on, tool) if on else drawn(Told(why))
+            return on_paper(StoryPicture(why), on, tool) if on else draw_story(StoryPicture(why))
     finally:
         told.clear()
         for it in filter(None, (calls.left_out(is_placed=True), *calls.names.left())):
             command.say(tool, it)
     trace = judge.trace({})
-    read = trace_timeline.read(trace.text().encode("ascii"), path)
+    read = trace_timeline.judge_trace(trace.text().encode("ascii"), path)
     read.times = {number: calls.times(it if it >= 0 else ~it)[it < 0] for number, it in enumerate(trace.events, 1)}
     for one, at in zip(read.operations, (at for at in trace.events if at >= 0)):
         one.lane = command.printable(f"{calls.who} {calls.processors[at]}")
-    return trace_timeline.drawn(read, trace_timeline.window_of(read, first, last), on, tool)
+    return trace_timeline.draw_trace(read, trace_timeline.window_of(read, first, last), on, tool)

@@ -3,7 +3,7 @@ from __future__ import annotations
 
 from torusmem_tools.draw.diagram import Marks
 from torusmem_tools.draw.router_ends import Plan
-from torusmem_tools.model.adaptive_walk import Found
+from torusmem_tools.model.adaptive_walk import AdaptiveVerdict
 from torusmem_tools.model.network import Network, number_of
 from torusmem_tools.model.network_verdict import Verdict
 
@@ -31,7 +31,7 @@ def marks_of(net: Network, plan: Plan, verdict: Verdict) -> Marks:
     return Marks({x: str(x) for x in named}, full, net.replies, waited)
 
 
-def marks_of_chosen(net: Network, found: Found) -> Marks:
+def marks_of_chosen(net: Network, found: AdaptiveVerdict) -> Marks:
     """The same of a network whose routers choose: the numbers of escapes, or the channels of a cycle and those over
     which they lead on."""
     marks = net.escaping()

@@ -21,7 +21,7 @@ def round_step(most: float, wanted: int) -> float:
     return next(f * 10.0**p for p in range(-6, 9) for f in (1, 2, 5) if f * 10.0**p * wanted >= most)
 
 
-def shown(x: float) -> str:
+def axis_number(x: float) -> str:
     """A number of an axis."""
     return f"{x:.6f}".rstrip("0").rstrip(".")
 
@@ -47,17 +47,17 @@ class Panel:
             x, _ = self.at(count * self.steps[0], 0)
             yield svg_text.element("path", d=svg_text.path([(x, self.top), (x, low)]), stroke=svg_text.INK if not count else palette.GRID, stroke_width=0.6)
             if has_numbers:
-                yield svg_text.text(x, low + 1.4 * size, shown(count * self.steps[0]), size, text_anchor="middle")
+                yield svg_text.text(x, low + 1.4 * size, axis_number(count * self.steps[0]), size, text_anchor="middle")
         for count in range(round(self.ends[1] / self.steps[1]) + 1):
             _, y = self.at(0, count * self.steps[1])
             yield svg_text.element("path", d=svg_text.path([(self.left, y), (right, y)]), stroke=svg_text.INK if not count else palette.GRID, stroke_width=0.6)
-            yield svg_text.text(self.left - 0.5 * size, y + 0.35 * size, shown(count * self.steps[1]), size, text_anchor="end")
+            yield svg_text.text(self.left - 0.5 * size, y + 0.35 * size, axis_number(count * self.steps[1]), size, text_anchor="end")
         x, y = 1.1 * size, self.top + self.high / 2
         turned = f"rotate(-90 {svg_text.short(x)} {svg_text.short(y)})"
         yield svg_text.text(x, y, name, size, text_anchor="middle", transform=turned)
 
 
-def said(row: Row) -> str:
+def tooltip(row: Row) -> str:
     """What the tooltip of a load says."""
     text = f"{row['shape']}, {row['traffic']}, offered {row['offered']:g}: accepted {row['accepted']:.4f} +- {row['accepted_within']:.4f}"
     return f"{text}, latency {row['latency']:.2f} +- {row['latency_within']:.2f}" + (", saturated" if row["saturated"] else "")
@@ -76,7 +76,7 @@ def curve(panel: Panel, rows: list[Row], key: str, dashes: str | None) -> str:
     for it, (x, y) in zip(rows, ends):
         high, low = (panel.at(0, it[key] + by * it[f"{key}_within"])[1] for by in (1, -1))
         bar = svg_text.element("path", d=svg_text.path([(x, high), (x, min(low, panel.top + panel.high))]), stroke=colour, stroke_width=0.14 * panel.letters)
-        parts.append(svg_text.group([svg_text.title(said(it)), bar, palette.mark(MARKS[traffic], x, y, size, colour, not it["saturated"])]))
+        parts.append(svg_text.group([svg_text.title(tooltip(it)), bar, palette.mark(MARKS[traffic], x, y, size, colour, not it["saturated"])]))
     return svg_text.group(parts)
 
 

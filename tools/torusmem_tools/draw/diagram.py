@@ -8,7 +8,7 @@ from typing import Dict, List, Set, Tuple
 
 from torusmem_tools.draw import svg_text
 from torusmem_tools.draw.router_ends import Plan, pairs_of
-from torusmem_tools.draw.shapes import Box, Line, Point, Taken, around, at, bent, beside, curve, from_box, length, spanned, to_box
+from torusmem_tools.draw.shapes import Box, Line, Point, TakenBoxes, around, at, bent, beside, curve, from_box, length, spanned, to_box
 from torusmem_tools.draw.strokes import END, FULL, HEAD, LOADED, ROUND, THICK, THIN, VIRTUAL, answer, arrow, label_box, middle_text, router, width_of
 
 @dataclass
@@ -43,7 +43,7 @@ class Diagram:
     def __init__(self, plan: Plan, marks: Marks, places: List[Point], half: Point, lane: float) -> None:
         self.plan, self.marks, self.half, self.lane = plan, marks, half, lane
         self.boxes = [Box(x, y, *half) for x, y in places]
-        self.taken = Taken()
+        self.taken = TakenBoxes()
         self.hops: List[Drawn] = []
         self.ends: List[Drawn] = []
         self.replies: List[Tuple[Tuple[int, int], Line]] = []

@@ -10,7 +10,7 @@ from torusmem_tools.model.percentiles import percentile
 BARS = 24
 
 
-def spread(found: list[int]) -> dict[str, Any] | None:
+def summary_of(found: list[int]) -> dict[str, Any] | None:
     """What is printed of a list of numbers; None if there are none."""
     if not found:
         return None

@@ -159,11 +159,11 @@ def drawn_lane(lane: Lane, scale: Scale, top: float) -> str:
     height, shade = lane.height(), palette.GROUND if lane.processor % 2 == 0 else "#ffffff"
     wide = scale.on.room() if scale.on else scale.right + RIGHT
     parts = [svg_text.element("rect", x=0, y=top, width=wide, height=height, fill=shade)]
-    parts.append(named(scale, top + height / 2 + 4, f"processor {lane.processor}"))
+    parts.append(lane_name(scale, top + height / 2 + 4, f"processor {lane.processor}"))
     return svg_text.group(parts)
 
 
-def named(scale: Scale, y: float, said: str) -> str:
+def lane_name(scale: Scale, y: float, said: str) -> str:
     """A text on the left."""
     return svg_text.text(paper.MARGIN, y, said, FONT) if scale.on else svg_text.text(12, y, said)
 
@@ -180,7 +180,7 @@ def drawn_axis(scale: Scale, tops: List[float], low: float) -> List[str]:
     step, window = step_of(scale), scale.window
     rounded = range(-(-window.first // step) * step, window.last + 1, step)
     events = [window.first, *(it for it in rounded if (it - window.first) * scale.step >= 40)]
-    parts = [named(scale, top - 8, "event") for top in tops]
+    parts = [lane_name(scale, top - 8, "event") for top in tops]
     for event in events:
         x = scale.at(event)
         parts.append(svg_text.element("path", d=svg_text.path([(x, tops[0] - 4), (x, low)]), stroke=palette.GRID))
@@ -243,7 +243,7 @@ def drawn_piece(scale: Scale, processors: List[int], top: float) -> Tuple[List[s
     return [*grounds, *drawn_axis(scale, tops, low), *bars], low
 
 
-def drawn(found: report.Report, window: Window, processors: List[int]) -> str:
+def draw_lanes(found: report.Report, window: Window, processors: List[int]) -> str:
     """The whole picture."""
     scale = Scale(window)
     says = heading(found, window)

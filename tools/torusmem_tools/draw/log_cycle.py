@@ -253,7 +253,7 @@ def narrow(log: Log, cycle: Cycle, top: float, room: float) -> Plan:
     return next((it for it in plans if it.right <= room), min(plans, key=lambda it: it.right))
 
 
-def drawn(log: Log, cycle: Cycle, name: str, on: Optional[Paper], tool: str) -> str:
+def draw_cycle(log: Log, cycle: Cycle, name: str, on: Optional[Paper], tool: str) -> str:
     """The whole picture."""
     heads = [f"{name}: no order of {cycle.model}", "Each arrow leads to what comes later in every order that explains the log."]
     told = ", ".join(f"processor {p}: {log.asked[p][k]} {why}" for p, k, why in cycle.steps)

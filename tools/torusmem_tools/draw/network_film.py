@@ -107,7 +107,7 @@ def standing(run: Simulation, stage: Stage, film: Film, depth: int) -> List[List
     return [[number, round(at[0], 1), round(at[1], 1)] for number, at in sorted(found) if at]
 
 
-def happened(courses: List[Course], now: int) -> List[str]:
+def events_of(courses: List[Course], now: int) -> List[str]:
     """What is begun and delivered in a round."""
     told: Callable[[int, Packet], str] = lambda k, it: f"packet {k}, {it.size} flit{'s' * (it.size > 1)} from channel {it.start} to {it.end}"
     begun = [f"begun: {told(k, it.packet)}" for k, it in enumerate(courses) if it.begun == now]
@@ -130,7 +130,7 @@ def film_of(net: Network, depth: int, traffic: List[Packet], ends: Tuple[Optiona
             break
         film.rounds.append(now)
         film.flits.append(standing(run, stage, film, depth))
-        film.events.append(happened(run.courses, now))
+        film.events.append(events_of(run.courses, now))
     if not film.rounds:
         raise command.Refusal("nothing moves in these rounds")
     return film, stage

@@ -10,7 +10,7 @@ from torusmem_tools.draw.diagram import Diagram
 from torusmem_tools.draw.router_ends import Plan
 from torusmem_tools.draw.shapes import Box
 from torusmem_tools.draw.strokes import FULL, INK, LETTERS, THICK, THIN, VIRTUAL, answer, arrow, router, width_of
-from torusmem_tools.model.adaptive_walk import Found
+from torusmem_tools.model.adaptive_walk import AdaptiveVerdict
 from torusmem_tools.model.network import Network
 from torusmem_tools.model.network_verdict import Verdict
 
@@ -67,7 +67,7 @@ def head_of(net: Network, plan: Plan, verdict: Verdict) -> str:
     return "No pair: packets go from no channel to another" if what == "no pair" else "No route from channel {0} to channel {1}".format(*numbers)
 
 
-def turned(net: Network, plan: Plan, found: Found) -> List[Tuple[str, ...]]:
+def turned(net: Network, plan: Plan, found: AdaptiveVerdict) -> List[Tuple[str, ...]]:
     """The rows of a table on a cycle of dependencies."""
     rows: List[Tuple[str, ...]] = [("channel", "between", "packets to", "go on over", "and wait for")]
     for x, edge, y in found.turns:

@@ -10,7 +10,7 @@ from torusmem_tools.draw.channel_load import colour, step_of
 from torusmem_tools.draw.channel_marks import name_of
 from torusmem_tools.draw.diagram import Diagram, Marks
 from torusmem_tools.draw.diagram_fit import diagram
-from torusmem_tools.draw.histogram import drawn_bars, spread
+from torusmem_tools.draw.histogram import drawn_bars, summary_of
 from torusmem_tools.draw.network_picture import COLUMN, MARGIN
 from torusmem_tools.draw.paper import Paper
 from torusmem_tools.draw.router_ends import Plan, plan_of
@@ -73,7 +73,7 @@ def figures(net: Network, found: Delivered, top: int, cycle: int = 1) -> Row:
     times = [it for it in map(times_of, sent) if it]
     hottest = sorted((it for it in rows if it["flits"]), key=lambda it: (-it["flits"], -it["waited"], it["channel"]))
     runs = [{**it.packet._asdict(), "begun": it.begun, "delivered": it.delivered} for it in sent]
-    return {"unit": unit(cycle), "end": found.end, "senders": by_sender(sent, cycle_of(found.rounds(), cycle)), "packets": len(found.sent), "delivered": len(times), "times": {it: spread([row[it] for row in times]) for it in TIMES},
+    return {"unit": unit(cycle), "end": found.end, "senders": by_sender(sent, cycle_of(found.rounds(), cycle)), "packets": len(found.sent), "delivered": len(times), "times": {it: summary_of([row[it] for row in times]) for it in TIMES},
             "kinds": summed(rows), "hottest": hottest[:top], "channels": rows, "runs": runs}
 
 

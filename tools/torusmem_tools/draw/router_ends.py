@@ -58,7 +58,7 @@ class Groups:
         self.above[self.top(it)] = self.top(other)
 
 
-def grouped(net: Network, plan: Plan) -> Groups:
+def group_ends(net: Network, plan: Plan) -> Groups:
     """The ends of channels that meet: as the links say, and where packets of one channel go on to another."""
     groups = Groups()
     for x, link in net.links.items():
@@ -81,7 +81,7 @@ def plan_of(net: Network) -> Plan:
     go on to another, both meet at a router."""
     plan, used = Plan(), {it for x, _, y in net.steps() for it in (x, y)}
     plan.idle = len(net.kinds) - len(used)
-    groups = grouped(net, plan)
+    groups = group_ends(net, plan)
     numbers: Dict[object, int] = {}
     for r, router in sorted(net.routers.items()):
         number = numbers.setdefault(groups.top(r), len(numbers))
@@ -122,15 +122,15 @@ def pairs_of(plan: Plan) -> Dict[Pair, List[int]]:
 def place(plan: Plan, replies: List[Pair], size: Place, pitch: float) -> List[Place]:
     """A place for each router, no two closer than the pitch: as the text says, else by `dot`, else on a circle."""
     if plan.is_placed():
-        return spread([it for it in plan.places if it is not None], pitch, plan.names)
+        return spread_places([it for it in plan.places if it is not None], pitch, plan.names)
     links = [(a, b) for a, b in pairs_of(plan) if a != b]
     ends = [(plan.starts[x], plan.ends[y]) for x, y in replies if x in plan.starts and y in plan.ends]
     answers = sorted({(min(it), max(it)) for it in ends if it[0] != it[1]} - set(links))
     edges = links + answers
     tries = [it for seed in range(1, 2 + (5 if len(plan.names) <= MOST_TRIED else 0)) for it in [by_dot(plan, links, answers, size, pitch, seed)] if it]
     if not tries:
-        return spread(on_circle(len(plan.names)), pitch, plan.names)
-    turned = [spread(upright(it, edges), pitch, plan.names) for it in tries]
+        return spread_places(on_circle(len(plan.names)), pitch, plan.names)
+    turned = [spread_places(upright(it, edges), pitch, plan.names) for it in tries]
     return min(turned, key=lambda it: (crossings(it, edges), math.dist(*reach(it))))
 
 
@@ -155,7 +155,7 @@ def upright(places: List[Place], edges: List[Pair]) -> List[Place]:
     return found if right - left >= bottom - top else [(-y, x) for x, y in found]
 
 
-def spread(places: List[Place], pitch: float, names: List[str]) -> List[Place]:
+def spread_places(places: List[Place], pitch: float, names: List[str]) -> List[Place]:
     """Places in the same order to each other, the closest two of them as far from each other as the pitch."""
     least = math.inf
     order = sorted(range(len(places)), key=lambda k: places[k])

@@ -115,7 +115,7 @@ def around(boxes: Iterable[Box]) -> Tuple[float, float, float, float]:
             max(it.x + it.wide for it in every), max(it.y + it.high for it in every))
 
 
-class Taken:
+class TakenBoxes:
     """The lines and boxes of a picture, by the cells that they lie in. Each has a key; what has the same key is no
     obstacle to it."""
 

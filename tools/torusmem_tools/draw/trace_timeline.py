@@ -80,7 +80,7 @@ def is_trace(path: str) -> bool:
     return first == b"trace"
 
 
-def parsed(text: bytes) -> Trace:
+def parse_trace(text: bytes) -> Trace:
     """The trace of a text that the program has read: of its lines only the words are looked at."""
     found, by_name, counts = Trace([], []), {}, {}  # type: Trace, Dict[Tuple[int, int], Operation], Dict[int, int]
     for number, line in enumerate(text.decode("ascii", "replace").split("\n"), 1):
@@ -103,20 +103,20 @@ def parsed(text: bytes) -> Trace:
     return found
 
 
-def read(text: bytes, name: str) -> Trace:
+def judge_trace(text: bytes, name: str) -> Trace:
     """The trace of a text, with what `torusmem linearize` says of it."""
     order, reasons = "", []  # type: str, List[str]
-    with command.kept(text) as path:
+    with command.temporary_file(text) as path:
         try:
             order, said = command.torusmem("linearize", path), "linearizable"
         except command.Refusal as why:
             said = str(why)
         is_judged = order != "" or bool(re.match("(not linearizable|undecided) at line [0-9]+", said))
         if said.startswith("not linearizable") or not is_judged:
-            reasons = command.explained(path, "linearize")
+            reasons = command.explain_refusal(path, "linearize")
     if not is_judged:
-        raise command.named(command.Refusal(said), name, reasons)
-    found = parsed(text)
+        raise command.name_refusal(command.Refusal(said), name, reasons)
+    found = parse_trace(text)
     found.verdict = said
     places = {tuple(it.split()[1:3]): at for at, it in enumerate(order.split("\n"), 1)}
     for it in found.operations:
@@ -251,7 +251,7 @@ def axis(trace: Trace, window: Window, top: float, low: float) -> Tuple[List[str
     return lines, numbers
 
 
-def drawn(trace: Trace, window: Window, on: Optional[Paper] = None, tool: str = "") -> str:
+def draw_trace(trace: Trace, window: Window, on: Optional[Paper] = None, tool: str = "") -> str:
     """The whole picture; on paper time is broken into pieces."""
     events = f"events {window.first} to {window.last} of {len(trace.lines)}"
     head = f"a trace, {trace.verdict}: {events}"

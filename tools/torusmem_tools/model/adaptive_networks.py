@@ -2,12 +2,13 @@
 from __future__ import annotations
 
 import math
-from collections import deque
-from typing import Dict, Iterable, List, Set, Tuple
+from typing import Callable, Dict, Iterable, List, Set, Tuple
 
 from torusmem_tools.command import Refusal
+from torusmem_tools.model.deterministic_networks import distances
 from torusmem_tools.model.network import Network, Router
 from torusmem_tools.model.router_places import grid, torus_router
+from torusmem_tools.model.torus import moved
 
 # Directions of a mesh: east, west, north (the row number falls), south.
 STEPS = {"E": (1, 0), "W": (-1, 0), "N": (0, -1), "S": (0, 1)}
@@ -15,13 +16,13 @@ STEPS = {"E": (1, 0), "W": (-1, 0), "N": (0, -1), "S": (0, 1)}
 Hops = Dict[Tuple[int, int, int], int]
 
 
-def ends(net: Network, routers: Iterable[int]) -> Tuple[Dict[int, int], Dict[int, int]]:
-    """An injection and an ejection channel of each router, joined to all."""
-    routers = list(routers)
-    net.expect(len(routers) ** 2)
-    inject = {r: net.channel("inject", r, r) for r in routers}
-    eject = {r: net.channel("eject", r, r) for r in inject}
-    net.joins = [(inject[r], eject[s]) for r in inject for s in eject]
+def ends(net: Network, nodes: Iterable[int], router: Callable[[int], int] = lambda node: node) -> Tuple[Dict[int, int], Dict[int, int]]:
+    """An injection and an ejection channel of each node at its router, joined to all."""
+    nodes = list(nodes)
+    net.expect(len(nodes) ** 2)
+    inject = {it: net.channel("inject", router(it), router(it)) for it in nodes}
+    eject = {it: net.channel("eject", router(it), router(it)) for it in nodes}
+    net.joins = [(inject[it], eject[other]) for it in nodes for other in nodes]
     return inject, eject
 
 
@@ -72,13 +73,8 @@ def adaptive_torus(radices: List[int]) -> Network:
     net, tiles = Network(), math.prod(radices)
     inject, eject = ends(net, range(tiles))
     weight = [math.prod(radices[:d]) for d in range(len(radices))]
-    hops = {}
-    for r in range(tiles):
-        for d, k in enumerate(radices):
-            for by in (1, -1):
-                here = r // weight[d] % k
-                for v in range(3):
-                    hops[r, d, by, v] = net.channel("hop", r, r + ((here + by) % k - here) * weight[d], v)
+    hops = {(r, d, by, v): net.channel("hop", r, moved(r, d, by, radices), v)
+            for r in range(tiles) for d in range(len(radices)) for by in (1, -1) for v in range(3)}
     for r in range(tiles):
         net.routers[r] = torus_router(r, radices)
     net.escapes = {x for (_, _, _, v), x in hops.items() if v > 0}
@@ -104,10 +100,7 @@ def fat_tree(arity: int, levels: int) -> Network:
     """A k-ary n-tree: up by any link to a common ancestor, then down (Petrini and Vanneschi, k-ary n-trees, 1997)."""
     net, width = Network(), arity ** (levels - 1)
     nodes = range(arity**levels)
-    net.expect(len(nodes) ** 2)
-    inject = {p: net.channel("inject", p // arity, p // arity) for p in nodes}
-    eject = {p: net.channel("eject", p // arity, p // arity) for p in nodes}
-    net.joins = [(inject[p], eject[q]) for p in nodes for q in nodes]
+    inject, eject = ends(net, nodes, lambda node: node // arity)
     net.routers = {level * width + s: Router(f"{level}.{s}", (s, 2 * (levels - level))) for level in range(levels) for s in range(width)}
     up, down = {}, {}
     for level in range(levels - 1):
@@ -138,19 +131,11 @@ def up_down(links: Dict[int, List[int]], nodes: Dict[int, int]) -> Network:
     """Up towards the root of a tree, then down, by any link: each router by its distance from the first one, then by
     its number (Schroeder et al., Autonet, IEEE JSAC 9(8), 1991)."""
     root = min(links)
-    far, queue = {root: 0}, deque([root])
-    while queue:
-        for s in sorted(links[queue[0]]):
-            if s not in far:
-                far[s] = far[queue[0]] + 1
-                queue.append(s)
-        queue.popleft()
+    far = distances(links, root)
     if len(far) < len(links):
         raise Refusal(f"no path from router {root} to router {min(set(links) - set(far))}")
     net = Network(routers={r: Router(str(r)) for r in sorted(links)})
-    inject = {p: net.channel("inject", r, r) for p, r in nodes.items()}
-    eject = {p: net.channel("eject", r, r) for p, r in nodes.items()}
-    net.joins = [(inject[p], eject[q]) for p in nodes for q in nodes]
+    inject, eject = ends(net, nodes, nodes.__getitem__)
     hops = {(r, s): net.channel("hop", r, s) for r in sorted(links) for s in sorted(links[r])}
     climbs = {(r, s): (far[s], s) < (far[r], r) for r, s in hops}
     for goal, last in nodes.items():

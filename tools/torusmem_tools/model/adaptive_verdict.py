@@ -5,8 +5,8 @@ from __future__ import annotations
 from typing import List, Optional, Tuple
 
 from torusmem_tools.command import Refusal
-from torusmem_tools.model.adaptive_walk import Edge, Found, Walk, duato_verdict
-from torusmem_tools.model.deadlock import titled
+from torusmem_tools.model.adaptive_walk import Edge, AdaptiveVerdict, Walk, duato_verdict
+from torusmem_tools.model.deadlock import label_of
 from torusmem_tools.model.network import Network, number_of
 
 
@@ -26,7 +26,7 @@ def turns_of(lines: List[List[str]], net: Network) -> Optional[List[Tuple[int, E
     return turns
 
 
-def found_in(net: Network, text: str, path: str) -> Found:
+def found_in(net: Network, text: str, path: str) -> AdaptiveVerdict:
     """The verdict that a text of `torusmem network` has. Refused where it is no verdict of this network, as far as the
     plain walk can see."""
     walked, lines = duato_verdict(net), text.splitlines()
@@ -38,7 +38,7 @@ def found_in(net: Network, text: str, path: str) -> Found:
         turns = turns_of([it.split() or [""] for it in lines if it not in ("cycle", "may lock up")], net)
         if not turns:
             raise Refusal(f"{path}: it has no cycle of this network")
-        return Found(kind, turns=turns)
+        return AdaptiveVerdict(kind, turns=turns)
     found = {}
     for words in (it.split() for it in lines):
         if words[:1] == ["number"] and len(words) == 3 and min(map(number_of, words[1:])) >= 0:
@@ -48,7 +48,7 @@ def found_in(net: Network, text: str, path: str) -> Found:
     return walked._replace(numbers=[found[x] for x in sorted(found)])
 
 
-def sentences(net: Network, found: Found) -> str:
+def sentences(net: Network, found: AdaptiveVerdict) -> str:
     """The verdict's line; how far packets go, or a sentence on each dependency of a cycle."""
     lines = [found.kind]
     if found.kind == "rising":
@@ -56,11 +56,11 @@ def sentences(net: Network, found: Found) -> str:
         most = f"packets go over at most {numbers[0]} channels"
         lines = [most if word == "bounded" else f"packets to {numbers[0]} can come back to channel {numbers[1]}", found.kind]
     for x, edge, y in found.turns:
-        there = f"{y}{titled(net, y)}"
+        there = f"{y}{label_of(net, y)}"
         if edge.to is None:
-            lines.append(f"packets that come out of channel {x}{titled(net, x)} are answered on channel {there}")
+            lines.append(f"packets that come out of channel {x}{label_of(net, x)} are answered on channel {there}")
             continue
-        over = ", ".join(f"{it}{titled(net, it)}" for it in edge.over)
+        over = ", ".join(f"{it}{label_of(net, it)}" for it in edge.over)
         goes = f" can go on over {over}, which {'are' if edge.over[1:] else 'is'} no escape{'s' if edge.over[1:] else ''}, and" if over else ""
-        lines.append(f"packets to {edge.to}{titled(net, edge.to)} that hold channel {x}{titled(net, x)}{goes} wait for channel {there}")
+        lines.append(f"packets to {edge.to}{label_of(net, edge.to)} that hold channel {x}{label_of(net, x)}{goes} wait for channel {there}")
     return "\n".join(lines + ["may lock up"] * (found.kind == "cycle")) + "\n"

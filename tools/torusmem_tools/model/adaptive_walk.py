@@ -18,7 +18,7 @@ class Edge(NamedTuple):
     over: Tuple[int, ...] = ()
 
 
-class Found(NamedTuple):
+class AdaptiveVerdict(NamedTuple):
     """What is judged: the verdict's line; of `rising` numbers, and how far packets can go; of a cycle its edges, each with
     the channel that it leads from and that to which it leads."""
 
@@ -144,21 +144,21 @@ class Walk:
         return seen
 
 
-def duato_verdict(net: Network, walks: Callable[[Network], Walk] = Walk) -> Found:
+def duato_verdict(net: Network, walks: Callable[[Network], Walk] = Walk) -> AdaptiveVerdict:
     """What is judged of a network with several choices, by this walk."""
     wrong = misfit(net) if net.joins else "no pair"
     if wrong is not None:
-        return Found(wrong)
+        return AdaptiveVerdict(wrong)
     walk = walks(net)
     wrong = walk.bare()
     if wrong is not None:
-        return Found(wrong)
+        return AdaptiveVerdict(wrong)
     edges = walk.edges()
     rank = numbers(net, {edge: "" for edge in edges})
     if rank is not None:
-        return Found("rising", rank, walk.travel())
+        return AdaptiveVerdict("rising", rank, walk.travel())
     around = shortest_cycle(edges)
-    return Found("cycle", turns=[(x, edges[x, y], y) for x, y in zip(around, around[1:] + around[:1])])
+    return AdaptiveVerdict("cycle", turns=[(x, edges[x, y], y) for x, y in zip(around, around[1:] + around[:1])])
 
 
 def shortest_cycle(edges: Dict[Tuple[int, int], Edge]) -> List[int]:

@@ -213,7 +213,7 @@ def shape(numbers: Numbers, way: str) -> list[int]:
     return list(numbers.among([it for it in SHAPES if report.product(it) <= most]))
 
 
-def drawn(seed: int, way: str, draws: bool = False) -> Case:
+def draw_case(seed: int, way: str, draws: bool = False) -> Case:
     """The run of a seed; draws: whether the program has `draw`, which then draws the schedules of even seeds."""
     numbers = Numbers(len(WAYS) * seed + WAYS.index(way))
     radices = shape(numbers, way)
@@ -242,7 +242,7 @@ def drawn(seed: int, way: str, draws: bool = False) -> Case:
     return case
 
 
-def read(way: str, machine: str, script: str, steps: str, options: list[str]) -> Case:
+def case_of_texts(way: str, machine: str, script: str, steps: str, options: list[str]) -> Case:
     """The run of given texts, which the program accepts."""
     rows = [it.split() for it in machine.splitlines() if it.split() and not it.split()[0].startswith("#")]
     said = {it[0]: list(map(int, it[1:])) for it in rows}

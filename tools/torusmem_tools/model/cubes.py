@@ -9,18 +9,12 @@ from torusmem_tools.command import Refusal
 from torusmem_tools.model.adaptive_networks import ends, inputs
 from torusmem_tools.model.network import Network, Router
 from torusmem_tools.model.router_places import torus_router
-from torusmem_tools.model.torus import digits
+from torusmem_tools.model.torus import digits, moved
 
 # A hop: from this router, along this dimension, to this digit.
 Hop = Tuple[int, int, int]
 # How many dimensions a hypercube has at most: the text has a pair for each two routers.
 MOST_DIMENSIONS = 10
-
-
-def moved(router: int, dimension: int, digit: int, radices: List[int]) -> int:
-    """The router with another digit."""
-    weight = math.prod(radices[:dimension])
-    return router + (digit - router // weight % radices[dimension]) * weight
 
 
 def hyperx(radices: List[int], adaptive: bool) -> Network:
@@ -30,7 +24,7 @@ def hyperx(radices: List[int], adaptive: bool) -> Network:
     inject, eject = ends(net, routers)
     hops: List[Dict[Hop, int]] = []
     for v in range(2 if adaptive else 1):
-        hops.append({(r, d, digit): net.channel("hop", r, moved(r, d, digit, radices), v) for r in routers
+        hops.append({(r, d, digit): net.channel("hop", r, moved(r, d, digit - digits(r, radices)[d], radices), v) for r in routers
                      for d, k in enumerate(radices) for digit in range(k) if digit != digits(r, radices)[d]})
     net.routers = {r: torus_router(r, radices) for r in routers}
     net.escapes = set(hops[1].values()) if adaptive else set()
@@ -66,7 +60,7 @@ def plain_torus(radices: List[int], dateline: bool) -> Network:
         for d, k in enumerate(radices):
             for by in (1, -1)[:k - 1]:
                 for v in range(2 if dateline else 1):
-                    hops[r, d, by, v] = net.channel("hop", r, moved(r, d, (digits(r, radices)[d] + by) % k, radices), v)
+                    hops[r, d, by, v] = net.channel("hop", r, moved(r, d, by, radices), v)
     net.routers = {r: torus_router(r, radices) for r in routers}
     joins, net.joins = net.joins, []
     place = {x: r for ends_of in (inject, eject) for r, x in ends_of.items()}
@@ -78,7 +72,7 @@ def plain_torus(radices: List[int], dateline: bool) -> Network:
                 digit = digits(here, radices)[d]
                 bit = bit or int(dateline and not 0 <= digit + by < k)
                 channels.append(hops[here, d, by, bit])
-                here = moved(here, d, (digit + by) % k, radices)
+                here = moved(here, d, by, radices)
         net.route(channels + [j])
     return net
 

@@ -117,12 +117,12 @@ def run_of(net: Network, fills: List[Fill], depth: int) -> List[str]:
     for it in fills:
         last, moves = route(net, it.start, it.end)[it.step], filling(net, it, depth)
         room = sum(move[0] == "send" for move in moves)
-        lines.append(f"# channel {last}{titled(net, last)} holds {room} packet{'s' * (room > 1)} from {it.start} to {it.end}")
+        lines.append(f"# channel {last}{label_of(net, last)} holds {room} packet{'s' * (room > 1)} from {it.start} to {it.end}")
         lines += map(line_of, moves)
     return lines
 
 
-def titled(net: Network, x: int) -> str:
+def label_of(net: Network, x: int) -> str:
     """What the text says of a channel beside its number: its name, or the routers that it goes between."""
     if x in net.names:
         return f" ({net.names[x]})"

@@ -2,6 +2,7 @@
 paths over any links."""
 from __future__ import annotations
 
+import itertools
 import math
 from collections import deque
 from typing import Dict, List, Tuple
@@ -9,7 +10,7 @@ from typing import Dict, List, Tuple
 from torusmem_tools.command import Refusal
 from torusmem_tools.model.network import Network, Router
 from torusmem_tools.model.router_places import grid, round_about, torus_router
-from torusmem_tools.model.torus import digits
+from torusmem_tools.model.torus import Shape, moved
 
 
 def ends(net: Network, routers: Dict[int, int]) -> Tuple[Dict[int, int], Dict[int, int]]:
@@ -71,13 +72,10 @@ def ring(count: int, dateline: bool) -> Network:
 
 def tiles_of(radices: List[int]) -> Network:
     """The routers and channels of a torus: at each tile the hops out of it, its injections and its ejections."""
-    net, dims, tiles = Network(), len(radices), math.prod(radices)
-    for t in range(tiles):
-        place = digits(t, radices)
-        for number in range(8 * dims):
-            dim, by = number // 8, -1 if number % 8 > 3 else 1
-            after = t + ((place[dim] + by) % radices[dim] - place[dim]) * math.prod(radices[:dim])
-            net.channel("hop", t, after, number % 4)
+    net = Network()
+    for t in range(math.prod(radices)):
+        for number in range(8 * len(radices)):
+            net.channel("hop", t, moved(t, number // 8, -1 if number % 8 > 3 else 1, radices), number % 4)
         for number in range(4):
             net.channel("inject" if number < 2 else "eject", t, t)
         net.routers[t] = torus_router(t, radices)
@@ -86,25 +84,17 @@ def tiles_of(radices: List[int]) -> Network:
 
 def torus(radices: List[int]) -> Network:
     """The torus of torusmem, its channels in channel order: each class has its own, and requests are answered."""
-    dims, tiles = len(radices), math.prod(radices)
-    per = 8 * dims + 4
-    net = tiles_of(radices)
-    for src in range(tiles):
-        for dst in range(tiles):
-            for cls in (0, 1):
-                here, channels = digits(src, radices), [src * per + 8 * dims + cls]
-                goal = digits(dst, radices)
-                for d, k in enumerate(radices):
-                    ahead = (goal[d] - here[d]) % k
-                    plus, bit = 2 * ahead <= k, 0
-                    while here[d] != goal[d]:
-                        if here[d] == (k - 1 if plus else 0):
-                            bit = 1
-                        tile = sum(v * math.prod(radices[:e]) for e, v in enumerate(here))
-                        channels.append(tile * per + 8 * d + (0 if plus else 4) + 2 * cls + bit)
-                        here[d] = (here[d] + (1 if plus else -1)) % k
-                net.route(channels + [dst * per + 8 * dims + 2 + cls])
-    net.replies = [(t * per + 8 * dims + 2, t * per + 8 * dims + 1) for t in range(tiles)]
+    net, shape = tiles_of(radices), Shape(radices, [it - 1 for it in radices])
+    last = 8 * shape.dims
+    for src, dst, is_reply in itertools.product(range(shape.tiles), range(shape.tiles), (0, 1)):
+        here, port = src, shape.way(src, last + is_reply, dst, bool(is_reply))
+        channels = [shape.input(src, last + is_reply), shape.output(src, port)]
+        while port < last:
+            here = shape.next_tile(here, port // 8, -1 if port // 4 % 2 else 1)
+            port = shape.way(here, port, dst, bool(is_reply))
+            channels.append(shape.output(here, port))
+        net.route(channels)
+    net.replies = [(shape.output(t, last), shape.input(t, last + 1)) for t in range(shape.tiles)]
     return net
 
 

@@ -34,7 +34,7 @@ class Asked:
         """Whether it leaves the word as it is."""
         if self.is_failed or self.kind == "load":
             return True
-        return self.kind != "store" and self.reply is not None and operations.written(self.kind, self.values, self.reply) == self.reply
+        return self.kind != "store" and self.reply is not None and operations.word_after(self.kind, self.values, self.reply) == self.reply
 
     def fits(self, word: int) -> bool:
         """Whether it can take effect on the word."""
@@ -86,7 +86,7 @@ class Search:
             for other, it in self.is_open.items():
                 if done & it.bit or it.is_idle() or not it.fits(word):
                     continue
-                key, made = self.settled(operations.written(it.kind, it.values, word), done | it.bit, (node, other, word))
+                key, made = self.settled(operations.word_after(it.kind, it.values, word), done | it.bit, (node, other, word))
                 if key not in seen:
                     seen.add(key)
                     todo.append((key, made))

@@ -4,7 +4,7 @@ from __future__ import annotations
 from torusmem_tools.model import campaign_cases
 from torusmem_tools.model.agents import Bank, Processor, Router
 from torusmem_tools.model.flits import Channel, Operation, packet
-from torusmem_tools.model.operations import written
+from torusmem_tools.model.operations import word_after
 from torusmem_tools.model.torus import Shape
 
 
@@ -63,7 +63,7 @@ class Machine:
         if asked is None:
             return False
         word = self.memory.get(asked.address, 0)
-        self.memory[asked.address] = written(asked.kind, asked.values, word)
+        self.memory[asked.address] = word_after(asked.kind, asked.values, word)
         asked.old, asked.served = 0 if asked.kind == "store" else word, now
         at.waiting, at.leaving = None, packet(asked, True)
         self.event(asked)

@@ -8,7 +8,7 @@ from torusmem_tools.command import Refusal
 from torusmem_tools.model.network import Network
 
 
-def classed(net: Network, count: int, is_shared: bool) -> Network:
+def with_classes(net: Network, count: int, is_shared: bool) -> Network:
     """The network with so many classes, each between ends of its own; all on the same hops, or each on its own."""
     if net.replies:
         raise Refusal("the network has message classes already")

@@ -226,7 +226,7 @@ class Reader:
         self.net.replies.append((x, y))
 
 
-def parsed(text: str, path: str) -> Network:
+def parse_network(text: str, path: str) -> Network:
     """The network of a text. Refused with the first line that `torusmem network` refuses."""
     reader, number = Reader(), 0
     for number, line in enumerate(text.split("\n"), 1):

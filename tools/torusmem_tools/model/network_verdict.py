@@ -6,8 +6,8 @@ from typing import Dict, List, Optional
 
 from torusmem_tools.command import Refusal
 from torusmem_tools.model.adaptive_verdict import found_in
-from torusmem_tools.model.adaptive_walk import Found, duato_verdict
-from torusmem_tools.model.deadlock import Fill, Held, held_by, jam_of, titled
+from torusmem_tools.model.adaptive_walk import AdaptiveVerdict, duato_verdict
+from torusmem_tools.model.deadlock import Fill, Held, held_by, jam_of, label_of
 from torusmem_tools.model.network import Network, channel_dependencies, cycle, number_of, numbers
 
 WALKED = "by tools/network, a plain walk that is not proved"
@@ -23,7 +23,7 @@ class Verdict:
     numbers: List[int] = field(default_factory=list)
     fills: List[Fill] = field(default_factory=list)
     held: List[Held] = field(default_factory=list)
-    chosen: Optional[Found] = None
+    chosen: Optional[AdaptiveVerdict] = None
 
 
 def verdict_of(net: Network) -> Verdict:
@@ -71,10 +71,10 @@ def verdict_read(net: Network, text: str, path: str) -> Verdict:
     return Verdict(kind, PROGRAM, [found[x] for x in sorted(found)], fills, held_by(net, fills))
 
 
-def explained(net: Network, verdict: Verdict) -> str:
+def explain(net: Network, verdict: Verdict) -> str:
     """The verdict's kind, and a sentence on each channel that is full in the end."""
     lines = [verdict.kind]
     for it in verdict.held:
-        lines.append(f"channel {it.channel}{titled(net, it.channel)} is full of packets from {it.start}{titled(net, it.start)} to "
-                     f"{it.end}{titled(net, it.end)}, which wait for channel {it.awaited}{titled(net, it.awaited)}")
+        lines.append(f"channel {it.channel}{label_of(net, it.channel)} is full of packets from {it.start}{label_of(net, it.start)} to "
+                     f"{it.end}{label_of(net, it.end)}, which wait for channel {it.awaited}{label_of(net, it.awaited)}")
     return "\n".join(lines) + "\n"

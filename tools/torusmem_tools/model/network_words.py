@@ -6,10 +6,10 @@ from typing import Dict, List
 
 from torusmem_tools import command
 from torusmem_tools.model import adaptive_networks, cubes, deterministic_networks
-from torusmem_tools.model.message_classes import classed
+from torusmem_tools.model.message_classes import with_classes
 from torusmem_tools.model.network import Network, number_of
-from torusmem_tools.model.turn_models import TURNS, turned
-from torusmem_tools.model.virtual_channels import multiplied
+from torusmem_tools.model.turn_models import TURNS, turn_model_mesh
+from torusmem_tools.model.virtual_channels import with_virtual_channels
 from torusmem_tools.texts.anynet import anynet, booksim
 from torusmem_tools.texts.garnet import garnet
 from torusmem_tools.texts.routing_table import from_table
@@ -40,15 +40,15 @@ def options_of(words: List[str]) -> Dict[str, object]:
     return found
 
 
-def generated(given: Namespace) -> Network:
+def network_of(given: Namespace) -> Network:
     """The network that the command line describes, with its virtual channels and message classes."""
-    net = described(given)
+    net = network_of_one_class(given)
     if given.vcs:
-        net = multiplied(net, given.vcs)
-    return classed(net, given.classes, given.shared) if given.classes else net
+        net = with_virtual_channels(net, given.vcs)
+    return with_classes(net, given.classes, given.shared) if given.classes else net
 
 
-def described(given: Namespace) -> Network:
+def network_of_one_class(given: Namespace) -> Network:
     """The network that the command line describes, with one class."""
     if given.what == "from-garnet":
         return garnet(text_of(given.which), given.which, options_of(given.set or []), given.ordered)
@@ -86,7 +86,7 @@ def mesh(given: Namespace, width: int, height: int) -> Network:
         return adaptive_networks.adaptive_mesh(width, height)
     for name, may in TURNS.items():
         if getattr(given, name.replace("-", "_")):
-            return turned(width, height, may)
+            return turn_model_mesh(width, height, may)
     return deterministic_networks.mesh(width, height, given.mixed)
 
 

@@ -14,7 +14,7 @@ from typing import Any, List, Optional
 from torusmem_tools import command
 from torusmem_tools.model import campaign_cases, cycles, traffic_draw, trial
 from torusmem_tools.model.deadlock import route
-from torusmem_tools.model.network import Network, channel_dependencies, parsed
+from torusmem_tools.model.network import Network, channel_dependencies, parse_network
 from torusmem_tools.model.network_words import text_of
 from torusmem_tools.model.offered_load import Found
 from torusmem_tools.model.packet_rounds import Packet, Simulation
@@ -55,7 +55,7 @@ class Point:
 @functools.lru_cache(maxsize=None)
 def network_of(path: str) -> Network:
     """The network of a text; refused where no packets can be sent through it."""
-    net = parsed(text_of(path), path)
+    net = parse_network(text_of(path), path)
     if net.is_adaptive():
         raise command.Refusal(f"{path}: packets are sent through networks whose routers don't choose")
     kind = channel_dependencies(net)[0]
@@ -79,7 +79,7 @@ def report_lines(point: Point, asked: List[Packet]) -> List[str]:
     """The report on packets, by the program where it can make one."""
     if not can_simulate(command.program_path()):
         return stopped(point, asked)
-    with command.kept("".join(f"{traffic_draw.line(it)}\n" for it in asked).encode("ascii")) as traffic:
+    with command.temporary_file("".join(f"{traffic_draw.line(it)}\n" for it in asked).encode("ascii")) as traffic:
         words = ["simulate", point.network, traffic, "--depth", str(point.depth), "--arbiter", point.arbiter]
         return command.torusmem(*words, fine=(0, 1, 3)).splitlines()
 
@@ -99,8 +99,8 @@ def measured(point: Point) -> Found:
     """Makes a run, and measures it."""
     traffic, numbers = traffic_of(point), campaign_cases.Numbers(point.seed)
     rounds = (cycles.first_round(it, point.cycle) for it in range(1, point.cycles() + 1))
-    asked = [it for number in rounds for it in traffic_draw.asked(traffic, numbers, point.load, point.size, number)]
-    found = traffic_report.read(network_of(point.network), report_lines(point, asked), "the report")
+    asked = [it for number in rounds for it in traffic_draw.draw_packets(traffic, numbers, point.load, point.size, number)]
+    found = traffic_report.parse_traffic_report(network_of(point.network), report_lines(point, asked), "the report")
     return found_of(point, found, sorted(traffic.ends))
 
 

@@ -9,7 +9,7 @@ VALUES = {"load": 0, "store": 1, "swap": 1, "cas": 2, "add": 1, "and": 1, "or": 
 KINDS = tuple(VALUES)
 
 
-def written(kind: str, values: Sequence[int], word: int) -> int:
+def word_after(kind: str, values: Sequence[int], word: int) -> int:
     """The word that an operation leaves where it finds one."""
     if kind == "load":
         return word
@@ -46,7 +46,7 @@ class Operation(NamedTuple):
 
     def left(self, word: int) -> int:
         """The word that it leaves where it finds one."""
-        return written(self.kind, self.values, word)
+        return word_after(self.kind, self.values, word)
 
     def reply(self, word: int) -> str:
         """What it replies where it finds a word."""

@@ -85,7 +85,7 @@ def routers_of(net: Network) -> List[List[int]]:
     return [found[it] for it in sorted(found)]
 
 
-def turned(moves: List[Move], turn: int) -> List[Move]:
+def rotated(moves: List[Move], turn: int) -> List[Move]:
     """Some moves, from the one whose turn it is."""
     first = turn % len(moves) if moves else 0
     return moves[first:] + moves[:first]
@@ -147,7 +147,7 @@ class Simulation:
         starts = [it for it in self.due(number)
                   if not self.machine.refusal("send", *self.courses[it].packet[1:])]
         turn = number - 1 if self.is_turned else 0
-        enabled = self.chosen([it for group in self.groups for it in turned(group, turn) if self.can(*it)])
+        enabled = self.chosen([it for group in self.groups for it in rotated(group, turn) if self.can(*it)])
         full = [x for x, it in enumerate(self.machine.channels) if it.latch is not None]
         for packet in starts:
             self.begin(packet, number)
@@ -213,6 +213,6 @@ class Simulation:
         return [*(it.line() for it in self.courses), *channels, end]
 
 
-def simulated(net: Network, depth: int, text: str, path: str, arbiter: str = ARBITERS[0]) -> List[str]:
+def simulate(net: Network, depth: int, text: str, path: str, arbiter: str = ARBITERS[0]) -> List[str]:
     """The report on the packets of a traffic text."""
     return Simulation(net, depth, read_traffic(net, text, path), arbiter).report()

@@ -35,7 +35,7 @@ class Operation:
             return self.values[0]
         if self.kind == "cas" and self.reply is None:
             return self.values[1]
-        return None if self.reply is None else operations.written(self.kind, self.values, self.reply)
+        return None if self.reply is None else operations.word_after(self.kind, self.values, self.reply)
 
     def changes(self) -> bool:
         """Whether it surely leaves another word than it found."""
@@ -136,7 +136,7 @@ def story_of(calls: Calls, trace: Trace, event: int) -> Story:
     return made
 
 
-class Teller:
+class StoryTeller:
     """Says what operations are, as the table or the log has them."""
 
     def __init__(self, calls: Calls, trace: Trace) -> None:
@@ -174,14 +174,14 @@ def possible(calls: Calls, reasons: List[str]) -> str:
     return re.sub("[0-9]+(?! others?)", lambda it: calls.names.shown(it[0]), found[1]) if found else ""
 
 
-def left_lines(found: Story, teller: Teller, reasons: List[str]) -> List[str]:
+def left_lines(found: Story, teller: StoryTeller, reasons: List[str]) -> List[str]:
     """A line where the reply is what the operation leaves in a word that it could have found: perhaps the log has that word."""
     it, match = found.failed, re.search(r" can be (.*)$", reasons[0]) if reasons else None
     if it.kind in ("load", "store") or match is None:
         return []
     words = [int(word) for word in re.findall("[0-9]+(?! others?)", match[1])]
     for word in words:
-        if operations.written(it.kind, it.values, word) == found.value:
+        if operations.word_after(it.kind, it.values, word) == found.value:
             shown = teller.names.shown
             leaves = f"where it finds {shown(str(word))} it leaves {shown(str(found.value))}"
             return [f"{found.calls.path}: {leaves}, and a reply is the word before: does the log have the new word?"]
@@ -192,7 +192,7 @@ def story_lines(calls: Calls, trace: Trace, event: int, reasons: List[str], is_f
     """The lines of the story."""
     if event >= 0:
         return []
-    found, teller = story_of(calls, trace, event), Teller(calls, trace)
+    found, teller = story_of(calls, trace, event), StoryTeller(calls, trace)
     can, value = possible(calls, reasons), calls.names.shown(str(found.value))
     could = f", but the word could only be {can}" if can else ", and in no order the word can be so"
     if is_failed_cas:
@@ -224,7 +224,7 @@ def story_lines(calls: Calls, trace: Trace, event: int, reasons: List[str], is_f
     return lines + open_lines(found, teller)
 
 
-def failed_lines(found: Story, teller: Teller) -> List[str]:
+def failed_lines(found: Story, teller: StoryTeller) -> List[str]:
     """A line for the first operation that failed and would have written the value."""
     calls, key = found.calls, found.calls.asked[found.failed.at].split(" ", 2)[1]
     for at in sorted(calls.dropped | calls.failed):
@@ -234,7 +234,7 @@ def failed_lines(found: Story, teller: Teller) -> List[str]:
     return []
 
 
-def open_lines(found: Story, teller: Teller) -> List[str]:
+def open_lines(found: Story, teller: StoryTeller) -> List[str]:
     """A line for each other operation that is open when the answer comes, at most eight."""
     mine = [it for it in found.operations if it.issued < found.failed.answered < it.answered and it.kind != "load"]
     lines = [teller.put(it, "it was open then") for it in mine[:8]]

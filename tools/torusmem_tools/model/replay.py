@@ -78,10 +78,10 @@ class Texts:
 def case_of(machine: bytes, script: bytes) -> campaign_cases.Case:
     """The machine and the scripts of two texts that the program has accepted."""
     rows = ["\n".join(" ".join(words_of(it)) for it in text.split(b"\n")) for text in (machine, script)]
-    return campaign_cases.read("draw", rows[0], rows[1], "", [])
+    return campaign_cases.case_of_texts("draw", rows[0], rows[1], "", [])
 
 
-def replayed(texts: Texts) -> Iterator[tuple[Machine, int]]:
+def replay_rounds(texts: Texts) -> Iterator[tuple[Machine, int]]:
     """The machine after each round of the schedule that moves, and the round's number, or the number of the move.
 
     Refuses, at the end, a run whose events, operations and replies aren't those of the report.
@@ -101,7 +101,7 @@ def replayed(texts: Texts) -> Iterator[tuple[Machine, int]]:
 def last(texts: Texts) -> Machine:
     """The machine after the whole schedule."""
     machine = Machine(texts.case)
-    for machine, _ in replayed(texts):
+    for machine, _ in replay_rounds(texts):
         pass
     return machine
 

@@ -12,13 +12,13 @@ from dataclasses import dataclass, field
 from typing import Tuple
 
 from torusmem_tools.model.campaign_cases import Case
-from torusmem_tools.model.operations import written
+from torusmem_tools.model.operations import word_after
 from torusmem_tools.texts.report import Entry, Report
 # A service of a bank, or a fence of a processor: its kind, whose, and its number.
 Event = Tuple[str, int, int]
 
 
-class Wrong(Exception):
+class BadReport(Exception):
     """A report isn't one of its run: in which way, in one word, and what."""
 
     def __init__(self, kind: str, what: str) -> None:
@@ -36,7 +36,7 @@ class Asked:
 
 
 @dataclass
-class Followed:
+class ScriptPlace:
     """A script as far as its answers lead: its operations, and whether no further one comes."""
 
     asked: list[Asked] = field(default_factory=list)
@@ -47,22 +47,22 @@ def check_memory(case: Case, found: Report) -> None:
     """The report is of this machine, and its entries replay on one memory."""
     memory = {address: word for address, word in case.opening if word}
     if (found.radices, found.words, found.opening) != (case.radices, case.words, memory):
-        raise Wrong("machine", "the shape, the words or what they open with are another machine's")
+        raise BadReport("machine", "the shape, the words or what they open with are another machine's")
     memory = dict(memory)
     for it in found.entries:
         old = memory.get(it.address, 0)
         if it.bank != it.address % case.tiles():
-            raise Wrong("memory", f"entry {it.bank} {it.place} isn't in its home bank")
+            raise BadReport("memory", f"entry {it.bank} {it.place} isn't in its home bank")
         if it.reply != (None if it.kind == "store" else old):
-            raise Wrong("memory", f"entry {it.bank} {it.place} found {old} and replied {it.replied()}")
-        memory[it.address] = written(it.kind, it.values, old)
+            raise BadReport("memory", f"entry {it.bank} {it.place} found {old} and replied {it.replied()}")
+        memory[it.address] = word_after(it.kind, it.values, old)
     if found.closing != {address: word for address, word in memory.items() if word}:
-        raise Wrong("memory", "the words at the end aren't those that the entries leave")
+        raise BadReport("memory", "the words at the end aren't those that the entries leave")
 
 
-def followed(lines: list[str], answers: dict[int, Entry]) -> Followed:
+def follow_script(lines: list[str], answers: dict[int, Entry]) -> ScriptPlace:
     """What the lines of a script ask for, given its answers by index, as far as these lead."""
-    made, fences, waits = Followed(), 0, False
+    made, fences, waits = ScriptPlace(), 0, False
 
     def last_number() -> int | None:
         """What the last operation was answered, `ok` as 0; None where it isn't answered."""
@@ -91,30 +91,30 @@ def followed(lines: list[str], answers: dict[int, Entry]) -> Followed:
     return made
 
 
-def check_script(processor: int, script: Followed, mine: list[Entry]) -> bool:
+def check_script(processor: int, script: ScriptPlace, mine: list[Entry]) -> bool:
     """The entries of a processor are of its script, in its order at each bank; whether the script is finished."""
     answers = {it.index: it for it in mine if it.index is not None}
     for index in sorted(answers):
         asked = script.asked[index].text if index < len(script.asked) else "nothing yet"
         if answers[index].asked() != asked:
             found = answers[index].asked()
-            raise Wrong("script", f"operation {index} of processor {processor} is {found}, not {asked}")
+            raise BadReport("script", f"operation {index} of processor {processor} is {found}, not {asked}")
     left = Counter(it.text for at, it in enumerate(script.asked) if at not in answers)
     for it in mine:
         if it.index is None:
             left[it.asked()] -= 1
             if left[it.asked()] < 0:
-                raise Wrong("script", f"processor {processor} had no {it.asked()} to ask for")
+                raise BadReport("script", f"processor {processor} had no {it.asked()} to ask for")
     places: dict[int, int] = {}
     for index in sorted(answers):
         it = answers[index]
         if it.place < places.get(it.bank, -1):
-            raise Wrong("order", f"operation {index} of processor {processor} overtook one before it at bank {it.bank}")
+            raise BadReport("order", f"operation {index} of processor {processor} overtook one before it at bank {it.bank}")
         places[it.bank] = it.place
     return script.is_over and len(answers) == len(script.asked)
 
 
-def check_waits(processor: int, script: Followed, mine: dict[int, Entry]) -> None:
+def check_waits(processor: int, script: ScriptPlace, mine: dict[int, Entry]) -> None:
     """By the numbers of events: operations are issued in order, and what waits for an answer is issued behind it."""
     latest = fence = fences = issued = 0
     for index in sorted(mine):
@@ -122,11 +122,11 @@ def check_waits(processor: int, script: Followed, mine: dict[int, Entry]) -> Non
         if asked.fences > fences:
             fence, fences = latest, asked.fences
         if it.issued < fence:
-            raise Wrong("fence", f"operation {index} of processor {processor} passed a fence")
+            raise BadReport("fence", f"operation {index} of processor {processor} passed a fence")
         if it.issued < issued:
-            raise Wrong("order", f"operation {index} of processor {processor} is issued before an earlier one")
+            raise BadReport("order", f"operation {index} of processor {processor} is issued before an earlier one")
         if asked.after is not None and it.issued < (mine[asked.after].answered or 0):
-            raise Wrong("waits", f"operation {index} of processor {processor} didn't wait for the answer before it")
+            raise BadReport("waits", f"operation {index} of processor {processor} didn't wait for the answer before it")
         latest, issued = max(latest, it.answered or 0), it.issued
 
 
@@ -142,15 +142,15 @@ def check_tags(case: Case, found: Report, is_finished: bool) -> None:
             continue
         lowest = next(tag for tag in range(len(mine) + 1) if tag not in mine)
         if it.tag in mine or (is_finished and it.tag != lowest):
-            raise Wrong("tags", f"processor {it.source} gave tag {it.tag}, while {sorted(mine)} were out")
+            raise BadReport("tags", f"processor {it.source} gave tag {it.tag}, while {sorted(mine)} were out")
         mine.add(it.tag)
     numbers = sorted(at for it in found.entries for at in (it.issued, it.served, it.answered) if at is not None)
     if is_finished and numbers != list(range(1, len(numbers) + 1)):
-        raise Wrong("order", "the numbers of the events have gaps")
+        raise BadReport("order", "the numbers of the events have gaps")
 
 
 def check_one_order(
-    scripts: dict[int, Followed], by_index: dict[int, dict[int, Entry]], entries: list[Entry]
+    scripts: dict[int, ScriptPlace], by_index: dict[int, dict[int, Entry]], entries: list[Entry]
 ) -> None:
     """There is an order of the services that keeps that of each bank and what waited: Kahn, CACM 5(11), 1962."""
     behind: dict[Event, list[Event]] = {}
@@ -180,7 +180,7 @@ def check_one_order(
             if not before[one]:
                 free.append(one)
     if behind:
-        raise Wrong("order", "no order of the services keeps that of the banks, and what waited for answers")
+        raise BadReport("order", "no order of the services keeps that of the banks, and what waited for answers")
 
 
 def check_report(case: Case, found: Report, status: int) -> None:
@@ -193,15 +193,15 @@ def check_report(case: Case, found: Report, status: int) -> None:
     for it in found.entries:
         mine[it.source].append(it)
         if it.tag >= case.tags:
-            raise Wrong("tags", f"entry {it.bank} {it.place} has the tag {it.tag}")
+            raise BadReport("tags", f"entry {it.bank} {it.place} has the tag {it.tag}")
     by_index = {at: {it.index: it for it in mine[at] if it.index is not None} for at in lines}
-    scripts = {it: followed(lines[it], by_index[it]) for it in lines}
+    scripts = {it: follow_script(lines[it], by_index[it]) for it in lines}
     is_finished = all([check_script(it, scripts[it], mine[it]) for it in lines])
     if found.is_complete != is_finished or status != (0 if is_finished else 3):
-        raise Wrong("end", f"status {status}, complete: {found.is_complete}, but finished: {is_finished}")
+        raise BadReport("end", f"status {status}, complete: {found.is_complete}, but finished: {is_finished}")
     has_order = any(it.issued for it in found.entries)
     if has_order != (case.way != "workers" and bool(found.entries)):
-        raise Wrong("order", "there are `order` lines" if has_order else "there are no `order` lines")
+        raise BadReport("order", "there are `order` lines" if has_order else "there are no `order` lines")
     if has_order:
         check_tags(case, found, is_finished)
         for at in lines:

@@ -47,10 +47,10 @@ def in_rounds(case: campaign_cases.Case, most: int, is_clocked: bool) -> str:
 def confirm(case: campaign_cases.Case, machine: replay.Machine, lines: list[str]) -> None:
     """Has `torusmem steps` make the moves that a machine of the case has made; refuses a report of another run."""
     texts = case.machine_text(), case.script_text(), "".join(f"{it}\n" for it in lines)
-    first, second, third = (command.kept(it.encode("ascii")) for it in texts)
+    first, second, third = (command.temporary_file(it.encode("ascii")) for it in texts)
     with first as a, second as b, third as c:
         printed = command.torusmem("steps", a, b, c, fine=(0, 3))
-    replay.compare(machine, report.parsed(printed.encode("ascii"), "the report"))
+    replay.compare(machine, report.parse_report(printed.encode("ascii"), "the report"))
 
 
 def read(given: argparse.Namespace) -> replay.Texts:
@@ -60,14 +60,14 @@ def read(given: argparse.Namespace) -> replay.Texts:
         raise command.WrongWords("--rounds-in-order is of no use with a schedule (--help says more)")
     machine, script = (command.contents(it) for it in (given.machine, given.script))
     steps = b"" if given.schedule is None else command.contents(given.schedule, replay.MOST_BYTES)
-    with command.kept(machine) as first, command.kept(script) as second:
+    with command.temporary_file(machine) as first, command.temporary_file(script) as second:
         texts = {first: given.machine, second: given.script}
         if given.schedule is None:
-            with command.kept(b"") as none:
+            with command.temporary_file(b"") as none:
                 command.torusmem_on(texts, "steps", *texts, none, fine=(0, 3))
             steps = in_rounds(replay.case_of(machine, script), MOST_ROUNDS, not given.rounds_in_order).encode("ascii")
-        with command.kept(steps) as third:
+        with command.temporary_file(steps) as third:
             texts[third] = given.schedule or "the schedule"
             printed = command.torusmem_on(texts, "steps", *texts, fine=(0, 3))
-    found = report.parsed(printed.encode("utf-8"), "the report of `torusmem steps`")
+    found = report.parse_report(printed.encode("utf-8"), "the report of `torusmem steps`")
     return replay.Texts(replay.case_of(machine, script), replay.schedule_of(steps), found)

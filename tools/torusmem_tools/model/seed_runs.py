@@ -13,8 +13,8 @@ from torusmem_tools.texts.campaign_record import Row, row_of
 
 def made_run(seed: int, given: argparse.Namespace, programs: trial.Programs, folder: str) -> Row:
     """Makes the run of a seed."""
-    case = campaign_cases.drawn(seed, given.by, programs.draws)
-    found = trial.tried(case, programs, folder)
+    case = campaign_cases.draw_case(seed, given.by, programs.draws)
+    found = trial.try_case(case, programs, folder)
     if given.keep and not found.is_good():
         trial.store(case, found, os.path.join(given.keep, f"{given.by}-{seed}"))
     words = " ".join([given.by, *case.options])

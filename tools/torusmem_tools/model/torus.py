@@ -24,6 +24,12 @@ def digits(tile: int, radices: Sequence[int]) -> list[int]:
     return found
 
 
+def moved(tile: int, dim: int, by: int, radices: Sequence[int]) -> int:
+    """The tile that lies so many hops on in a dimension, round the torus."""
+    digit, weight = digits(tile, radices)[dim], report.product(list(radices[:dim]))
+    return tile + ((digit + by) % radices[dim] - digit) * weight
+
+
 class Shape:
     """The torus: its tiles, ports and channels, and the way of a packet."""
 
@@ -38,8 +44,7 @@ class Shape:
 
     def next_tile(self, tile: int, dim: int, by: int) -> int:
         """The neighbour of a tile, one hop in plus direction (`by` is 1) or in minus direction (-1)."""
-        digits, weight = self.digits(tile), report.product(self.radices[:dim])
-        return tile + ((digits[dim] + by) % self.radices[dim] - digits[dim]) * weight
+        return moved(tile, dim, by, self.radices)
 
     def input(self, tile: int, port: int) -> int:
         """The place among all channels of that at an input of a router."""

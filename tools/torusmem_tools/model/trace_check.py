@@ -51,8 +51,8 @@ class Chunk:
 class Read:
     """What was read of a chunk: its operations by address and service, their names, and how many weren't served."""
 
-    rows: row_exchange.Spread
-    names: row_exchange.Spread
+    rows: row_exchange.RangeFile
+    names: row_exchange.RangeFile
     served: int
     unserved: int
 
@@ -90,7 +90,7 @@ def chunks_of(found: Table, processes: int) -> List[Chunk]:
     return [Chunk(number, *part, before) for number, (part, before) in enumerate(zip(parts, lines))]
 
 
-def sampled(found: Table, count: int) -> Tuple[List[Tuple[int, int]], List[int]]:
+def sample_rows(found: Table, count: int) -> Tuple[List[Tuple[int, int]], List[int]]:
     """The address and the service, and the name, of so many rows of a table; without those that can't be understood."""
     draw, begin, end = random.Random(1), found.begin(), len(found.text)
     rows = table.Rows(found.path, found.limits)
@@ -123,7 +123,7 @@ class Check:
         last = self.chunks[-1:]
         lines = sum(it.lines + (it.end - it.start) // 60 for it in last)
         if lines > RANGE:
-            rows, names = sampled(self.table, SAMPLES * (lines // RANGE + 1))
+            rows, names = sample_rows(self.table, SAMPLES * (lines // RANGE + 1))
             self.borders = row_exchange.borders_of(rows, lines // RANGE + 1)
             self.name_borders = row_exchange.borders_of(names, lines // NAMES + 1)
 
@@ -133,8 +133,8 @@ class Check:
         place: Callable[[str], str] = lambda name: os.path.join(self.judge.folder, f"{name}-{chunk.number}")
         served = len(rows.served)
         sort(rows.served)
-        spread = row_exchange.spread(rows.served, self.borders, place("rows"))
-        return Read(spread, row_exchange.spread(rows.names, self.name_borders, place("names")), served, rows.unserved)
+        spread = row_exchange.write_ranges(rows.served, self.borders, place("rows"))
+        return Read(spread, row_exchange.write_ranges(rows.names, self.name_borders, place("names")), served, rows.unserved)
 
     def rows_of(self, chunk: Chunk) -> table.Rows:
         """The rows of a chunk."""
@@ -144,7 +144,7 @@ class Check:
 
     def twice(self, number: int) -> Set[int]:
         """The names of a range that stand in more than one line."""
-        names = row_exchange.gathered([it.names for it in self.reads], number)
+        names = row_exchange.read_range([it.names for it in self.reads], number)
         if len(set(names)) == len(names):
             return set()
         return {name for name, count in Counter(names).items() if count > 1}
@@ -165,7 +165,7 @@ class Check:
     def first_fault(self, number: int) -> Tuple[Optional[Fault], int, int, List[int]]:
         """The first fault of a range of addresses and services, how many pieces and how many addresses it has that no
         range before it has, and those of its addresses whose words are given."""
-        rows = row_exchange.gathered([it.rows for it in self.reads], number)
+        rows = row_exchange.read_range([it.rows for it in self.reads], number)
         sort(rows)
         before = next((it[1] for it in reversed(self.ends[:number]) if it), None)
         after = next((it[0][ADDRESS] for it in self.ends[number + 1 :] if it), None)

@@ -17,7 +17,7 @@ from operator import itemgetter
 from typing import Dict, Final, Iterator, List, Optional, Tuple
 
 from torusmem_tools import command
-from torusmem_tools.model.operations import written
+from torusmem_tools.model.operations import word_after
 from torusmem_tools.texts.table import Row, moment_text
 
 MOST_ENTRIES = 65536
@@ -70,7 +70,7 @@ class Piece:
 
 def left_by(row: Row) -> int:
     """The word that an operation left, where its reply is right."""
-    return written(row[5], tuple(map(int, row[6].split())), 0 if row[7] == "ok" else int(row[7]))
+    return word_after(row[5], tuple(map(int, row[6].split())), 0 if row[7] == "ok" else int(row[7]))
 
 
 def pieces_of(rows: List[Row], before: Optional[Row], after: Optional[int]) -> Iterator[Piece]:
@@ -180,14 +180,14 @@ class Judge:
         return found
 
 
-def replayed(piece: Piece, opening: Image) -> Iterator[tuple[Row, int, Optional[Row]]]:
+def replay_piece(piece: Piece, opening: Image) -> Iterator[tuple[Row, int, Optional[Row]]]:
     """Each operation of a piece with the word that it found, and the one before it on this word."""
     last, word = piece.before, left_by(piece.before) if piece.before else 0
     for row in piece.rows:
         if last is None or last[ADDRESS] != row[ADDRESS]:
             last, word = None, opening.words.get(row[ADDRESS], 0)
         yield row, word, last
-        last, word = row, written(row[5], tuple(map(int, row[6].split())), word)
+        last, word = row, word_after(row[5], tuple(map(int, row[6].split())), word)
 
 
 def why_bad(row: Row, word: int, last: Optional[Row]) -> str:
@@ -206,7 +206,7 @@ def why_bad(row: Row, word: int, last: Optional[Row]) -> str:
 def first_fault(piece: Piece, opening: Image) -> Optional[Fault]:
     """The first operation of a piece, in the order of services, that is wrong."""
     found = None
-    for row, word, last in replayed(piece, opening):
+    for row, word, last in replay_piece(piece, opening):
         if found is None or row[1:3] < found.place[1:]:
             why = why_bad(row, word, last)
             found = Fault((0, row[SERVED], row[LINE]), row[LINE], why) if why else found
@@ -217,8 +217,8 @@ def last_fault(piece: Piece, memory: Memory) -> Optional[Fault]:
     """The last operation on a word that doesn't end as it is said; of several words the first."""
     closing = memory.closing
     ends: Dict[int, tuple[Row, int]] = {}
-    for row, word, _ in replayed(piece, memory.opening):
-        ends[row[ADDRESS]] = row, written(row[5], tuple(map(int, row[6].split())), word)
+    for row, word, _ in replay_piece(piece, memory.opening):
+        ends[row[ADDRESS]] = row, word_after(row[5], tuple(map(int, row[6].split())), word)
     if closing is None or piece.goes_on:
         ends.pop(piece.rows[-1][ADDRESS])
     found = None

@@ -48,7 +48,7 @@ class Judge:
     def answer(self, fixed: Dict[int, str], wants_reasons: bool) -> Tuple[Answer, Trace]:
         """What the program says where the words that some failed ones found are fixed."""
         trace = self.trace(fixed)
-        with command.kept(trace.text(fixed).encode("ascii")) as name, self.progress.waiting("judging"):
+        with command.temporary_file(trace.text(fixed).encode("ascii")) as name, self.progress.waiting("judging"):
             try:
                 said = command.torusmem("linearize", name, *self.options)
                 return Answer(order=[it for it in said.split("\n") if it.startswith("order ")]), trace
@@ -56,7 +56,7 @@ class Judge:
                 found = NO.fullmatch(str(refused))
                 if not found:
                     raise
-            reasons = command.explained(name, "linearize", *self.options) if wants_reasons and found[1][0] == "n" else []
+            reasons = command.explain_refusal(name, "linearize", *self.options) if wants_reasons and found[1][0] == "n" else []
         event = trace.event_of(int(found[2]))
         assert event is not None
         return Answer([], event, found[1] == "undecided", found[3], reasons), trace
@@ -78,7 +78,7 @@ class NoOrder(command.Refusal):
         super().__init__(f"{calls.path}, line {trace.line_of(said.event)}: {verdict} from `{shown}` on{said.more}")
 
 
-def refused(calls: Calls, trace: Trace, said: Answer, wants_story: bool) -> NoOrder:
+def explain_no(calls: Calls, trace: Trace, said: Answer, wants_story: bool) -> NoOrder:
     """The same, with the story where it is wanted."""
     why = NoOrder(calls, trace, said)
     if wants_story and not said.is_undecided:
@@ -91,14 +91,14 @@ def verdict(judge: Judge, wants_story: bool) -> str:
     calls = judge.calls
     said, trace = judge.answer({}, wants_story)
     if said.event is not None:
-        raise refused(calls, trace, said, wants_story)
+        raise explain_no(calls, trace, said, wants_story)
     count = len(said.order) + len(calls.failed)
-    if unplaced(judge, trace, said.order):
+    if lacks_place(judge, trace, said.order):
         judge.progress.say("looking for the words that failed operations found")
         words = all_words(judge, wants_story)
         said, trace = judge.answer(words, wants_story)
         if said.event is not None:
-            raise refused(calls, trace, said, wants_story)
+            raise explain_no(calls, trace, said, wants_story)
         count = len(said.order)
     more = f", {len(calls.failed)} cas that found another word among them" if calls.failed else ""
     return f"linearizable: {count} operation{'' if count == 1 else 's'} in one order{more}\n"
@@ -121,10 +121,10 @@ def all_words(judge: Judge, wants_story: bool) -> Dict[int, str]:
     event, search = worst
     numbers = [str(it) for it in search.words]
     reasons = [f" can be {' or '.join(filter(None, [', '.join(numbers[:-1]), numbers[-1]]))}"] if 0 < len(numbers) <= 16 else []
-    raise refused(calls, trace, Answer([], event, search.is_undecided, "", reasons), wants_story)
+    raise explain_no(calls, trace, Answer([], event, search.is_undecided, "", reasons), wants_story)
 
 
-def unplaced(judge: Judge, trace: Trace, order: List[str]) -> bool:
+def lacks_place(judge: Judge, trace: Trace, order: List[str]) -> bool:
     """Whether some failed cas has no place in an order of the others."""
     left = judge.calls.failed
     if not left:
@@ -145,7 +145,7 @@ def without_place(judge: Judge, key: str, rows: List[int], left: set[int]) -> bo
     calls, place, words = judge.calls, {it: at for at, it in enumerate(rows, 1)}, [judge.opening.get(int(key), 0)]
     for it in rows:
         kind, _, *values = calls.asked[it].split(" ")
-        words.append(operations.written(kind, tuple(map(int, values)), words[-1]))
+        words.append(operations.word_after(kind, tuple(map(int, values)), words[-1]))
     change = [len(words)] * len(words)
     for at in range(len(words) - 2, -1, -1):
         change[at] = change[at + 1] if words[at] == words[at + 1] else at + 1

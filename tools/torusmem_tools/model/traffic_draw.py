@@ -91,7 +91,7 @@ class Traffic:
         return found
 
 
-def asked(traffic: Traffic, numbers: campaign_cases.Numbers, rate: float, size: int, number: int) -> List[Packet]:
+def draw_packets(traffic: Traffic, numbers: campaign_cases.Numbers, rate: float, size: int, number: int) -> List[Packet]:
     """The packets that are asked for in a round, by the channels of their senders."""
     found = []
     for x in sorted(traffic.ends):
@@ -125,7 +125,7 @@ def add_words(words: ArgumentParser) -> None:
     add("--seed", metavar="S", type=command.whole(0, 2**64 - 1), help="of traffic: the seed; 1 if not given")
 
 
-def written(net: Network, given: Namespace) -> str:
+def traffic_text(net: Network, given: Namespace) -> str:
     """The traffic text that the command line asks for: rounds are drawn until there are so many packets."""
     traffic = Traffic(net, given.pattern or "uniform", given.digits)
     if not traffic.pairs():
@@ -133,7 +133,7 @@ def written(net: Network, given: Namespace) -> str:
     numbers, rate, most = campaign_cases.Numbers(1 if given.seed is None else given.seed), given.rate or 0.05, given.packets or 100
     found: List[Packet] = []
     for number in range(1, MOST_DRAWN + 1):
-        found += asked(traffic, numbers, rate, given.length or 4, number)
+        found += draw_packets(traffic, numbers, rate, given.length or 4, number)
         if len(found) >= most:
             return "".join(f"{line(it)}\n" for it in found[:most])
     raise command.Refusal(f"{len(found)} packets are asked for in {MOST_DRAWN} rounds: take a higher rate, or fewer packets")

@@ -11,7 +11,7 @@ from typing import List, Optional
 
 from torusmem_tools import command
 from torusmem_tools.model.campaign_cases import Case
-from torusmem_tools.model.report_judge import Wrong, check_report
+from torusmem_tools.model.report_judge import BadReport, check_report
 from torusmem_tools.texts import report
 
 PATIENCE = 600
@@ -114,7 +114,7 @@ def store(case: Case, found: Outcome, folder: str) -> None:
         file.write(found.verdict() + "\n")
 
 
-def started(case: Case, programs: Programs, folder: str) -> list[str]:
+def start_words(case: Case, programs: Programs, folder: str) -> list[str]:
     """The words that start a run whose texts are in the folder."""
     machine, script, steps = (os.path.join(folder, name) for name in NAMES[:3])
     if case.way == "library":
@@ -160,8 +160,8 @@ def outcome_of(case: Case, programs: Programs, folder: str, status: int, said: s
         if verdict != 0 or file.read() != b"good report\n" or why:
             return Outcome("check", f"status {verdict}, {why}")
     try:
-        check_report(case, report.parsed(command.contents(where, command.MOST_BYTES), "its report"), status)
-    except Wrong as wrong:
+        check_report(case, report.parse_report(command.contents(where, command.MOST_BYTES), "its report"), status)
+    except BadReport as wrong:
         return Outcome(wrong.kind, str(wrong))
     except command.Refusal as why_not:
         return Outcome("text", str(why_not))
@@ -189,7 +189,7 @@ def schedule(case: Case, programs: Programs, folder: str) -> tuple[int, list[str
     return status, made, ""
 
 
-def tried(case: Case, programs: Programs, folder: str, takes_report: bool = False) -> Outcome:
+def try_case(case: Case, programs: Programs, folder: str, takes_report: bool = False) -> Outcome:
     """Makes a run in a folder, and judges it."""
     write(case, folder)
     begun = time.monotonic()
@@ -199,7 +199,7 @@ def tried(case: Case, programs: Programs, folder: str, takes_report: bool = Fals
         drawn, steps, wrong = schedule(case, programs, folder)
         if wrong:
             return Outcome("draw", wrong, None, time.monotonic() - begun, b"", steps)
-    status, said = run(started(case, programs, folder), os.path.join(folder, NAMES[4]))
+    status, said = run(start_words(case, programs, folder), os.path.join(folder, NAMES[4]))
     wall = time.monotonic() - begun
     found = outcome_of(case, programs, folder, status, said)
     if found.is_good() and drawn not in (None, status):
@@ -215,7 +215,7 @@ def tried_often(case: Case, programs: Programs, times: int, wanted: str = "") ->
     """Makes a run up to so many times, in a folder of its own: until it goes wrong, in the way that is wanted."""
     with tempfile.TemporaryDirectory(prefix="torusmem-") as folder:
         for _ in range(times):
-            found = tried(case, programs, folder)
+            found = try_case(case, programs, folder)
             if found.kind == wanted or (not wanted and not found.is_good()):
                 break
     return found

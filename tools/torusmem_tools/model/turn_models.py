@@ -35,7 +35,7 @@ def odd_even(column: int, came: str, goes: str) -> bool:
     return not (came in ("N", "S") and goes == "W" and column % 2 == 1)
 
 
-def turned(width: int, height: int, may: Turn) -> Network:
+def turn_model_mesh(width: int, height: int, may: Turn) -> Network:
     """A mesh with one channel on each link, minimal, by a rule for turns: all that still lead to the destination."""
     net = Network()
     routers = range(width * height)

@@ -6,7 +6,7 @@ from typing import Dict, List
 from torusmem_tools.model.network import Network
 
 
-def multiplied(net: Network, count: int) -> Network:
+def with_virtual_channels(net: Network, count: int) -> Network:
     """The network with so many virtual channels in place of each hop, of which a packet takes any."""
     made = Network(routers=net.routers)
     ways: Dict[int, List[int]] = {}

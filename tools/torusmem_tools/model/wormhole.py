@@ -192,7 +192,7 @@ class Wormhole:
         return tuple([it.key() for it in self.channels])
 
 
-def replayed(net: Network, depth: int, text: str, path: str) -> List[str]:
+def replay_moves(net: Network, depth: int, text: str, path: str) -> List[str]:
     """What stands after the moves of a text. Refused with the first line that is no move that may happen."""
     run = Wormhole(net, depth)
     for number, line in enumerate(text.split("\n"), 1):

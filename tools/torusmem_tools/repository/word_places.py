@@ -42,7 +42,7 @@ class Words:
 
     def naming(self, word: str) -> List[str]:
         """The files that name a word: as it is, or as a part of a longer name (`op_xor`, `BitXor`, `--west-first`)."""
-        pattern = spelled(word)
+        pattern = spellings(word)
         found: Set[str] = set()
         for token, files in self.files.items():
             if pattern.search(token):
@@ -50,7 +50,7 @@ class Words:
         return sorted(found)
 
 
-def spelled(word: str) -> "re.Pattern[str]":
+def spellings(word: str) -> "re.Pattern[str]":
     """All spellings of a word: small, as a part of a name in capitals, or with one capital."""
     parts = [it for it in re.split(r"[-_ ]+", word) if it]
     small = "[-_]".join(re.escape(it.lower()) for it in parts)
@@ -87,7 +87,7 @@ def summary(paths: List[str]) -> str:
     return f"{len(paths)} files, of {crates} crates and of other folders: " + ", ".join(rows)
 
 
-def listed(word: str) -> List[str]:
+def list_places(word: str) -> List[str]:
     """The list as `reading` prints it."""
     paths = Words().naming(word)
     rows = [f"`{word}`: {summary(paths)}." if paths else f"No file names `{word}`.", ""]

@@ -224,7 +224,7 @@ def of_table(text: bytes, path: str, is_strict: bool, is_hex: bool, progress: Pr
     none: tuple[int, list[str]] = (0, [])
     first, columns = next(rows, none)
     if missing := [it for it in COLUMNS if it not in columns]:
-        raise table.unnamed(path, missing, columns, table.COLUMNS)
+        raise table.missing_columns(path, missing, columns, table.COLUMNS)
     reader = Reader(calls, columns, b"." in text)
     if b'"' in text or len(set(columns)) < len(columns):
         for line, fields in rows:
@@ -254,7 +254,7 @@ def times_of(text: bytes, path: str, columns: List[str], calls: Calls, at: int) 
     return said["issued"], said["answered"]
 
 
-def read(text: bytes, path: str, is_strict: bool, progress: Progress, is_hex: bool = False) -> Calls:
+def read_calls(text: bytes, path: str, is_strict: bool, progress: Progress, is_hex: bool = False) -> Calls:
     """The calls of a table or of a log, with numbers for what is named."""
     is_map, is_line = histories.is_log(text)
     is_named = text[: text.find(b"\n") % 2**16].count(b",") >= 6
@@ -295,7 +295,7 @@ def refuse_other_table(path: str) -> None:
     columns = columns_of(begin_of(path))
     missing = [it for it in COLUMNS if it not in columns]
     if 0 < len(missing) < len(COLUMNS) - 1:
-        raise table.unnamed(path, missing, columns, table.COLUMNS)
+        raise table.missing_columns(path, missing, columns, table.COLUMNS)
 
 
 def refuse_calls(path: str, is_log: bool) -> None:

@@ -52,7 +52,7 @@ def row_of(line: str) -> Optional[Row]:
     return Row(int(parts[0]), parts[1], int(parts[2]), *parts[3:])
 
 
-def recorded(path: str) -> dict[tuple[str, int], Row]:
+def read_rows(path: str) -> dict[tuple[str, int], Row]:
     """The lines of a record. A last line that is cut, as where a campaign was killed, is skipped."""
     rows = command.contents(path).decode("utf-8", "replace").split("\n")
     if rows[0] + "\n" != HEAD:
@@ -97,7 +97,7 @@ def write_record(path: str, rows: Iterable[Row]) -> None:
 
 
 @contextlib.contextmanager
-def appended(path: Optional[str], rows: dict[tuple[str, int], Row]) -> Iterator[IO[str]]:
+def append_row(path: Optional[str], rows: dict[tuple[str, int], Row]) -> Iterator[IO[str]]:
     """A record that lines can be added to, first written anew from its whole lines; nowhere if there is no path."""
     if path:
         write_record(path, rows.values())

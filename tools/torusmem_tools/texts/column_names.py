@@ -18,7 +18,7 @@ ELSEWHERE: Dict[str, Sequence[str]] = {
 }
 
 
-def guessed(missing: Sequence[str], columns: Sequence[str], wanted: Sequence[str]) -> Dict[str, str]:
+def guess_columns(missing: Sequence[str], columns: Sequence[str], wanted: Sequence[str]) -> Dict[str, str]:
     """Of columns that are missing those that probably are it, of the others that the first line names."""
     left: List[str] = [it for it in columns if it and it not in wanted]
     found: Dict[str, str] = {}
@@ -35,6 +35,6 @@ def guessed(missing: Sequence[str], columns: Sequence[str], wanted: Sequence[str
 
 def hint(missing: Sequence[str], columns: Sequence[str], wanted: Sequence[str]) -> str:
     """Which columns were probably meant, to stand behind a line; empty where none is known."""
-    found = guessed(missing, columns, wanted)
+    found = guess_columns(missing, columns, wanted)
     pairs = [f"`{found[it]}` for {it}" for it in missing if it in found]
     return f"; did you write {', '.join(pairs)}?" if pairs else ""

@@ -25,7 +25,7 @@ def where(path: str, fault: BaseException) -> str:
     return f"{path}, line {lines[-1]}" if lines else path
 
 
-def filled(text: str, path: str, given: Dict[str, object]) -> Tuple[GarnetNetwork, List[Controller]]:
+def run_topology(text: str, path: str, given: Dict[str, object]) -> Tuple[GarnetNetwork, List[Controller]]:
     """The network that a file makes, and the controllers that stand at its routers."""
     options, network = Options(given), GarnetNetwork()
     nodes = [Controller(kind, k) for kind, word in CONTROLLERS.items() for k in range(count_of(options, word))]
@@ -76,7 +76,7 @@ def router_of(it: object, known: Dict[int, int], path: str, what: str) -> int:
 
 def garnet(text: str, path: str, given: Dict[str, object], is_ordered: bool) -> Network:
     """The network of a topology description, with all pairs of controllers."""
-    made, nodes = filled(text, path, given)
+    made, nodes = run_topology(text, path, given)
     known, numbers = {}, set()
     for it in parts(made.routers, GarnetRouter, "routers", path):
         number = it.router_id
@@ -98,12 +98,12 @@ def garnet(text: str, path: str, given: Dict[str, object], is_ordered: bool) -> 
     nodes = [it for it in nodes if id(it) in at]
     if not nodes:
         raise Refusal(f"{path}: no controller has a link")
-    return routed(links, [(f"{it.type} {it.version}", at[id(it)]) for it in nodes], sorted(numbers), path, is_ordered)
+    return route_by_weight(links, [(f"{it.type} {it.version}", at[id(it)]) for it in nodes], sorted(numbers), path, is_ordered)
 
 
-def routed(links: List[Tuple[int, int, int, str]], nodes: List[Tuple[str, int]], routers: List[int], path: str, is_ordered: bool) -> Network:
+def route_by_weight(links: List[Tuple[int, int, int, str]], nodes: List[Tuple[str, int]], routers: List[int], path: str, is_ordered: bool) -> Network:
     """The network whose routes the weights of its links give."""
-    net, places = Network(), placed(links, routers)
+    net, places = Network(), places_by_port(links, routers)
     net.routers = {r: Router(str(r), places.get(r)) for r in routers}
     inject = [net.channel("inject", r, r) for _, r in nodes]
     eject = [net.channel("eject", r, r) for _, r in nodes]
@@ -151,7 +151,7 @@ def candidates(links: List[Tuple[int, int, int, str]], goal: int, is_ordered: bo
     return found
 
 
-def placed(links: List[Tuple[int, int, int, str]], routers: List[int]) -> Dict[int, Place]:
+def places_by_port(links: List[Tuple[int, int, int, str]], routers: List[int]) -> Dict[int, Place]:
     """Places by the names of the links' outports; none where those say nothing of a router, or two things."""
     found: Dict[int, Place] = {routers[0]: (0, 0)} if routers else {}
     more = True

@@ -124,7 +124,7 @@ def fatal(why: str, *words: object) -> None:
     raise Missing(f"fatal: {why % words if words else why}")
 
 
-class Standing(ModuleType):
+class StandIn(ModuleType):
     """A module of gem5's."""
 
     def __init__(self, name: str, **has: object) -> None:
@@ -143,9 +143,9 @@ def standing(folder: str) -> Iterator[None]:
     """With gem5's modules among those that are loaded; others of `topologies` are read from the folder."""
     links = {"BasicIntLink": IntLink, "BasicExtLink": ExtLink, "BasicRouter": GarnetRouter, "GarnetIntLink": IntLink, "GarnetExtLink": ExtLink,
              "GarnetRouter": GarnetRouter}
-    made = [Standing("m5", fatal=fatal), Standing("m5.params"), Standing("m5.objects", **links), Standing("m5.util", fatal=fatal, panic=fatal, warn=fatal),
-            Standing("m5.defines"), Standing("common"), Standing("common.FileSystemConfig"), Standing("topologies"),
-            Standing("topologies.BaseTopology", BaseTopology=BaseTopology, SimpleTopology=SimpleTopology)]
+    made = [StandIn("m5", fatal=fatal), StandIn("m5.params"), StandIn("m5.objects", **links), StandIn("m5.util", fatal=fatal, panic=fatal, warn=fatal),
+            StandIn("m5.defines"), StandIn("common"), StandIn("common.FileSystemConfig"), StandIn("topologies"),
+            StandIn("topologies.BaseTopology", BaseTopology=BaseTopology, SimpleTopology=SimpleTopology)]
     before = {it.__name__: sys.modules.get(it.__name__) for it in made}
     for it in made:
         it.__path__ = [folder] if it.__name__ == "topologies" else []

@@ -28,7 +28,7 @@ REGISTER = "the register"
 
 
 @dataclass
-class Said:
+class LogLine:
     """What a line says: of which process, what happened, which operation, its key where that stands apart, and its value."""
 
     process: object
@@ -39,19 +39,19 @@ class Said:
     has_error: bool = False
 
 
-def bare(it: object) -> str:
+def without_colon(it: object) -> str:
     """A keyword or a text without its colon."""
     return it.lstrip(":").strip('"') if isinstance(it, str) else str(it)
 
 
-def said_by_map(text: str) -> Said:
+def said_by_map(text: str) -> LogLine:
     """What a map says."""
     if re.match(r'\{\s*"', text):
         try:
             found = json.loads(text)
         except (ValueError, RecursionError):
             raise BadLine("it is no JSON: each map has a line of its own") from None
-        found = {f":{key}": quoted(it) for key, it in found.items()} if isinstance(found, dict) else found
+        found = {f":{key}": as_edn(it) for key, it in found.items()} if isinstance(found, dict) else found
     elif edn.FLAT.fullmatch(text):
         pairs = dict(edn.PAIR.findall(text))
         found = {key: edn.value(pairs[key]) for key in KEYS if key in pairs}
@@ -60,13 +60,13 @@ def said_by_map(text: str) -> Said:
     if not isinstance(found, dict) or any(it not in found for it in KEYS[:4]):
         raise BadLine("it is no map with :process, :type, :f and :value")
     process, error = found[":process"], found.get(":error")
-    return Said(process, bare(found[":type"]), bare(found[":f"]), found[":value"], found.get(":key"), error is not None)
+    return LogLine(process, without_colon(found[":type"]), without_colon(found[":f"]), found[":value"], found.get(":key"), error is not None)
 
 
-def quoted(it: object) -> object:
+def as_edn(it: object) -> object:
     """A value of JSON as one of EDN."""
     if isinstance(it, list):
-        return [quoted(each) for each in it]
+        return [as_edn(each) for each in it]
     if isinstance(it, bool):
         return "true" if it else "false"
     if isinstance(it, float) and it.is_integer() and abs(it) < 2**53:
@@ -76,7 +76,7 @@ def quoted(it: object) -> object:
     return it
 
 
-def said_by_line(text: str) -> Optional[Said]:
+def said_by_line(text: str) -> Optional[LogLine]:
     """What a line of Jepsen's log says of an operation; None where it says nothing of one."""
     found = LINE.search(text)
     if not found:
@@ -86,7 +86,7 @@ def said_by_line(text: str) -> Optional[Said]:
     forms = edn.forms(found[4] or "")
     process = edn.value(found[1])
     is_odd = len(forms) > 1 or isinstance(forms[0] if forms else None, str) and str(forms[0])[0] == ":"
-    return Said(process, found[2], found[3], forms[0] if forms else None, None, is_odd)
+    return LogLine(process, found[2], found[3], forms[0] if forms else None, None, is_odd)
 
 
 @dataclass
@@ -116,7 +116,7 @@ class Log:
         number, names = self.number(it), self.calls.names
         return names.named_key(NIL if it is None else str(it)) if number is None else names.numbered_key(number)
 
-    def split(self, said: Said) -> Tuple[str, object]:
+    def split(self, said: LogLine) -> Tuple[str, object]:
         """The key that is named by an issue, and what is said of it."""
         if said.key is not None:
             return self.key(said.key), said.value
@@ -131,7 +131,7 @@ class Log:
             raise BadLine("a register is no number and no string")
         return self.key(pair[0]), pair[1]
 
-    def asked(self, said: Said) -> str:
+    def asked(self, said: LogLine) -> str:
         """The operation that a line invokes."""
         kind = KINDS.get(said.operation)
         if kind is None:
@@ -146,7 +146,7 @@ class Log:
             raise BadLine("the value of a cas is no pair")
         return f"cas {key} {self.word(value[0])} {self.word(value[1])}"
 
-    def reply(self, said: Said, asked: str) -> str:
+    def reply(self, said: LogLine, asked: str) -> str:
         """The reply to an operation that is done: of a cas the word that it expected."""
         kind, _, *values = asked.split(" ")
         if kind == "store":
@@ -159,7 +159,7 @@ class Log:
             return self.word(said.value[1])
         return self.word(said.value)
 
-    def refuse_other(self, said: Said, at: int) -> None:
+    def refuse_other(self, said: LogLine, at: int) -> None:
         """Refuses an answer that is one to another operation than the process has open, or that tells of another key."""
         kind, key = self.calls.asked[at].split(" ", 2)[:2]
         if KINDS.get(said.operation) != kind:
@@ -169,14 +169,14 @@ class Log:
         if said.kind == "ok" and told and self.key(told[0]) != key:
             raise BadLine(f"it answers for the key {told[0]}, and line {self.calls.issues[at]} asks for another")
 
-    def take(self, said: Said, line: int) -> None:
+    def take(self, said: LogLine, line: int) -> None:
         """Takes what a line says."""
         process, calls = said.process, self.calls
         calls.names.line = line
         if said.kind not in TYPES:
             raise BadLine(f"`{said.kind}` is no type: invoke, ok, fail or info")
         if isinstance(process, str) and (process[0] == ":" or process == '"nemesis"'):
-            calls.skipped[f"of the {bare(process)}"] += 1
+            calls.skipped[f"of the {without_colon(process)}"] += 1
             return
         if not isinstance(process, (int, str)) or isinstance(process, int) and not 0 <= process <= MASK:
             raise BadLine("a process is no number")

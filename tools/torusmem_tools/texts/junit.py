@@ -36,7 +36,7 @@ class Case:
         return made
 
 
-def refused(path: str, why: command.Refusal, status: int) -> Case:
+def refused_case(path: str, why: command.Refusal, status: int) -> Case:
     """The case of what was refused, with this status where the refusal has none of its own."""
     return Case(path, status if why.status is None else why.status, str(why), why.story or why.lines)
 

@@ -119,11 +119,11 @@ class Names:
             odd = [it for it in lines if literals.looks_odd(it) or has_bare and literals.is_bare(it)]
             if odd:
                 advice = "; --hex reads them" if not self.is_hex and all(map(literals.is_bare, odd)) else ""
-                said.append(f"left as names: {counted(odd, column)}, as {odd[0]} (line {lines[odd[0]]}){advice}")
+                said.append(f"left as names: {count_words(odd, column)}, as {odd[0]} (line {lines[odd[0]]}){advice}")
             others = [it for it in lines if not literals.looks_odd(it) and not (has_bare and literals.is_bare(it))]
             if others and self.has_numbers.get(column):
                 are = "is a name" if len(others) == 1 else "are names"
-                said.append(f"{counted(others, column)} {are}, as {others[0]} (line {lines[others[0]]})")
+                said.append(f"{count_words(others, column)} {are}, as {others[0]} (line {lines[others[0]]})")
         return said
 
     def settled(self, said: str) -> str:
@@ -145,16 +145,16 @@ class Names:
 
     def comments(self) -> List[str]:
         """Lines of a trace text that say what is numbered."""
-        of_keys = [f"# key {number} is {spelled(name)}" for number, name in self.key_names.items()]
-        return of_keys + [f"# value {number} is {spelled(name)}" for number, name in self.value_names.items()]
+        of_keys = [f"# key {number} is {in_ascii(name)}" for number, name in self.key_names.items()]
+        return of_keys + [f"# value {number} is {in_ascii(name)}" for number, name in self.value_names.items()]
 
 
-def counted(words: List[str], column: str) -> str:
+def count_words(words: List[str], column: str) -> str:
     """How many there are of a column."""
     return f"{len(words)} {column}" if len(words) != 1 else f"1 {'address' if column == 'addresses' else 'value'}"
 
 
-def spelled(name: str) -> str:
+def in_ascii(name: str) -> str:
     """A name in one line of ASCII characters."""
     return command.printable(name).encode("ascii", "backslashreplace").decode("ascii")
 

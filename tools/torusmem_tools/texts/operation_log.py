@@ -97,12 +97,12 @@ def row_of(said: Dict[str, str], line: int, counts: Dict[int, int], is_hex: bool
     return found
 
 
-def read(text: bytes, path: str, opening: Dict[int, int], is_hex: bool) -> Table:
+def read_log(text: bytes, path: str, opening: Dict[int, int], is_hex: bool) -> Table:
     """The operations of a table. Refused with the first line that can't be understood."""
     rows = table.cut(table.with_commas(text, path), path)
     columns: List[str] = next((it for _, it in rows), [])
     if missing := [it for it in COLUMNS if it not in columns]:
-        raise table.unnamed(path, missing, columns, [*COLUMNS, "order", "source"])
+        raise table.missing_columns(path, missing, columns, [*COLUMNS, "order", "source"])
     found, counts = Table(), {}  # type: Table, Dict[int, int]
     for line, fields in rows:
         try:
@@ -140,7 +140,7 @@ def find_sources(found: Table, path: str, opening: Dict[int, int]) -> None:
             if it.kind != "load":
                 continue
             if it.source is not None:
-                found.sources[it.line] = named(it, by_line)
+                found.sources[it.line] = named_source(it, by_line)
             elif it.order is not None:
                 before = [w for w in found.writes.get(it.address, []) if w.order is not None and w.order < it.order]
                 found.sources[it.line] = before[-1] if before else None
@@ -152,7 +152,7 @@ def find_sources(found: Table, path: str, opening: Dict[int, int]) -> None:
             raise command.Refusal(f"{path}, line {it.line}: {why}") from None
 
 
-def named(it: Row, by_line: Dict[int, Row]) -> Optional[Row]:
+def named_source(it: Row, by_line: Dict[int, Row]) -> Optional[Row]:
     """The write that the column `source` names."""
     if not it.source:
         return None
@@ -166,7 +166,7 @@ def leavers(writes: List[Row], word: int) -> Dict[int, List[Optional[Row]]]:
     """Of each value the writes of a word that leave it; none is the opening word."""
     found: Dict[int, List[Optional[Row]]] = {word: [None]}
     for it in writes:
-        word = operations.written(it.kind, it.values, word)
+        word = operations.word_after(it.kind, it.values, word)
         found.setdefault(word, []).append(it)
     return found
 
@@ -187,7 +187,7 @@ def by_value(it: Row, left: Dict[int, List[Optional[Row]]]) -> Optional[Row]:
 def model_verdict(lines: List[Tuple[int, str]], path: str) -> Tuple[str, bool]:
     """What `torusmem model` says of the log, its lines as those of the table, and whether it obeys each model."""
     at: Callable[[str], str] = lambda told: re.sub(r"\bline ([0-9]+)", lambda it: f"line {lines[int(it[1]) - 1][0]}", told)
-    with command.kept("".join(f"{text}\n" for _, text in lines).encode("ascii")) as name:
+    with command.temporary_file("".join(f"{text}\n" for _, text in lines).encode("ascii")) as name:
         try:
             said = command.torusmem("model", name, fine=(0, 1)) or command.torusmem("model", name)
         except command.Refusal as refused:

@@ -207,7 +207,7 @@ def lines(text: bytes, path: str) -> Iterator[tuple[int, list[str]]]:
         yield at + 1, row.decode("ascii").split(" ")
 
 
-def parsed(text: bytes, path: str) -> Report:
+def parse_report(text: bytes, path: str) -> Report:
     """The contents of a report's text. Refused with the first line that can't be understood."""
     reader = Reader()
     at = 0
@@ -228,13 +228,13 @@ def add_words(parser: command.Parser) -> None:
     parser.add_argument("--unchecked", action="store_true", help="don't have `torusmem check` judge the report first")
 
 
-def read(given: argparse.Namespace) -> Report:
+def read_report(given: argparse.Namespace) -> Report:
     """The report that the command line names, which `torusmem check` finds good if it is asked."""
     text = command.contents(given.report, command.MOST_BYTES)
     if not given.unchecked:
-        with command.kept(text) as path:
+        with command.temporary_file(text) as path:
             command.torusmem_on({path: given.report}, "check", path)
-    return parsed(text, given.report)
+    return parse_report(text, given.report)
 
 
 def rows_of(entries: list[Entry]) -> list[int]:

@@ -128,7 +128,7 @@ def with_commas(text: bytes, path: str) -> bytes:
     return bytes(text[:]).replace(mark, b",")
 
 
-def unnamed(path: str, missing: List[str], columns: List[str], wanted: List[str]) -> command.Refusal:
+def missing_columns(path: str, missing: List[str], columns: List[str], wanted: List[str]) -> command.Refusal:
     """The refusal of a table whose first line doesn't name these columns of the wanted ones."""
     hint = column_names.hint(missing, columns, wanted)
     return command.Refusal(f"{path}: the first line doesn't name the column{'s' * (len(missing) > 1)} {','.join(missing)}{hint}")

@@ -5,7 +5,7 @@ from dataclasses import dataclass
 from typing import Iterator
 
 from torusmem_tools import command
-from torusmem_tools.model.operations import written
+from torusmem_tools.model.operations import word_after
 from torusmem_tools.model.trace_pieces import LATER_KINDS, MOST_ENTRIES, Memory
 from torusmem_tools.texts import report, table
 from torusmem_tools.texts.report import Entry
@@ -61,7 +61,7 @@ def words_after(opening: dict[int, int], entries: list[Entry]) -> dict[int, int]
     """The words after all entries."""
     found = dict(opening)
     for it in entries:
-        found[it.address] = written(it.kind, it.values, found.get(it.address, 0))
+        found[it.address] = word_after(it.kind, it.values, found.get(it.address, 0))
     return found
 
 

@@ -46,7 +46,7 @@ def round_of(word: str) -> Optional[int]:
     return None if word == "-" else int(word)
 
 
-def read(net: Network, lines: List[str], path: str) -> Delivered:
+def parse_traffic_report(net: Network, lines: List[str], path: str) -> Delivered:
     """The report that some lines spell, of this network."""
     found = Delivered([], [], "")
     joined = set(net.joins)
@@ -74,7 +74,7 @@ def read(net: Network, lines: List[str], path: str) -> Delivered:
     return found
 
 
-def report_of(net: Network, path: str) -> Delivered:
+def read_traffic_report(net: Network, path: str) -> Delivered:
     """The report in a file."""
     text = command.contents(path).decode("utf-8", "replace")
-    return read(net, text.split("\n")[: -1 if text.endswith("\n") else None], path)
+    return parse_traffic_report(net, text.split("\n")[: -1 if text.endswith("\n") else None], path)
