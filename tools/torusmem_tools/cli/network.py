@@ -63,8 +63,13 @@
                there are --packets of --length flits, to a receiver that the network joins with it. --seed draws another.
                --pattern: uniform (each such receiver as often), transpose, bit-complement, neighbour, tornado (as
                `tools/sweep` has them, by the digits that --digits gives senders and receivers in the order of their
-               channels), or hot-spot (a quarter to the first receiver, the others uniform). Where the network has no
-               such pair, the sender asks for nothing
+               channels), bit-reverse, shuffle (by the bits of their places in this order, from 0 on), or hot-spot (a
+               quarter to the first receiver, or as --hot says, the others uniform). In place of a pattern --to names
+               the receiver of each sender, or --matrix a table with the share of each. Where the network has no
+               such pair, the sender asks for nothing. --length 1:0.8,5:0.2 mixes lengths; with --burst B a sender
+               asks in each round of a burst, of B rounds on average, and between two bursts not at all.
+               --from-csv FILE: packets one by one, a row `round,source,destination,length,class` each; places are
+               numbers from 0 on or the names of routers, and classes are numbered by their senders' channels
   simulate FILE TRAFFIC  sends packets through a network whose routers don't choose, in clocked rounds: what may happen
                when a round begins is attempted once, so that a flit goes one stage a round. Of the heads that ask for
                a channel one is, and the inputs go round; with `--arbiter turn` all are. A line of the traffic is
@@ -176,8 +181,7 @@ def draw_network(net: Network, path: str, on: Optional[paper.Paper]) -> str:
 
 GENERATORS = ("mesh", "ring", "torus", "tree", "hypercube", "hyperx", "fat-tree", "dragonfly", "up-down", "from-table", "from-booksim", "from-garnet")
 # Of which words each option is of use.
-DRAWN = ("packets", "rate", "length", "pattern", "digits", "seed")
-USES = {**{it: ("traffic",) for it in DRAWN}, "mixed": ("mesh",), "adaptive": ("mesh", "torus", "hypercube", "hyperx"), **{it.replace("-", "_"): ("mesh",) for it in TURNS},
+USES = {**{it: ("traffic",) for it in (*traffic_draw.DRAWN, "length", "from_csv")}, "mixed": ("mesh",), "adaptive": ("mesh", "torus", "hypercube", "hyperx"), **{it.replace("-", "_"): ("mesh",) for it in TURNS},
         "dateline": ("ring", "torus"), "plain": ("torus",), "vcs": GENERATORS,
         "ordered": ("from-garnet",), "set": ("from-garnet",), "classes": GENERATORS, "shared": GENERATORS,
         "svg": (*GENERATORS, "walk"), "names": GENERATORS, "explain": ("walk",),

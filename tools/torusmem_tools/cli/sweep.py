@@ -4,6 +4,7 @@
     tools/sweep --shape 4x4 --shape 8x8 --traffic uniform --svg > sweep.svg
     tools/sweep --shape 4x4 --traffic uniform --loads 0.02,0.06,0.1 --csv
     tools/network mesh 4x4 > mesh.txt; tools/sweep --network mesh.txt --loads 0.02,0.04,0.06,0.08
+    tools/sweep --network mesh.txt --length 1 --cycle 2 --saturation
 
 For each shape, pattern and load, and for each of --seeds seeds, a run is drawn. Each tile asks for an operation with
 the probability of the load a round; of these --stores in a hundred are stores, the others loads. What is asked for waits
@@ -17,15 +18,17 @@ operations that are asked for in it: the rounds from the one in which it is aske
 counted. Both stand as a mean over the seeds with the half width of its 95 % interval by Student's t. Behind the greatest 95th
 percentile stand the longest latency, and the least and the most that is accepted of one tile or sender. The latency without
 load is that of the formula of docs/FORMATS.md. A load is saturated where the latency is over three times that, or where
-in some run not all that is measured is answered.
+in some run not all that is measured is answered. With --saturation the least such load is looked for, by bisection to 0.002, in
+runs of each seed: `saturation 0.412 +- 0.006` is the mean over the seeds, with its interval.
 
 Traffic is uniform (every bank as often), transpose (the bank whose digits are the processor's, reversed), bit-complement
-(each digit d is radix - 1 - d), neighbour (the next bank in dimension 0), tornado (half of the way round in each
-dimension), or hot-spot (a quarter of the operations to bank 0, the others uniform).
+(each digit d is radix - 1 - d), neighbour (the next bank in each dimension), tornado (half of the way round in each
+dimension), bit-reverse (the processor's bits, reversed), shuffle (its bits, turned by one to the left), or hot-spot (a quarter
+of the operations to bank 0, the others uniform): Dally and Towles, Principles and Practices of Interconnection Networks, 3.2.
 
 With --network each sender of the network asks for a packet of --length flits with the probability of the load a round, as
-`tools/network traffic` draws them, by its patterns. Accepted are the packets that are delivered in the window, for each round
-and sender; the latency is that of docs/FORMATS.md ("Traffic text"). The rounds are those of `torusmem simulate`, or where the
+`tools/network traffic` draws them, by its patterns, and also --to, --matrix, --hot and --burst. Accepted are the packets that
+are delivered in the window, for each round and sender; the latency is that of docs/FORMATS.md ("Traffic text"). The rounds are those of `torusmem simulate`, or where the
 program has no such command of the plain model. All else is as of machines.
 
 A flit passes a channel in two rounds, a take and a put. With --cycle 2 all that is said of rounds is said of cycles of two, as
@@ -44,8 +47,7 @@ from typing import Any, Callable, Iterator, Union
 
 from torusmem_tools import command
 from torusmem_tools.draw import curves, paper
-from torusmem_tools.model import cycles, offered_load, offered_packets, traffic_draw, trial
-from torusmem_tools.model.network_words import sizes
+from torusmem_tools.model import cycles, offered_load, offered_packets, traffic_draw, traffic_patterns, trial
 from torusmem_tools.model.packet_rounds import ARBITERS
 from torusmem_tools.model.torus import radices_of
 from torusmem_tools.progress import rewrite
@@ -55,12 +57,14 @@ TOOL = "sweep"
 Point = Union[offered_load.Point, offered_packets.Point]
 LOADS = (0.01, 0.03, 0.05, 0.07, 0.09, 0.11, 0.13, 0.15)
 # What is offered where the command line doesn't say.
-TAGS, STORES, LENGTH = 16, 30, 4
+TAGS, STORES = 16, 30
+# The patterns of a machine where the command line names none: those that every shape has.
+USUAL = tuple(it for it in traffic_patterns.PATTERNS if it not in traffic_patterns.BY_BITS)
 # Student's t at 97.5 % for 1, 2, .. degrees of freedom.
 STUDENT = (12.706, 4.303, 3.182, 2.776, 2.571, 2.447, 2.365, 2.306, 2.262, 2.228, 2.201, 2.179, 2.160, 2.145, 2.131,
            2.120, 2.110, 2.101, 2.093, 2.086, 2.080, 2.074, 2.069, 2.064, 2.060, 2.056, 2.052, 2.048, 2.045)
-# A latency of so many times that without load is one of saturation.
-SATURATION = 3
+# A latency of so many times that without load is one of saturation, and loads this close are not told apart.
+SATURATION, BISECTED = 3, 0.002
 
 
 def ignore_interrupts() -> None:
@@ -79,17 +83,17 @@ def numbered_result(numbered: tuple[int, Point]) -> tuple[int, offered_load.Foun
     return numbered[0], (offered_packets if isinstance(numbered[1], offered_packets.Point) else offered_load).result(numbered[1])
 
 
-def all_measured(points: list[Point], jobs: int) -> list[offered_load.Found]:
+def all_measured(points: list[Point], jobs: int, measure: Callable[[tuple[int, Point]], Any]) -> list[Any]:
     """What all runs came to, so many made at once, in their order."""
-    found: list[offered_load.Found | None] = [None] * len(points)
+    found: list[Any] = [None] * len(points)
     with multiprocessing.get_context("fork").Pool(min(jobs, len(points)), ignore_interrupts) as pool:
-        for done, (at, made) in enumerate(pool.imap_unordered(numbered_result, list(enumerate(points)))):
+        for done, (at, made) in enumerate(pool.imap_unordered(measure, list(enumerate(points)))):
             if isinstance(made, str):
                 raise command.Refusal(made)
             found[at] = made
             say(f"{TOOL}: {done + 1} of {len(points)} runs")
     say("")
-    return [it for it in found if it is not None]
+    return found
 
 
 def mean_within(values: list[float]) -> tuple[float, float]:
@@ -99,10 +103,57 @@ def mean_within(values: list[float]) -> tuple[float, float]:
     return mean, STUDENT[len(values) - 2] * math.sqrt(variance / len(values))
 
 
+def zero_load(point: Point) -> float | None:
+    """The latency without load, where there is a formula for it."""
+    return offered_packets.zero_load(point) if isinstance(point, offered_packets.Point) else offered_load.zero_load(point)
+
+
+def is_saturated(point: Point, found: offered_load.Found) -> bool:
+    """Whether one run is: its latency is high, or not all that is measured is answered."""
+    zero = zero_load(point)
+    return not found.is_drained or zero is not None and found.latency > SATURATION * zero
+
+
+def saturation(numbered: tuple[int, Point]) -> tuple[int, float | str]:
+    """In a process of its own: the least load at which a run of this seed is saturated, by bisection between 0 and 1; or why it isn't
+    found. A run in which nothing is measured counts as one below it."""
+    number, point = numbered
+    low, high = 0.0, 1.0
+    while high - low > BISECTED:
+        load = (low + high) / 2
+        _, found = numbered_result((0, replace(point, load=load)))
+        if isinstance(found, str) and not found.startswith("no "):
+            return number, found
+        low, high = (low, load) if not isinstance(found, str) and is_saturated(point, found) else (load, high)
+    return number, (low + high) / 2
+
+
+def saturations(given: Any) -> list[dict[str, Any]]:
+    """Where each network or shape is saturated by each pattern: a mean over the seeds, with its interval."""
+    points = list(dict.fromkeys(replace(it, load=1.0) for it in points_of(given)))
+    runs = [replace(it, seed=(it.seed + k) % 2**64) for it in points for k in range(given.seeds)]
+    found, rows = all_measured(runs, given.jobs, saturation), []
+    for at, it in enumerate(points):
+        mean, within = mean_within(found[at * given.seeds : (at + 1) * given.seeds])
+        zero = zero_load(it)
+        row: dict[str, Any] = {"shape": it.shape(), "traffic": it.traffic, "zero_load": zero and round(zero, 2)}
+        rows.append({**row, "saturation": round(mean, 4), "saturation_within": round(within, 4), "seeds": given.seeds})
+    return rows
+
+
+def saturation_table(rows: list[dict[str, Any]]) -> str:
+    """The same as text."""
+    cells = [[next(iter(rows[0])), "traffic", "without load", ""]]
+    for it in rows:
+        zero = "-" if it["zero_load"] is None else f"{it['zero_load']:.2f}"
+        cells.append([it[cells[0][0]], it["traffic"], zero, f"saturation {it['saturation']:.3f} +- {it['saturation_within']:.3f}"])
+    return "".join(f"{it}\n" for it in aligned(cells, (0, 1, 3)))
+
+
 def row_of(point: Point, found: list[offered_load.Found]) -> dict[str, Any]:
     """What the runs of a load came to."""
     accepted, latency = mean_within([it.accepted for it in found]), mean_within([it.latency for it in found])
-    drained, zero = sum(it.is_drained for it in found), offered_packets.zero_load(point) if isinstance(point, offered_packets.Point) else offered_load.zero_load(point)
+    drained, zero = sum(it.is_drained for it in found), zero_load(point)
     row: dict[str, Any] = {"shape": point.shape(), "traffic": point.traffic, "offered": point.load}
     row.update(accepted=round(accepted[0], 5), accepted_within=round(accepted[1], 5))
     row.update(latency=round(latency[0], 2), latency_within=round(latency[1], 2))
@@ -154,17 +205,17 @@ def words() -> command.Parser:
     what.add_argument("--shape", metavar="RADIX[xRADIX..]", type=radices_of, action="append", help=shape)
     network = "the text of a network, in place of a machine; may be given more than once, too"
     what.add_argument("--network", metavar="NETWORK", action="append", help=network)
-    traffic = f"one of {', '.join(offered_load.TRAFFIC)}; may be given more than once; all if not given, of a network uniform"
-    add("traffic", "PATTERN", choices=offered_load.TRAFFIC, action="append", help=traffic)
+    usual = f"if not given all but {' and '.join(traffic_patterns.BY_BITS)}, of a network uniform"
+    traffic = f"one of {', '.join(traffic_patterns.PATTERNS)}; may be given more than once; {usual}"
+    add("traffic", "PATTERN", choices=traffic_patterns.PATTERNS, action="append", help=traffic)
     loads = f"offered loads, operations per tile and round, or packets per sender and round; {','.join(map(str, LOADS))} if not given"
-    add("loads", "L[,L..]", type=loads_of, default=list(LOADS), help=loads)
+    add("loads", "L[,L..]", type=loads_of, help=loads)
+    parser.add_argument("--saturation", action="store_true", help="in place of loads: the least load that is saturated, by bisection, of each seed")
     of_one: Callable[[str, str, int, int, str], None] = lambda name, metavar, least, most, what: add(name, metavar, type=command.whole(least, most), help=what)
     of_one("tags", "T", 1, 16, f"of a machine: operations of a processor that may be out at once; {TAGS} if not given")
     number("depth", "D", 1, 8, 4, "flits that a channel holds")
     of_one("stores", "P", 0, 100, f"of a machine: how many in a hundred are stores; {STORES} if not given")
-    of_one("length", "L", 1, 1000, f"of a network: flits of a packet; {LENGTH} if not given")
-    digits = "of a network: the digits of its senders, as 4x4, for patterns other than uniform and hot-spot"
-    add("digits", "RADIX[xRADIX..]", type=lambda word: sizes(word, 3), help=digits)
+    traffic_draw.add_demand_words(parser, "of a network: ", 1000)
     number("warm-up", "R", 0, 100000, 200, "rounds before the measured ones")
     number("window", "R", 1, 100000, 500, "rounds that are measured")
     number("drain", "R", 0, 100000, 500, "the most rounds behind these")
@@ -187,21 +238,25 @@ def words() -> command.Parser:
 def points_of(given: Any) -> Iterator[Point]:
     """The loads that are asked for, each with the first seed."""
     rounds = given.warm_up, given.window, given.drain
-    for network, traffic, load in itertools.product(given.network or [], given.traffic or ["uniform"], given.loads):
-        of_packets = given.depth, given.length or LENGTH, *rounds, given.cycle, given.arbiter or ARBITERS[0]
-        yield offered_packets.Point(network, traffic, load, tuple(given.digits or []), *of_packets, given.seed)
+    for network, traffic, load in itertools.product(given.network or [], given.traffic or [None], given.loads):
+        demand = traffic_draw.demand_of(given, traffic)
+        yield offered_packets.Point(network, demand, load, given.depth, *rounds, given.cycle, given.arbiter or ARBITERS[0], given.seed)
     tags, stores = given.tags or TAGS, STORES if given.stores is None else given.stores
-    for radices, traffic, load in itertools.product(given.shape or [], given.traffic or offered_load.TRAFFIC, given.loads):
+    for radices, traffic, load in itertools.product(given.shape or [], given.traffic or USUAL, given.loads):
         yield offered_load.Point(tuple(radices), traffic, load, tags, given.depth, stores, *rounds, not given.rounds_in_order, given.cycle, given.seed)
 
 
 def asked() -> Any:
     """What the command line asks for; refuses words that are of no use together."""
     given = words().parse_args()
-    idle = ("length", "digits", "arbiter") if given.shape else ("tags", "stores", "rounds_in_order")
+    idle = ("length", "digits", "burst", "hot", "to", "matrix", "arbiter") if given.shape else ("tags", "stores", "rounds_in_order")
     for name in idle:
         if getattr(given, name) is not None and getattr(given, name) is not False:
             raise command.WrongWords(f"--{name.replace('_', '-')} is of no use with --{'shape' if given.shape else 'network'} (--help says more)")
+    for name in ("loads", "svg"):
+        if given.saturation and getattr(given, name):
+            raise command.WrongWords(f"--{name} is of no use with --saturation (--help says more)")
+    given.loads = given.loads or list(LOADS)
     return given
 
 
@@ -210,13 +265,24 @@ def named(rows: list[dict[str, Any]], given: Any) -> list[dict[str, Any]]:
     return [{("network" if key == "shape" and given.network else key): it for key, it in row.items()} for row in rows]
 
 
+def lengths_said(lengths: tuple[traffic_draw.Share, ...] | None) -> str:
+    """The lengths of packets, as a picture names them."""
+    return " or ".join(str(it) for it, _ in lengths or traffic_draw.Demand("uniform").lengths)
+
+
 def work() -> str:
     """What the tool prints."""
     given = asked()
+    for it in points_of(given):
+        # (what is refused is refused ahead of all runs, and they need not read the networks again)
+        zero_load(it)
     os.environ["TORUSMEM"] = trial.built_torusmem()
+    if given.saturation:
+        rows = named(saturations(given), given)
+        return json.dumps(rows, indent=2) + "\n" if given.json else csv(rows) if given.csv else saturation_table(rows)
     points = list(dict.fromkeys(points_of(given)))
     runs = [replace(it, seed=(it.seed + k) % 2**64) for it in points for k in range(given.seeds)]
-    found = all_measured(runs, given.jobs)
+    found = all_measured(runs, given.jobs, numbered_result)
     rows = [row_of(it, found[at * given.seeds : (at + 1) * given.seeds]) for at, it in enumerate(points)]
     if given.json:
         return json.dumps(named(rows, given), indent=2) + "\n"
@@ -226,7 +292,7 @@ def work() -> str:
         return table(named(rows, given))
     unit = cycles.unit(given.cycle)
     if given.network:
-        said = f"packets of {given.length or LENGTH} flits, depth {given.depth}"
+        said = f"packets of {lengths_said(given.length)} flits, depth {given.depth}"
         return curves.plot(rows, given.width, said, f"offered, packets per sender and {unit}", unit)
     rounds, stores = "rounds in order" if given.rounds_in_order else "clocked rounds", STORES if given.stores is None else given.stores
     said = f"{rounds}, {stores} % stores, depth {given.depth}, {given.tags or TAGS} tags"

@@ -10,7 +10,9 @@ from torusmem_tools.draw.svg_text import Point
 
 COLOURS = {"uniform": palette.BLUE, "transpose": palette.VERMILLION, "bit-complement": palette.GREEN}
 COLOURS.update({"neighbour": palette.SKY, "tornado": palette.PURPLE, "hot-spot": palette.ORANGE})
+COLOURS.update({"bit-reverse": palette.GREEN, "shuffle": palette.VERMILLION, "permutation": palette.GREY, "matrix": palette.BLACK})
 MARKS = {"uniform": "disc", "transpose": "square", "bit-complement": "up", "neighbour": "diamond", "tornado": "down", "hot-spot": "cross"}
+MARKS.update({"bit-reverse": "square", "shuffle": "disc", "permutation": "up", "matrix": "diamond"})
 DASHES = (None, "5 2", "1.5 2", "7 2 1.5 2")
 SIGNS = ("hollow: saturated; at the top edge: above it", "bars: 95 % intervals over the seeds", "short thick line at the left: latency without load")
 Row = Dict[str, Any]

@@ -18,6 +18,7 @@ from torusmem_tools.draw.strokes import LETTERS
 from torusmem_tools.model.cycles import cycle_if, cycle_of, unit
 from torusmem_tools.model.network import Network
 from torusmem_tools.model.packet_rounds import Packet
+from torusmem_tools.model.traffic_draw import groups_of
 from torusmem_tools.texts.columns import aligned
 from torusmem_tools.texts.traffic_report import Delivered, Sent
 
@@ -43,19 +44,29 @@ def times_of(it: Sent) -> Optional[Dict[str, int]]:
     return {"asked_to_begun": wait, "begun_to_delivered": it.delivered - it.begun + 1, "latency": it.delivered - it.packet.round + 1}
 
 
-def by_sender(sent: List[Sent], last: int) -> List[Row]:
-    """What becomes of the packets of each sender: how many are delivered, their share of all that are, and the longest wait of
-    one, which ends with the last round where it isn't delivered."""
+def grouped(sent: List[Sent], last: int, name: str, key: Callable[[int], int]) -> List[Row]:
+    """What becomes of the packets of each sender, or of each class of senders, by the key of the sender's channel: how many are
+    delivered, their share of all that are, the mean and the greatest latency of these, and the longest wait of one, which ends with
+    the last round where it isn't delivered."""
     found: Dict[int, List[Sent]] = {}
     for it in sent:
-        found.setdefault(it.packet.start, []).append(it)
-    whole = sum(it.delivered is not None for it in sent)
-    rows = []
-    for x, of in sorted(found.items()):
-        here = sum(it.delivered is not None for it in of)
+        found.setdefault(key(it.packet.start), []).append(it)
+    whole, rows = sum(it.delivered is not None for it in sent), []
+    for number, of in sorted(found.items()):
+        times = [it.delivered - it.packet.round + 1 for it in of if it.delivered is not None]
         longest = max((last if it.delivered is None else it.delivered) - it.packet.round + 1 for it in of)
-        rows.append({"sender": x, "packets": len(of), "delivered": here, "share": round(here / max(whole, 1), 5), "longest_wait": max(longest, 0)})
+        row: Row = {name: number, "packets": len(of), "delivered": len(times), "share": round(len(times) / max(whole, 1), 5)}
+        row.update(latency=round(sum(times) / len(times), 2) if times else None, greatest=max(times, default=None))
+        rows.append({**row, "longest_wait": max(longest, 0)})
     return rows
+
+
+def class_table(rows: List[Row]) -> List[str]:
+    """What becomes of the packets of each message class."""
+    shown: Callable[[Any], str] = lambda it: "-" if it is None else f"{it:.2f}" if isinstance(it, float) else str(it)
+    heads = {it: it for it in ("class", "packets", "delivered")}
+    heads.update(latency="mean latency", greatest="greatest", longest_wait="longest wait")
+    return list(aligned([list(heads.values()), *([shown(row[it]) for it in heads] for row in rows)]))
 
 
 def summed(rows: List[Row]) -> List[Row]:
@@ -73,8 +84,12 @@ def figures(net: Network, found: Delivered, top: int, cycle: int = 1) -> Row:
     times = [it for it in map(times_of, sent) if it]
     hottest = sorted((it for it in rows if it["flits"]), key=lambda it: (-it["flits"], -it["waited"], it["channel"]))
     runs = [{**it.packet._asdict(), "begun": it.begun, "delivered": it.delivered} for it in sent]
-    return {"unit": unit(cycle), "end": found.end, "senders": by_sender(sent, cycle_of(found.rounds(), cycle)), "packets": len(found.sent), "delivered": len(times), "times": {it: summary_of([row[it] for row in times]) for it in TIMES},
-            "kinds": summed(rows), "hottest": hottest[:top], "channels": rows, "runs": runs}
+    group = {x: number for number, (starts, _) in enumerate(groups_of(net)) for x in starts}
+    last = cycle_of(found.rounds(), cycle)
+    senders, classes = grouped(sent, last, "sender", lambda x: x), grouped(sent, last, "class", group.__getitem__)
+    spreads = {it: summary_of([row[it] for row in times]) for it in TIMES}
+    return {"unit": unit(cycle), "end": found.end, "senders": senders, "classes": classes, "packets": len(found.sent), "delivered": len(times),
+            "times": spreads, "kinds": summed(rows), "hottest": hottest[:top], "channels": rows, "runs": runs}
 
 
 def shares(rows: List[Row], name: str, count: str) -> List[List[str]]:
@@ -83,7 +98,10 @@ def shares(rows: List[Row], name: str, count: str) -> List[List[str]]:
     ends: Callable[[str], List[Row]] = lambda key: [of(rows, key=lambda it: number(it, key)) for of in (min, max)]
     cells: Callable[[str, str], List[str]] = lambda key, form: [f"{it[key]:{form}} ({it[name]})" for it in ends(key)]
     heads = [f"of one {name} of {len(rows)}", "least", "greatest"]
-    return [heads, [count, *cells(count, "d")], ["share of all", *cells("share", ".4f")], ["longest wait", *cells("longest_wait", "d")]]
+    delivered = [it for it in rows if it.get("latency") is not None]
+    means = [[f"{it['latency']:.2f} ({it[name]})" for it in (of(delivered, key=lambda it: number(it, "latency")) for of in (min, max))]] if delivered else []
+    latency = [["mean latency", *it] for it in means]
+    return [heads, [count, *cells(count, "d")], ["share of all", *cells("share", ".4f")], *latency, ["longest wait", *cells("longest_wait", "d")]]
 
 
 def table(made: Row) -> str:
@@ -94,6 +112,7 @@ def table(made: Row) -> str:
     heads = [f"{made['unit']}s", "count", "least", "mean", "median", "p95", "p99", "greatest"]
     lines += ["", *aligned([heads, *cells])] if cells else []
     lines += ["", *aligned(shares(made["senders"], "sender", "delivered"))] if made["senders"] else []
+    lines += ["", *class_table(made["classes"])] if len(made["classes"]) > 1 else []
     lines += ["", *aligned([list(made["kinds"][0]), *([str(it) for it in row.values()] for row in made["kinds"])])]
     hottest = [[f"{it['channel']} {it['name']}", str(it["flits"]), str(it["waited"])] for it in made["hottest"]]
     return "\n".join([*lines, "", *aligned([["hottest channels", *COUNTS], *hottest])]) + "\n"

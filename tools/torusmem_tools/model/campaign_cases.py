@@ -7,8 +7,9 @@ from __future__ import annotations
 from dataclasses import dataclass, field, replace
 from typing import TypeVar
 
+from torusmem_tools.model import traffic_patterns
 from torusmem_tools.model.operations import MASK, VALUES
-from torusmem_tools.model.torus import digits
+from torusmem_tools.model.torus import moved
 from torusmem_tools.texts import report
 
 MOST_OF_ALL = 65536
@@ -108,25 +109,16 @@ def count(line: str) -> int:
 
 
 def bank(numbers: Numbers, pattern: str, source: int, radices: list[int], hot: int) -> int:
-    """The bank that a processor asks by a traffic pattern: Dally and Towles, Principles and Practices, 3.2."""
+    """The bank that a processor asks by a traffic pattern; as neighbour the next one in dimension 0 alone, so that a seed draws the
+    run that it always drew."""
     tiles = report.product(radices)
     if pattern == "uniform":
         return numbers.below(tiles)
     if pattern == "hot bank":
         return hot if numbers.below(4) else numbers.below(tiles)
-    place = digits(source, radices)
     if pattern == "neighbour":
-        place[0] = (place[0] + 1) % radices[0]
-    elif pattern == "tornado":
-        place = [(it + (radix + 1) // 2 - 1) % radix for it, radix in zip(place, radices)]
-    elif pattern == "complement":
-        place = [radix - 1 - it for it, radix in zip(place, radices)]
-    else:
-        place = [it % radix for it, radix in zip(place[::-1], radices)]
-    made = 0
-    for it, radix in zip(place[::-1], radices[::-1]):
-        made = made * radix + it
-    return made
+        return moved(source, 0, 1, radices)
+    return traffic_patterns.target("bit-complement" if pattern == "complement" else pattern, source, radices, tiles)
 
 
 def address(numbers: Numbers, pattern: str, source: int, case: Case, hot: int) -> int:

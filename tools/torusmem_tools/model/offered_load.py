@@ -12,11 +12,10 @@ from dataclasses import dataclass
 from typing import Any, Callable
 
 from torusmem_tools import command
-from torusmem_tools.model import campaign_cases, clocked_rounds, cycles, replay, schedule_runs
+from torusmem_tools.model import campaign_cases, clocked_rounds, cycles, replay, schedule_runs, traffic_patterns
 from torusmem_tools.model.percentiles import percentile
 from torusmem_tools.texts import report
 
-TRAFFIC = ("uniform", "transpose", "bit-complement", "neighbour", "tornado", "hot-spot")
 # Words of each bank.
 WORDS = 64
 # The most operations of a script, and of all.
@@ -76,8 +75,9 @@ def bank_of(numbers: campaign_cases.Numbers, point: Point, source: int) -> int:
     """The bank that a processor asks next."""
     if point.traffic == "hot-spot":
         return 0 if numbers.below(4) == 0 else numbers.below(point.tiles())
-    named = "complement" if point.traffic == "bit-complement" else point.traffic
-    return campaign_cases.bank(numbers, named, source, list(point.radices), 0)
+    if point.traffic == "uniform":
+        return numbers.below(point.tiles())
+    return traffic_patterns.target(point.traffic, source, point.radices, point.tiles())
 
 
 def asked(point: Point) -> tuple[campaign_cases.Case, list[list[int]]]:

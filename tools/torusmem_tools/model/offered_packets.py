@@ -6,6 +6,7 @@ program has no such command, the model of model/packet_rounds.py, which prints t
 from __future__ import annotations
 
 import functools
+import itertools
 import os
 from collections import Counter
 from dataclasses import dataclass
@@ -27,17 +28,20 @@ class Point:
     """What is asked of one run. Its times are cycles of so many rounds."""
 
     network: str
-    traffic: str
+    demand: traffic_draw.Demand
     load: float
-    digits: tuple[int, ...]
     depth: int
-    size: int
     warm_up: int
     window: int
     drain: int
     cycle: int
     arbiter: str
     seed: int
+
+    @property
+    def traffic(self) -> str:
+        """The pattern of what is asked for."""
+        return self.demand.pattern
 
     def shape(self) -> str:
         """What the network is called: its file, without folder and suffix."""
@@ -66,7 +70,7 @@ def network_of(path: str) -> Network:
 
 def traffic_of(point: Point) -> traffic_draw.Traffic:
     """Where packets go; refused where there are none."""
-    made = traffic_draw.Traffic(network_of(point.network), point.traffic, list(point.digits) or None)
+    made = traffic_draw.Traffic(network_of(point.network), point.demand)
     if not made.pairs():
         raise command.Refusal(f"{point.network} has no pair that packets of {point.traffic} go between")
     return made
@@ -99,7 +103,7 @@ def measured(point: Point) -> Found:
     """Makes a run, and measures it."""
     traffic, numbers = traffic_of(point), campaign_cases.Numbers(point.seed)
     rounds = (cycles.first_round(it, point.cycle) for it in range(1, point.cycles() + 1))
-    asked = [it for number in rounds for it in traffic_draw.draw_packets(traffic, numbers, point.load, point.size, number)]
+    asked = [it for number in rounds for it in traffic_draw.draw_packets(traffic, numbers, point.load, number)]
     found = traffic_report.parse_traffic_report(network_of(point.network), report_lines(point, asked), "the report")
     return found_of(point, found, sorted(traffic.ends))
 
@@ -123,8 +127,9 @@ def zero_load(point: Point) -> Optional[float]:
     """The mean latency of a packet with nothing else under way: two rounds for each channel of its route, and two more for
     each further flit, or three where a channel holds one; in cycles."""
     pairs, net = traffic_of(point).pairs(), network_of(point.network)
-    more = (2 if point.depth > 1 else 3) * (point.size - 1)
-    times = sum(share * cycles.cycle_of(2 * len(route(net, i, j)) + more, point.cycle) for share, i, j in pairs)
+    times, each = 0.0, 2 if point.depth > 1 else 3
+    for (share, i, j), (size, part) in itertools.product(pairs, point.demand.lengths):
+        times += share * part / traffic_draw.MILLION * cycles.cycle_of(2 * len(route(net, i, j)) + each * (size - 1), point.cycle)
     return times / sum(share for share, _, _ in pairs)
 
 

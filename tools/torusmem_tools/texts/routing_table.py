@@ -29,16 +29,17 @@ class Row(NamedTuple):
     came: Optional[int]
 
 
-def heads_of(found: List[str], path: str) -> List[str]:
-    """The columns that the first line names. Refused where one is missing, stands twice or isn't known."""
+def heads_of(found: List[str], path: str, columns: List[str], further: List[str]) -> List[str]:
+    """The columns that the first line names: all of the first list, and maybe some of the second. Refused where one is missing,
+    stands twice or isn't known."""
     heads = [it.strip() for it in found]
-    missing = [it for it in COLUMNS if it not in heads]
+    missing = [it for it in columns if it not in heads]
     if missing:
-        hint = column_names.hint(missing, heads, COLUMNS + FURTHER)
+        hint = column_names.hint(missing, heads, columns + further)
         raise Refusal(f"{path}: the first line doesn't name the column{'s' * (len(missing) > 1)} {','.join(missing)}{hint}")
     for at, it in enumerate(heads):
-        if it not in COLUMNS + FURTHER or it in heads[:at]:
-            raise Refusal(f"{path}: the first line names `{it}`, and a table has each of {','.join(COLUMNS)} and maybe {','.join(FURTHER)}")
+        if it not in columns + further or it in heads[:at]:
+            raise Refusal(f"{path}: the first line names `{it}`, and a table has each of {','.join(columns)} and maybe {','.join(further)}")
     return heads
 
 
@@ -54,7 +55,7 @@ class Table:
 
     def __init__(self, text: str, path: str) -> None:
         cells, self.path = cells_of(text, path), path
-        self.heads = heads_of(cells[0][1], path)
+        self.heads = heads_of(cells[0][1], path, COLUMNS, FURTHER)
         if len(cells) == 1:
             raise Refusal(f"{path}: there is no row behind the first line")
         words = [(line, self.words_of(line, row)) for line, row in cells[1:] if row]
