@@ -1,17 +1,20 @@
 -- The cases in which packets wait, gathered one after the other.
 use Rattle.std.proofs.Common.{◌≡◌, ◌⊎◌, inl, inr, ⊎_elim, ℕ, suc, ◌+◌, ◌*◌, ◌<◌, ◌≤◌, Bool, true, false, List, [], ◌∷◌, ◌++◌, length, refl, sym, ◌∙◌, ap, subst, arith, eq-eqb}
-use Rattle.std.specs.Prelude.{slice_index, nat_lt, ◌==◌}
+use Rattle.std.specs.Prelude.{Some, slice_get, slice_index, nat_lt, ◌==◌}
 use Rattle.std.proofs.lemmas.Bool.{cases_eq, eqb-true, ltb-true, lt-ltb, and_parts, and_from, or_left, or_right}
 use Rattle.rising.specs.declared.edge.Edge.{Edge}
 use Rattle.network_judge.specs.declared.table.Kind.{Kind}
 use Rattle.network_judge.specs.declared.table.Join.{Join}
 use Rattle.network_judge.specs.declared.table.Reply.{Reply}
+use Rattle.network_judge.specs.declared.table.Kind.TheVariants.{Ejection}
+use Rattle.network_judge.specs.Table.{table_of, joins_of, is_receiver}
 use Rattle.network_judge.specs.Replies.{reply_at}
 use Rattle.network_judge.specs.Marks.{is_marked_at}
-use Rattle.network_adaptive.specs.Spread.{names, opens, leads_on, choice_step}
+use Rattle.network_adaptive.specs.Spread.{block_base, names, opens, leads_on, choice_step}
 use Rattle.network_adaptive.specs.Flags.{HasPut, AreComes, ComesTo}
 use Rattle.network_adaptive.proofs.Flags.{or_cases}
-use Rattle.network_adaptive.proofs.Puts.{IsThis, put_none, put_then, put_map, put_one_as, path_up}
+use Rattle.network_adaptive.proofs.Puts.{IsThis, put_none, put_then, put_map, put_one_as}
+use Rattle.network_adaptive.proofs.Spreading.{path_up}
 use Rattle.network_adaptive.proofs.Circles.{reply_answers, answers_reply}
 use Rattle.dead_sets.specs.Cases.{AreCases, AddsCases, IsChoiceCase, IsReplyCase, IsCaseTo}
 use Rattle.dead_sets.proofs.Adding.{IsThisCase, IsWayOut, add_none, add_then, add_map, add_one}
@@ -205,12 +208,12 @@ module _ (count : ℕ) (replies : List Reply) (from : ℕ) where
 
 -- all cases of one destination
 module _ (kinds : List Kind) (joins : List Join) (replies : List Reply) (choices : List ℕ) (ways : ℕ) (none : List Bool) (j : ℕ) (seen : List Bool)
-    (are : AreComes kinds joins (choice_step kinds choices (j * (length kinds * ways)) ways none) j seen) where
+    (are : AreComes kinds joins (choice_step kinds choices (block_base kinds ways j) ways none) j seen) where
   abbrev step : ℕ → ℕ → Bool
-  step = choice_step kinds choices (j * (length kinds * ways)) ways none
+  step = choice_step kinds choices (block_base kinds ways j) ways none
 
   abbrev Chosen : ℕ → (ℕ → Bool) → Type 0
-  Chosen = IsChoiceCase kinds choices (j * (length kinds * ways)) ways seen
+  Chosen = IsChoiceCase kinds choices (block_base kinds ways j) ways seen
 
   abbrev Goal : ℕ → (ℕ → Bool) → Type 0
   Goal = IsCaseTo kinds joins replies choices ways none j
@@ -221,7 +224,7 @@ module _ (kinds : List Kind) (joins : List Join) (replies : List Reply) (choices
   chosen_goal : (x : ℕ) (out : ℕ → Bool) → Chosen x out → Goal x out
   chosen_goal x out p = (are.only x p.up, inl (p.low, p.leads, p.choice))
 
-  goal_chosen : (x : ℕ) (out : ℕ → Bool) → ComesTo joins step j x → (x < length kinds) × (leads_on kinds x ≡ true) × (out ≡ opens (length kinds) choices (j * (length kinds * ways) + x * ways) ways [])
+  goal_chosen : (x : ℕ) (out : ℕ → Bool) → ComesTo joins step j x → (x < length kinds) × (leads_on kinds x ≡ true) × (out ≡ opens (length kinds) choices (block_base kinds ways j + x * ways) ways [])
       → Chosen x out
   goal_chosen x out come a = record { low = a.0; up = comes_up x come; leads = a.1; choice = a.2 }
 
@@ -231,7 +234,7 @@ module _ (kinds : List Kind) (joins : List Join) (replies : List Reply) (choices
       chosen_goal
       (λ x out p. (subst (ComesTo joins step j) (sym p.is) (are.only j up), inr (last, p)))
       (λ x out p. ⊎_elim
-      (λ (q : (x < length kinds) × (leads_on kinds x ≡ true) × (out ≡ opens (length kinds) choices (j * (length kinds * ways) + x * ways) ways [])). inl (goal_chosen x out p.0 q))
+      (λ (q : (x < length kinds) × (leads_on kinds x ≡ true) × (out ≡ opens (length kinds) choices (block_base kinds ways j + x * ways) ways [])). inl (goal_chosen x out p.0 q))
       (λ (q : (leads_on kinds j ≡ false) × IsReplyCase (length kinds) replies j x out). inr q.1)
       p.1)
       a b
@@ -241,7 +244,7 @@ module _ (kinds : List Kind) (joins : List Join) (replies : List Reply) (choices
   without_replies at mid edges some never a = add_map Chosen Goal at mid edges some
       chosen_goal
       (λ x out p. ⊎_elim
-      (λ (q : (x < length kinds) × (leads_on kinds x ≡ true) × (out ≡ opens (length kinds) choices (j * (length kinds * ways) + x * ways) ways [])). goal_chosen x out p.0 q)
+      (λ (q : (x < length kinds) × (leads_on kinds x ≡ true) × (out ≡ opens (length kinds) choices (block_base kinds ways j + x * ways) ways [])). goal_chosen x out p.0 q)
       (λ (q : (leads_on kinds j ≡ false) × IsReplyCase (length kinds) replies j x out). let r = q.1 in
       absurd (never (comes_up j (subst (ComesTo joins step j) r.is p.0)) q.0))
       p.1)
@@ -277,3 +280,11 @@ module _ (kinds : List Kind) (joins : List Join) (replies : List Reply) (choices
         | inr apart ↦ inl (p.0, (let l = p.1 in omega arith), p.2)
       ])
       a b
+
+  -- to a channel that is no ejection channel there are none
+  pub cases_skip : ((i j : ℕ) → joins_of (table_of [] joins []) i j ≡ true → slice_get kinds j ≡ Some Ejection)
+      → (j m : ℕ) (at : List ℕ) (edges : List Edge) → m ≡ suc j → is_receiver (slice_get kinds j) ≡ false
+      → AddsCases (CasesSo j) [] [] at edges → AddsCases (CasesSo m) [] [] at edges
+  cases_skip receivers j m at edges e other before = cases_more j m at at edges edges e before
+      (add_none (IsCaseTo kinds joins replies choices ways none j) at edges
+      (λ x out p. (let bad : true ≡ false = sym (ap is_receiver (receivers p.0.0 j p.0.1)) ∙ other in cc)))

@@ -6,7 +6,7 @@ use Rattle.network_judge.specs.declared.table.Kind.{Kind}
 use Rattle.network_judge.specs.declared.table.Join.{Join}
 use Rattle.network_judge.specs.declared.table.Reply.{Reply}
 use Rattle.network_judge.specs.Marks.{is_marked_at}
-use Rattle.network_adaptive.specs.Spread.{opens, leads_on, choice_step}
+use Rattle.network_adaptive.specs.Spread.{block_base, opens, leads_on, choice_step}
 use Rattle.network_adaptive.specs.Flags.{IsEdgeOf, ComesTo}
 use Rattle.network_adaptive.specs.Judged.{answers_of}
 
@@ -56,9 +56,9 @@ pub record IsReplyCase (count : ℕ) (replies : List Reply) (from x : ℕ) (out 
 abbrev pub IsCaseTo : List Kind → List Join → List Reply → List ℕ → ℕ → List Bool → ℕ → ℕ
     → (ℕ → Bool) → Type 0
 IsCaseTo kinds joins replies choices ways none j x out =
-    (ComesTo joins (choice_step kinds choices (j * (length kinds * ways)) ways none) j x)
+    (ComesTo joins (choice_step kinds choices (block_base kinds ways j) ways none) j x)
     × (((x < length kinds) × (leads_on kinds x ≡ true)
-    × (out ≡ opens (length kinds) choices (j * (length kinds * ways) + x * ways) ways []))
+    × (out ≡ opens (length kinds) choices (block_base kinds ways j + x * ways) ways []))
     ⊎ ((leads_on kinds j ≡ false) × IsReplyCase (length kinds) replies j x out))
 
 -- that of packets to some channel

@@ -1,8 +1,11 @@
 //! The cases in which packets wait in a channel, and the channels by which they can leave it in each.
 
 ghost use Rattle.std.specs.Prelude.{◌≡◌, ◌+◌, ◌*◌, ◌<◌, ◌≤◌, ℕ, true, false, [], length, IfOk, OnOk};
+ghost use Rattle.std.specs.Prelude.{slice_get, Some};
+ghost use Rattle.std.specs.List.{count_by};
+ghost use Rattle.network_judge.specs.declared.table.Kind.TheVariants.{Ejection};
 ghost use Rattle.network_judge.specs.Replies.{AreReplies};
-ghost use Rattle.network_judge.specs.Table.{table_of, joins_of};
+ghost use Rattle.network_judge.specs.Table.{table_of, joins_of, ejects};
 ghost use Rattle.network_judge.specs.Marks.{is_marked_at};
 ghost use Rattle.network_adaptive.specs.Spread.{opens, leads_on};
 ghost use Rattle.network_adaptive.specs.Flags.{HasPut};
@@ -10,8 +13,8 @@ ghost use Rattle.dead_sets.specs.Cases.{AreCases, AddsCases, IsChoiceCase, IsRep
 ghost use Rattle.dead_sets.specs.Cases.{IsCaseTo, IsWaitCase};
 
 use network_adaptive::comes::comes_to;
-use network_adaptive::spread::goes_on;
-use network_judge::walk::cell;
+use network_adaptive::spread::{base_of, goes_on};
+use network_judge::walk::{cell, is_receiver, kind_at};
 use network_judge::{Join, Kind, Reply};
 use rising::Edge;
 use std::alloc::{AllocError, Allocator, Global};
@@ -130,7 +133,7 @@ fn reply_cases<A: Allocator>(
     Ok(())
 }
 
-/// Adds the cases in which packets to a channel wait.
+/// Adds the cases in which packets to an ejection channel wait.
 ///
 /// Errors: out of memory.
 fn cases_to<A: Allocator + Copy>(
@@ -144,9 +147,10 @@ fn cases_to<A: Allocator + Copy>(
     to: usize,
     cases: &mut Cases<A>,
 ) -> Result<(), AllocError>
-    requires room { length kinds.now * (length kinds.now * ways) ≤ length choices.now }
+    requires room { count_by ejects kinds.now * (length kinds.now * ways) ≤ length choices.now }
     requires none { length none.now ≡ length kinds.now }
-    requires to { to < length kinds.now }
+    requires to { slice_get kinds.now to ≡ Some Ejection }
+    requires low { to < length kinds.now }
     requires within { (i j : ℕ) → joins_of (table_of [] joins.now []) i j ≡ true
         → i < length kinds.now }
     requires cases { AreCases (length kinds.now) cases.old.at.items cases.old.ways_out.items }
@@ -157,7 +161,7 @@ fn cases_to<A: Allocator + Copy>(
         cases.old.at.items cases.old.ways_out.items
         cases.new.at.items cases.new.ways_out.items) }
 {
-    let base = to * (kinds.len() * ways);
+    let base = base_of(kinds, ways, to);
     let seen = comes_to(alloc, kinds, joins, choices, base, ways, none, to)?;
     choice_cases(kinds, choices, base, ways, &seen, cases)?;
     if !seen[to] {
@@ -182,10 +186,12 @@ pub fn cases_of<A: Allocator + Copy>(
     ways: usize,
     none: &[bool],
 ) -> Result<Cases<A>, AllocError>
-    requires room { length kinds.now * (length kinds.now * ways) ≤ length choices.now }
+    requires room { count_by ejects kinds.now * (length kinds.now * ways) ≤ length choices.now }
     requires none { length none.now ≡ length kinds.now }
     requires within { (i j : ℕ) → joins_of (table_of [] joins.now []) i j ≡ true
         → i < length kinds.now }
+    requires receivers { (i j : ℕ) → joins_of (table_of [] joins.now []) i j ≡ true
+        → slice_get kinds.now j ≡ Some Ejection }
     ensures within { IfOk result
         (λ cases. AreCases (length kinds.now) cases.at.items cases.ways_out.items) }
     ensures all { IfOk result (λ cases.
@@ -197,6 +203,9 @@ pub fn cases_of<A: Allocator + Copy>(
         ways_out: Vec::new(alloc),
     };
     for to in 0..kinds.len() {
+        if !is_receiver(kind_at(kinds, to)) {
+            continue;
+        }
         cases_to(
             alloc, kinds, joins, replies, choices, ways, none, to, &mut cases,
         )?;

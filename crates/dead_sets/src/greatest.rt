@@ -1,9 +1,11 @@
 //! The greatest dead set of a network whose routers choose, or numbers by which choices rise.
 
 ghost use Rattle.std.specs.Prelude.{◌≡◌, ◌≢◌, ◌-◌, ◌+◌, ◌*◌, ◌<◌, ◌≤◌, ℕ, true, [], length, slice_index};
-ghost use Rattle.std.specs.Prelude.{false, IfOk, MatchOption};
+ghost use Rattle.std.specs.Prelude.{false, IfOk, MatchOption, slice_get, Some};
+ghost use Rattle.std.specs.List.{count_by};
+ghost use Rattle.network_judge.specs.declared.table.Kind.TheVariants.{Ejection};
 ghost use Rattle.network_judge.specs.Replies.{AreReplies};
-ghost use Rattle.network_judge.specs.Table.{table_of, joins_of};
+ghost use Rattle.network_judge.specs.Table.{table_of, joins_of, ejects};
 ghost use Rattle.network_judge.specs.Marks.{is_marked_at};
 ghost use Rattle.network_adaptive.specs.Choosing.{choosing_of, table};
 ghost use Rattle.dead_sets.specs.Numbers.{AreNumbers, AreFlagsOfLeft};
@@ -107,9 +109,11 @@ pub fn greatest_dead_set<A: Allocator + Copy>(
     ways: usize,
     choices: &[u32],
 ) -> Result<DeadSet<A>, AllocError>
-    requires room { length kinds.now * (length kinds.now * ways) ≤ length choices.now }
+    requires room { count_by ejects kinds.now * (length kinds.now * ways) ≤ length choices.now }
     requires within { (i j : ℕ) → joins_of (table_of [] joins.now []) i j ≡ true
         → i < length kinds.now }
+    requires receivers { (i j : ℕ) → joins_of (table_of [] joins.now []) i j ≡ true
+        → slice_get kinds.now j ≡ Some Ejection }
     requires replies { AreReplies
         (table (choosing_of kinds.now joins.now ways choices.now [])) replies.now }
     ensures { IfOk result (IsDeadSetOf kinds.now joins.now replies.now ways choices.now) }

@@ -1,6 +1,7 @@
-use Rattle.std.proofs.Common.{◌≡◌, ◌+◌, [], length, subst, arith}
+use Rattle.std.proofs.Common.{◌≡◌, ◌+◌, ◌∙◌, [], length, sym, ap, subst, arith}
+use Rattle.network_judge.specs.Table.{is_receiver}
 use Rattle.dead_sets.specs.Cases.{AddsCases}
-use Rattle.dead_sets.proofs.Gathered.{CasesSo, cases_start, cases_more}
+use Rattle.dead_sets.proofs.Gathered.{CasesSo, cases_start, cases_more, cases_skip}
 use Rattle.dead_sets.proofs.cases.cases_of.Goals as goal
 
 pub loop-to-init : goal.loop-to-init
@@ -19,6 +20,16 @@ loop-to-preserved g c =
       added = cases_more a.kinds.now a.joins.now a.replies.now a.choices.now a.ways a.none.now l.to (l.to + 1) l.cases.at.items
           c.cases_to.new.cases.at.items l.cases.ways_out.items c.cases_to.new.cases.ways_out.items (omega arith) l.invariant.added
           c.in_ok-cases_to.ensures.added;
+    }
+
+pub loop-to-preserved-then-not-is_receiver : goal.loop-to-preserved-then-not-is_receiver
+loop-to-preserved-then-not-is_receiver g c =
+    let a = c.args in
+    let l = c.loop-to in
+    record {
+      within = l.invariant.within;
+      added = cases_skip a.kinds.now a.joins.now a.replies.now a.choices.now a.ways a.none.now c.requires.receivers l.to (l.to + 1) l.cases.at.items
+          l.cases.ways_out.items (omega arith) (ap is_receiver (sym c.kind_at.ensures) ∙ (sym c.is_receiver.ensures ∙ c.if-not-is_receiver.true)) l.invariant.added;
     }
 
 pub returns-clause-all : goal.returns-clause-all
