@@ -12,7 +12,7 @@ use Rattle.machine_core.proofs.ClockedRounds.{arbited_move}
 use Rattle.machine_core.proofs.Finishing.{few_left}
 use Rattle.machine_core.proofs.Orders.{oldest_is}
 use Rattle.machine_core.proofs.Rounds.{core_append}
-use Rattle.fair_rounds.specs.Guard.{Guarding, holds, watched}
+use Rattle.fair_rounds.specs.Guard.{Guarding, holds, guard_after}
 use Rattle.fair_rounds.specs.FairRounds.{FairMachine, fair_attempts, fair_next, fair_after, fair_steps}
 use Rattle.fair_rounds.proofs.GuardOut.{someone_out}
 use Rattle.fair_rounds.proofs.HeldMoves.{held_count}
@@ -60,7 +60,7 @@ module _ (l : Load) (m : FairMachine) (steps : List Step) (h : IsAfter l m.core 
         let some = round_counts now.guard now.core held (sym is_held) (record { load = l; steps = steps ++ fair_steps m k; after = stands }) busy in
         omega (arith, some, moves)
 
-    pub has_more : next.core ≡ core_after now.core (guarded_round oldest held now.core) → next.guard ≡ watched now.guard now.core → HasMade m next (k + 1)
+    pub has_more : next.core ≡ core_after now.core (guarded_round oldest held now.core) → next.guard ≡ guard_after now.guard now.core → HasMade m next (k + 1)
     has_more core_is guard_is =
         let e : suc k ≡ k + 1 = omega arith in
         let is : next ≡ fair_next now =

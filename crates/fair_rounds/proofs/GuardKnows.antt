@@ -11,7 +11,7 @@ use Rattle.one_order.specs.Observed.{list_at, IsFirst}
 use Rattle.core_laws.specs.Machine.{Core}
 use Rattle.machine_core.specs.Oldest.{oldest}
 use Rattle.machine_core.proofs.Orders.{oldest_is}
-use Rattle.fair_rounds.specs.Guard.{Guarding, guard_of, counted, issue_count, tag_holder, since_of, with_first, row_seen, seen, least_of, oldest_in, holds, watched}
+use Rattle.fair_rounds.specs.Guard.{Guarding, guard_of, counted, issue_count, tag_holder, since_of, with_first, row_seen, seen, least_of, oldest_in, holds, guard_after}
 use Rattle.fair_rounds.specs.Hosts.{IsOut, WaitsLonger, AreSuccessive, SeesMachines}
 use Rattle.fair_rounds.proofs.Firsts.{same_length, changed_at}
 use Rattle.fair_rounds.proofs.GuardOut.{holder_out, get_held, tag_low}
@@ -176,7 +176,7 @@ module _ (most : ℕ) (c : ℕ → Core) (g : ℕ → Guarding) (turn : AreSucce
     -- and it knows as much before the next
     pub knows_more : suc k < 2 ^ 64 → Knows (suc k)
     knows_more low =
-        let e : g (suc k) ≡ watched (g k) (c k) = given.next k in
+        let e : g (suc k) ≡ guard_after (g k) (c k) = given.next k in
         record {
           rounds = ap (λ (x : Guarding). x.rounds) e ∙ (ap counted known.rounds ∙ counted_is k (2 ^ 64) low);
           most_is = ap (λ (x : Guarding). x.most) e ∙ known.most_is;

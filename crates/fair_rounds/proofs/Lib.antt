@@ -34,6 +34,7 @@ mod GuardOut
 pub mod InTurn
 mod LeastOut
 mod GuardKnows
-mod GuardedRuns
+pub mod GuardedRuns
 mod FairFinish
 mod Examples
+pub mod Paced

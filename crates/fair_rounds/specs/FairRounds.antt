@@ -4,7 +4,7 @@ use Rattle.torus.specs.declared.step.Step.{Step}
 use Rattle.machine_parts.specs.Machine.{Core, core_after, all_finished}
 use Rattle.machine_core.specs.Oldest.{oldest}
 use Rattle.machine_core.specs.Guarded.{guarded_round}
-use Rattle.fair_rounds.specs.Guard.{Guarding, holds, watched}
+use Rattle.fair_rounds.specs.Guard.{Guarding, holds, guard_after}
 
 -- a machine, and the guard of its fair rounds
 pub record FairMachine : Type 0 where
@@ -18,7 +18,7 @@ fair_attempts m = guarded_round oldest (holds m.guard m.core) m.core
 abbrev pub fair_next : FairMachine → FairMachine
 fair_next m = record {
   core = core_after m.core (fair_attempts m);
-  guard = watched m.guard m.core;
+  guard = guard_after m.guard m.core;
 }
 
 -- the machine behind so many fair rounds, and the attempts of these, one after the other

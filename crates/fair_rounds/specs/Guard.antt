@@ -104,8 +104,8 @@ abbrev pub holds : Guarding → Core → Bool
 holds g c = nat_lt g.most (g.rounds - oldest_in g c)
 
 -- the guard once it is given a machine
-abbrev pub watched : Guarding → Core → Guarding
-watched g c = record {
+abbrev pub guard_after : Guarding → Core → Guarding
+guard_after g c = record {
   most = g.most;
   rounds = counted g.rounds;
   held = if holds g c then counted g.held else g.held;

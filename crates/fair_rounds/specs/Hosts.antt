@@ -11,7 +11,7 @@ use Rattle.machine_parts.specs.Handed.{handed, refused, BringsWords}
 use Rattle.machine_core.specs.Arbiters.{Arbiter}
 use Rattle.machine_core.specs.Oldest.{oldest}
 use Rattle.machine_core.specs.Guarded.{guarded_round}
-use Rattle.fair_rounds.specs.Guard.{Guarding, guard_of, holds, watched}
+use Rattle.fair_rounds.specs.Guard.{Guarding, guard_of, holds, guard_after}
 
 -- processor p's operation i is out: issued and not answered
 pub record IsOut (c : Core) (p i : ℕ) : Type 0 where
@@ -61,7 +61,7 @@ pub record AreSuccessive (c : ℕ → Core) : Type 0 where
 -- a guard of so many rounds that is given machines, one after the other
 pub record SeesMachines (most : ℕ) (c : ℕ → Core) (g : ℕ → Guarding) : Type 0 where
   pub first : g 0 ≡ guard_of most
-  pub next : (k : ℕ) → g (suc k) ≡ watched (g k) (c k)
+  pub next : (k : ℕ) → g (suc k) ≡ guard_after (g k) (c k)
 
 -- The machine at the beginning of each round of hosts that go on for ever, where the rounds are made by
 -- Guard::round: before a round any lines are handed to any processors; the guard is given the machine then.

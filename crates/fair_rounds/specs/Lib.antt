@@ -6,3 +6,5 @@ pub mod Guard
 pub mod FairRounds
 pub mod Hosts
 pub mod NetRuns
+pub mod Paces
+pub mod Fewest

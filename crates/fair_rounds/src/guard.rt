@@ -8,7 +8,7 @@ ghost use Rattle.machine_parts.specs.Rounds.{moves_in};
 ghost use Rattle.machine_parts.specs.Machine.{RunsOn, MakesMove, core_after, built_to, all_finished};
 ghost use Rattle.machine_core.specs.Oldest.{oldest};
 ghost use Rattle.machine_core.specs.Guarded.{guarded_round};
-ghost use Rattle.fair_rounds.specs.Guard.{guard_of, usual_guard, holds, watched, seen, counted};
+ghost use Rattle.fair_rounds.specs.Guard.{guard_of, usual_guard, holds, guard_after, seen, counted};
 ghost use Rattle.fair_rounds.specs.Guard.{issue_count, tag_holder, since_of, with_first, row_since};
 ghost use Rattle.fair_rounds.specs.FairRounds.{fair_after, fair_steps, NeedsFair};
 ghost use Rattle.fair_rounds.specs.Guard.{least_of, least_of_tags, least_if_out};
@@ -76,7 +76,7 @@ impl Guard {
     /// script isn't finished, the round makes a move.
     pub fn round<A: Allocator>(&mut self, machine: &mut Machine<A>) -> bool
         ensures held { result ≡ holds self.old machine.old }
-        ensures guard { self.new ≡ watched self.old machine.old }
+        ensures guard { self.new ≡ guard_after self.old machine.old }
         ensures state { machine.new
             ≡ core_after machine.old (guarded_round oldest result machine.old) }
         ensures moves { machine.new.moves_left
@@ -115,7 +115,7 @@ impl Guard {
     /// Sees the machine with which a fair round begins, and answers whether operations are held back in it.
     pub fn watch<A: Allocator>(&mut self, machine: &Machine<A>) -> bool
         ensures held { result ≡ holds self.old machine.now }
-        ensures guard { self.new ≡ watched self.old machine.now }
+        ensures guard { self.new ≡ guard_after self.old machine.now }
     {
         self.see(machine);
         let oldest = self.oldest_seen(machine);

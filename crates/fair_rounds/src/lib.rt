@@ -4,5 +4,7 @@
 
 pub mod guard;
 pub mod laws;
+pub mod pacing;
 
 pub use guard::Guard;
+pub use pacing::{Pace, Pacer};
