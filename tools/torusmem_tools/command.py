@@ -11,6 +11,7 @@ from __future__ import annotations
 import argparse
 import mmap
 import functools
+import itertools
 import os
 import shutil
 import signal
@@ -258,6 +259,11 @@ def explained(path: str, *words: str) -> list[str]:
         raise Refusal(f"cannot run {program}: {fault.strerror or fault}") from None
     lines = asked.stderr.decode("utf-8", "replace").split("\n")
     return [it[len(path) + 1 :] for it in lines if it.startswith(f"{path}:")]
+
+
+def explained_answer(path: str, *words: str) -> list[str]:
+    """Why the trace of a text has no order: the line on its first bad answer, and one for each operation that is open there."""
+    return list(itertools.takewhile(lambda it: it[:1].isdigit(), explained(path, "linearize", *words)))
 
 
 def last_line(lines: Iterable[bytes]) -> str:
