@@ -1,6 +1,6 @@
 -- Sets of configurations that grow, and what states say of them, place by place.
-use Rattle.std.proofs.Common.{◌≡◌, ◌⊎◌, inl, inr, ⊎_elim, ℕ, zero, suc, ◌<◌, List, [], ◌∷◌, ◌++◌, length, Some, refl, sym, ◌∙◌, ap, subst}
-use Rattle.std.proofs.Common.{arith, slice_get, append-nil, append_assoc}
+use Rattle.std.proofs.Common.{◌≡◌, ◌⊎◌, inl, inr, ⊎_elim, ℕ, zero, suc, ◌+◌, ◌<◌, ◌≤◌, List, [], ◌∷◌, ◌++◌, length, Some, refl, sym, ◌∙◌, ap, subst}
+use Rattle.std.proofs.Common.{arith, slice_get, append-nil, append_assoc, take}
 use Rattle.trace_laws.proofs.Lists.{get_push_cases, get_append_left, get_push}
 use Rattle.trace_laws.specs.Configs.{IsIn, GoesOn}
 use Rattle.trace_watch.specs.declared.state.State.{State}
@@ -82,3 +82,38 @@ long_configs (r ∷ states) = ap suc (long_configs states)
 
 pub low_config : {A : Type 0} (states : List (State A)) (at : ℕ) → at < length states → at < length (configs_of states)
 low_config states at low = let e = long_configs states in omega arith
+
+-- copies of the first i states
+pub copies_none : {A B : Type 0} (copies : List (State A)) (states : List (State B)) → copies ≡ []
+    → configs_of copies ≡ take 0 (configs_of states)
+copies_none {A} {B} copies states none = ap (λ (ss : List (State A)). configs_of ss) none
+
+take_one_more : (i : ℕ) (cs : List Config) (c : Config) → slice_get cs i ≡ Some c → take (i + 1) cs ≡ take i cs ++ c ∷ []
+take_one_more i [] c h = cc
+take_one_more zero (d ∷ cs) c h = let e : d ≡ c = cc in ap (λ (x : Config). x ∷ []) e
+take_one_more (suc i) (d ∷ cs) c h =
+    ap (λ (n : ℕ). take n (d ∷ cs)) one ∙ ap (λ (xs : List Config). d ∷ xs) (take_one_more i cs c h)
+  where
+    one : suc i + 1 ≡ suc (i + 1)
+    one = omega arith
+
+pub copies_more : {A B : Type 0} (copies more : List (State A)) (copy : State A) (states : List (State B)) (i : ℕ) (s : State B)
+    → slice_get states i ≡ Some s → config_of copy ≡ config_of s → more ≡ copies ++ copy ∷ []
+    → configs_of copies ≡ take i (configs_of states) → configs_of more ≡ take (i + 1) (configs_of states)
+copies_more {A} {B} copies more copy states i s there same pushed was =
+    ap (λ (ss : List (State A)). configs_of ss) pushed
+    ∙ (configs_push copies copy
+    ∙ (ap (λ (cs : List Config). cs ++ config_of copy ∷ []) was
+    ∙ (ap (λ (c : Config). take i (configs_of states) ++ c ∷ []) same
+    ∙ sym (take_one_more i (configs_of states) (config_of s) (get_config states i s there)))))
+
+take_whole : (n : ℕ) (cs : List Config) → length cs ≤ n → take n cs ≡ cs
+take_whole zero [] l = refl
+take_whole zero (c ∷ cs) l = absurd (omega arith)
+take_whole (suc n) [] l = refl
+take_whole (suc n) (c ∷ cs) l = ap (λ (xs : List Config). c ∷ xs) (take_whole n cs (omega arith))
+
+pub copies_all : {A B : Type 0} (copies : List (State A)) (states : List (State B)) (i : ℕ) → length states ≤ i
+    → configs_of copies ≡ take i (configs_of states) → configs_of copies ≡ configs_of states
+copies_all copies states i all was =
+    was ∙ take_whole i (configs_of states) (let e = long_configs states in omega arith)

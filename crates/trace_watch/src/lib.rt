@@ -3,6 +3,7 @@
 //! open operations that ask the same are counted, and not named.
 #![tactic(auto)]
 
+mod arena;
 mod closing;
 mod glimpses;
 pub mod index;
