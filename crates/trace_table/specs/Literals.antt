@@ -1,0 +1,71 @@
+-- Whole numbers as programs, chips and data frames write them: in decimal, hexadecimal or binary,
+-- with `_` between digits (PEP 515, Underscores in Numeric Literals), a `+` in front or a fraction
+-- of zeros behind.
+use Rattle.std.specs.Prelude.{ℕ, ◌^◌, ◌==◌, ◌&&◌, ◌||◌, not, nat_lt, Bool, true, false, List, [], ◌∷◌}
+use Rattle.std.specs.Prelude.{Option, Some, None, decimal, drop, min, position, take}
+use Rattle.std.specs.Prelude.{if◌then◌else◌}
+use Rattle.std.specs.Char.{digit_value}
+use Rattle.std.specs.List.{filter, list_all}
+use Rattle.std.specs.Str.Parse.{digits_value, without_leading_plus}
+
+-- digits of a radix, each `_` between two of them; they may go on behind a digit, and end there
+abbrev pub are_grouped : ℕ → Bool → List ℕ → Bool
+are_grouped radix is_behind [] = is_behind
+are_grouped radix is_behind (c ∷ cs) =
+    if c == 95 then is_behind && are_grouped radix false cs
+    else nat_lt (digit_value c) radix && are_grouped radix true cs
+
+-- the digits without the `_` between them
+abbrev pub ungrouped : List ℕ → List ℕ
+ungrouped word = filter (λ c. not (c == 95)) word
+
+-- the number that digits of a radix spell; from 2^64 on they count as one
+unfoldable pub grouped_number : ℕ → List ℕ → Option ℕ
+grouped_number radix word =
+    if are_grouped radix false word then Some (min (digits_value radix (ungrouped word)) (2 ^ 64))
+    else None
+
+-- a point, and one zero or more
+abbrev pub is_zero_fraction : List ℕ → Bool
+is_zero_fraction [] = false
+is_zero_fraction (point ∷ []) = false
+is_zero_fraction (point ∷ c ∷ cs) = c == 48 && list_all (λ d. d == 48) cs
+
+-- what stands before a fraction of zeros at this place
+abbrev pub whole_before : List ℕ → Option ℕ → List ℕ
+whole_before word None = word
+whole_before word (Some place) =
+    if is_zero_fraction (drop place word) then take place word else word
+
+-- a word without a fraction of zeros
+unfoldable pub whole_part : List ℕ → List ℕ
+whole_part word = whole_before word (position (λ c. c == 46) word)
+
+-- the radix that a letter behind a zero names: 16 by `x`, 2 by `b`
+abbrev pub radix_named : ℕ → ℕ
+radix_named c = if c == 120 || c == 88 then 16 else if c == 98 || c == 66 then 2 else 10
+
+-- the radix of a word
+abbrev pub spelled_radix : List ℕ → ℕ
+spelled_radix [] = 10
+spelled_radix (first ∷ []) = 10
+spelled_radix (first ∷ c ∷ cs) = if first == 48 then radix_named c else 10
+
+-- the number of a word without a sign
+abbrev pub unsigned_number : List ℕ → Option ℕ
+unsigned_number word =
+    if spelled_radix word == 10 then grouped_number 10 (whole_part word)
+    else grouped_number (spelled_radix word) (drop 2 word)
+
+-- the number that a word of a table spells; from 2^64 on they count as one
+unfoldable pub literal : List ℕ → Option ℕ
+literal word = unsigned_number (without_leading_plus word)
+
+-- the decimal digits of a number, or the word
+abbrev pub digits_or : List ℕ → Option ℕ → List ℕ
+digits_or word None = word
+digits_or word (Some n) = decimal n
+
+-- a word of a table as a trace text has it: a number in decimal
+abbrev pub plain_word : List ℕ → List ℕ
+plain_word word = digits_or word (literal word)
