@@ -30,7 +30,7 @@ NETWORK_REASONS = {
     4: "a line is not understood",
     5: "the number of channels is missing, or something is given twice or too late",
     6: "a number is out of its range, or its channel not of the kind that belongs there",
-    9: "channels times ejection channels are more than 134217728, or more than 1048576 pairs",
+    9: "channels times ejection channels are more than 134217728, or more than 4194304 pairs",
 }
 
 # What they say of an event of a trace.
