@@ -167,9 +167,6 @@ fn cases_to<A: Allocator + Copy>(
     if !seen[to] {
         return Ok(());
     }
-    if goes_on(kinds, to) {
-        return Ok(());
-    }
     reply_cases(kinds.len(), replies, to, cases)?;
     Ok(())
 }
