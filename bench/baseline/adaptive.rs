@@ -5,14 +5,14 @@
 //!     adaptive FILE ROUNDS     prints a line `NAME NANOSECONDS` for each time, and what was found as numbers
 use std::env;
 use std::fs;
-use std::process::exit;
 use std::time::Instant;
 
 #[allow(dead_code)]
 #[path = "networks.rs"]
 mod networks;
 
-use networks::{Fault, Kind, Network, Pair, first_words, index, next_line, nothing};
+use networks::rising::find;
+use networks::{Fault, Kind, Network, Pair, first_words, index, next_line, nothing, refused, sum_of};
 
 // Reading.
 
@@ -237,47 +237,6 @@ impl Lists {
     }
 }
 
-#[derive(Clone, Copy, PartialEq, Eq)]
-enum Mark {
-    New,
-    Open(usize),
-    Done(usize),
-}
-
-/// Numbers that rise along each edge, or a cycle. `next` gives the first edge from a place on, and the place behind
-/// all where there is none; `end` where it leads.
-fn find(nodes: usize, columns: usize, next: impl Fn(usize, usize) -> usize, end: impl Fn(usize, usize) -> usize) -> Result<Vec<usize>, Vec<usize>> {
-    let mut marks = vec![Mark::New; nodes];
-    let mut finished = 0;
-    for start in 0..nodes {
-        if marks[start] != Mark::New {
-            continue;
-        }
-        let mut path = vec![(start, next(start, 0))];
-        marks[start] = Mark::Open(0);
-        while let Some(&(node, column)) = path.last() {
-            let last = path.len() - 1;
-            if column == columns {
-                marks[node] = Mark::Done(finished);
-                finished += 1;
-                path.truncate(last);
-                continue;
-            }
-            let to = end(node, column);
-            match marks[to] {
-                Mark::New => {
-                    marks[to] = Mark::Open(path.len());
-                    path.push((to, next(to, 0)));
-                }
-                Mark::Open(place) => return Err(path[place..].iter().map(|it| it.0).collect()),
-                Mark::Done(_) => path[last] = (node, next(node, column + 1)),
-            }
-        }
-    }
-    let height = |mark: &Mark| if let Mark::Done(height) = mark { *height } else { 0 };
-    Ok(marks.iter().map(|mark| nodes - 1 - height(mark)).collect())
-}
-
 /// How far packets can go.
 enum Travel {
     Bounded(usize),
@@ -293,8 +252,8 @@ fn travel(net: &Lists, none: &[bool]) -> Travel {
         let choice = |x: usize, k: usize| net.choices[(to * count + x) * net.ways + k] as usize;
         let takes = |x: usize, k: usize| seen[x] && net.kinds[x] != Kind::Ejection && choice(x, k) < count;
         let next = |x: usize, k: usize| (k..net.ways).find(|k| takes(x, *k)).unwrap_or(net.ways);
-        match find(count, net.ways, next, choice) {
-            Err(around) => return Travel::Round(to, around[0]),
+        match find(count, net.ways, |x| next(x, 0), |x, k| next(x, k + 1), choice) {
+            Err(around) => return Travel::Round(to, around[0].0),
             Ok(numbers) => {
                 let mut order = vec![count; count];
                 for (x, number) in numbers.iter().enumerate() {
@@ -328,15 +287,15 @@ fn judge(net: &Lists) -> Verdict {
     let leads = |x: usize, k: usize| if k < count { edges[x * count + k] } else { net.replies[k - count].from == x };
     let next = |x: usize, k: usize| (k..all).find(|k| leads(x, *k)).unwrap_or(all);
     let end = |_: usize, k: usize| if k < count { k } else { net.replies[k - count].to };
-    match find(count, all, next, end) {
-        Err(around) => Verdict::Cycle(around),
+    match find(count, all, |x| next(x, 0), |x, k| next(x, k + 1), end) {
+        Err(around) => Verdict::Cycle(around.iter().map(|it| it.0).collect()),
         Ok(numbers) => Verdict::Rising(numbers, travel(net, &none)),
     }
 }
 
 /// A verdict as a kind and a sum over what it names.
 fn sums(verdict: &Verdict) -> (u64, u64) {
-    let sum = |found: &[usize]| found.iter().enumerate().map(|(k, it)| (k as u64 + 1).wrapping_mul(*it as u64)).fold(0, u64::wrapping_add);
+    let sum = |found: &[usize]| sum_of(found.iter().copied());
     match verdict {
         Verdict::Rising(numbers, Travel::Bounded(most)) => (0, sum(numbers).wrapping_add(*most as u64)),
         Verdict::Rising(numbers, Travel::Round(..)) => (1, sum(numbers)),
@@ -363,11 +322,6 @@ fn tell(verdict: &Verdict) {
         Verdict::NoRoute(pair) => println!("no route {} {}", pair.from, pair.to),
         Verdict::NoChoice(x, to, y) => println!("no choice {x} {to} {y}"),
     }
-}
-
-fn refused(fault: (Fault, u64)) -> ! {
-    eprintln!("fault {} at line {}", fault.0, fault.1);
-    exit(1)
 }
 
 fn main() {

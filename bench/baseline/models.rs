@@ -1,5 +1,7 @@
 //! Which memory models a log obeys, in plain Rust by the passes of `torusmem model`: `models LOG`. It reads the log text,
 //! checks its replies, judges it by five models, and prints a line for each; on standard error the milliseconds of each part.
+mod rising;
+
 use std::collections::HashMap;
 use std::time::Instant;
 
@@ -252,46 +254,14 @@ fn word_arcs(operations: &[Operation], writes: &[usize], edges: &mut Vec<Edge>) 
     }
 }
 
-#[derive(Clone, Copy, PartialEq)]
-enum Mark {
-    New,
-    Open(usize),
-    Done(usize),
-}
-
-/// Numbers that rise along each edge, or the nodes of a cycle.
-fn rise(nodes: usize, edges: &[Edge]) -> Result<Vec<usize>, Vec<usize>> {
+/// Whether there are numbers that rise along each edge.
+fn rises(nodes: usize, edges: &[Edge]) -> bool {
     let (mut heads, mut nexts) = (vec![edges.len(); nodes], vec![edges.len(); edges.len()]);
     for (k, edge) in edges.iter().enumerate() {
         nexts[k] = heads[edge.from];
         heads[edge.from] = k;
     }
-    let (mut marks, mut finished) = (vec![Mark::New; nodes], 0);
-    for start in 0..nodes {
-        if marks[start] != Mark::New {
-            continue;
-        }
-        marks[start] = Mark::Open(0);
-        let mut path = vec![(start, heads[start])];
-        while let Some(&(node, column)) = path.last() {
-            if column == edges.len() {
-                marks[node] = Mark::Done(finished);
-                finished += 1;
-                path.pop();
-                continue;
-            }
-            let next = edges[column].to;
-            match marks[next] {
-                Mark::New => {
-                    marks[next] = Mark::Open(path.len());
-                    path.push((next, heads[next]));
-                }
-                Mark::Open(place) => return Err(path[place..].iter().map(|it| it.0).collect()),
-                Mark::Done(_) => path.last_mut().expect("a path").1 = nexts[column],
-            }
-        }
-    }
-    Ok(marks.iter().map(|it| if let Mark::Done(height) = it { nodes - 1 - height } else { 0 }).collect())
+    rising::find(nodes, edges.len(), |node| heads[node], |_, edge| nexts[edge], |_, edge| edges[edge].to).is_ok()
 }
 
 fn judge(rules: &[Rule], operations: &[Operation], writes: &[usize], words: usize) -> bool {
@@ -306,7 +276,7 @@ fn judge(rules: &[Rule], operations: &[Operation], writes: &[usize], words: usiz
     rule_arcs(WRITES, operations, words, &mut edges);
     stale_arcs(operations, words, &mut edges);
     word_arcs(operations, writes, &mut edges);
-    rise(operations.len(), &edges).is_ok()
+    rises(operations.len(), &edges)
 }
 
 fn main() {

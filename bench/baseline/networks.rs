@@ -3,6 +3,9 @@
 //!
 //!     networks FILE            prints the text of the verdict, as `torusmem network FILE` does
 //!     networks FILE ROUNDS     prints a line `NAME NANOSECONDS` for each time, and what was found as numbers
+pub mod rising;
+
+use rising::find;
 use std::env;
 use std::fs;
 use std::process::exit;
@@ -287,69 +290,6 @@ fn trace(net: &Network, columns: &[usize], width: usize, used: &mut [bool], pair
     Err(Why::Round)
 }
 
-#[derive(Clone, Copy, PartialEq, Eq)]
-enum Mark {
-    New,
-    Open(usize),
-    Done(usize),
-}
-
-struct Search<'a> {
-    net: &'a Network,
-    width: usize,
-    used: &'a [bool],
-    marks: Vec<Mark>,
-    finished: usize,
-}
-
-impl Search<'_> {
-    fn leads(&self, x: usize, column: usize) -> bool {
-        if column < self.width {
-            self.used[x * self.width + column]
-        } else {
-            self.net.replies[column - self.width].from == x
-        }
-    }
-
-    fn after(&self, x: usize, column: usize) -> usize {
-        if column < self.width {
-            self.net.choices[x * self.width + column] as usize
-        } else {
-            self.net.replies[column - self.width].to
-        }
-    }
-
-    /// Searches in depth from a channel: channels that lead around, each over its column, or none.
-    fn visit(&mut self, start: usize) -> Option<Vec<(usize, usize)>> {
-        let all = self.width + self.net.replies.len();
-        let mut path = vec![(start, 0)];
-        self.marks[start] = Mark::Open(0);
-        while let Some(&(channel, column)) = path.last() {
-            let last = path.len() - 1;
-            if column == all {
-                self.marks[channel] = Mark::Done(self.finished);
-                self.finished += 1;
-                path.truncate(last);
-                continue;
-            }
-            if !self.leads(channel, column) {
-                path[last] = (channel, column + 1);
-                continue;
-            }
-            let next = self.after(channel, column);
-            match self.marks[next] {
-                Mark::New => {
-                    self.marks[next] = Mark::Open(path.len());
-                    path.push((next, 0));
-                }
-                Mark::Open(place) => return Some(path[place..].to_vec()),
-                Mark::Done(_) => path[last] = (channel, column + 1),
-            }
-        }
-        None
-    }
-}
-
 fn judge(net: &Network) -> Verdict {
     let columns = columns_of(&net.kinds);
     let ends: Vec<usize> = (0..net.kinds.len()).filter(|x| net.kinds[*x] == Kind::Ejection).collect();
@@ -360,19 +300,15 @@ fn judge(net: &Network) -> Verdict {
             return Verdict::NoRoute(*pair, why);
         }
     }
-    let marks = vec![Mark::New; net.kinds.len()];
-    let mut search = Search { net, width, used: &used, marks, finished: 0 };
-    for start in 0..net.kinds.len() {
-        if search.marks[start] != Mark::New {
-            continue;
-        }
-        if let Some(looks) = search.visit(start) {
-            let by = |column: usize| if column < width { By::To(ends[column]) } else { By::Replied };
-            return Verdict::Cycle(looks.iter().map(|look| (look.0, by(look.1))).collect());
-        }
+    let all = width + net.replies.len();
+    let leads = |x: usize, k: usize| if k < width { used[x * width + k] } else { net.replies[k - width].from == x };
+    let from = |x: usize, k: usize| (k..all).find(|k| leads(x, *k)).unwrap_or(all);
+    let to = |x: usize, k: usize| if k < width { net.choices[x * width + k] as usize } else { net.replies[k - width].to };
+    let by = |k: usize| if k < width { By::To(ends[k]) } else { By::Replied };
+    match find(net.kinds.len(), all, |x| from(x, 0), |x, k| from(x, k + 1), to) {
+        Err(around) => Verdict::Cycle(around.iter().map(|&(x, k)| (x, by(k))).collect()),
+        Ok(numbers) => Verdict::Rising(numbers),
     }
-    let height = |mark: &Mark| if let Mark::Done(height) = mark { *height } else { 0 };
-    Verdict::Rising(search.marks.iter().map(|mark| net.kinds.len() - 1 - height(mark)).collect())
 }
 
 // Telling.
@@ -413,19 +349,21 @@ fn verdict_text(verdict: &Verdict) -> String {
     text
 }
 
+/// A number that tells rows of numbers apart.
+pub fn sum_of(row: impl Iterator<Item = usize>) -> u64 {
+    row.zip(1..).map(|(it, place): (usize, u64)| place.wrapping_mul(it as u64)).fold(0, u64::wrapping_add)
+}
+
 /// A verdict as a kind and a sum over what it names.
 fn sums(verdict: &Verdict) -> (u64, u64) {
-    let sum = |found: &mut dyn Iterator<Item = usize>| {
-        found.enumerate().map(|(k, it)| (k as u64 + 1).wrapping_mul(it as u64)).fold(0, u64::wrapping_add)
-    };
     match verdict {
-        Verdict::Rising(numbers) => (0, sum(&mut numbers.iter().copied())),
+        Verdict::Rising(numbers) => (0, sum_of(numbers.iter().copied())),
         Verdict::NoRoute(pair, _) => (1, pair.from as u64 * 65536 + pair.to as u64),
-        Verdict::Cycle(links) => (2, sum(&mut links.iter().map(|link| link.0))),
+        Verdict::Cycle(links) => (2, sum_of(links.iter().map(|link| link.0))),
     }
 }
 
-fn refused(fault: (Fault, u64)) -> ! {
+pub fn refused(fault: (Fault, u64)) -> ! {
     eprintln!("fault {} at line {}", fault.0, fault.1);
     exit(1)
 }

@@ -5,29 +5,13 @@
 //!
 //! prints a line `NAME NANOSECONDS` for each time. REPORT is a good report, SCRIPT a script of 64
 //! processors and 65,536 words.
+#[allow(dead_code)]
+mod packets;
+
+use packets::{Op, Reply};
 use std::env;
 use std::fs;
 use std::time::Instant;
-
-#[derive(Clone, Copy, PartialEq, Eq)]
-enum Op {
-    Load,
-    Store(u64),
-    Swap(u64),
-    Cas(u64, u64),
-    Add(u64),
-    And(u64),
-    Or(u64),
-    Xor(u64),
-    Max(u64),
-    Min(u64),
-}
-
-#[derive(Clone, Copy, PartialEq, Eq)]
-enum Reply {
-    Ok,
-    Old(u64),
-}
 
 #[derive(Clone, Copy)]
 struct EntryLine {
@@ -71,26 +55,8 @@ enum ReportLine {
     End(bool),
 }
 
-impl Op {
-    fn is_newer(self) -> bool {
-        matches!(self, Op::And(_) | Op::Or(_) | Op::Xor(_) | Op::Max(_) | Op::Min(_))
-    }
-
-    fn apply(self, word: u64) -> (u64, Reply) {
-        let old = Reply::Old(word);
-        match self {
-            Op::Load => (word, old),
-            Op::Store(value) => (value, Reply::Ok),
-            Op::Swap(value) => (value, old),
-            Op::Cas(expected, new) => (if word == expected { new } else { word }, old),
-            Op::Add(value) => (word.wrapping_add(value), old),
-            Op::And(value) => (word & value, old),
-            Op::Or(value) => (word | value, old),
-            Op::Xor(value) => (word ^ value, old),
-            Op::Max(value) => (word.max(value), old),
-            Op::Min(value) => (word.min(value), old),
-        }
-    }
+fn is_newer(op: Op) -> bool {
+    matches!(op, Op::And(_) | Op::Or(_) | Op::Xor(_) | Op::Max(_) | Op::Min(_))
 }
 
 // Writing.
@@ -472,19 +438,19 @@ impl Checker {
         if !is_next || self.words <= entry.address || entry.address % self.tiles != entry.bank {
             return false;
         }
-        if entry.op.is_newer() && self.version != 2 {
+        if is_newer(entry.op) && self.version != 2 {
             return false;
         }
-        let (word, reply) = entry.op.apply(self.memory[entry.address as usize]);
-        if reply != entry.reply {
+        let before = self.memory[entry.address as usize];
+        if entry.op.reply(before) != entry.reply {
             return false;
         }
-        self.banks[entry.bank as usize].push(Served { source: entry.source, reply, answered: false });
-        self.memory[entry.address as usize] = word;
+        self.banks[entry.bank as usize].push(Served { source: entry.source, reply: entry.reply, answered: false });
+        self.memory[entry.address as usize] = entry.op.apply(before);
         self.section = 4;
         self.last_bank = entry.bank;
         self.entry_count += 1;
-        self.has_newer |= entry.op.is_newer();
+        self.has_newer |= is_newer(entry.op);
         true
     }
 

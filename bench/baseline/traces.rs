@@ -4,25 +4,14 @@
 //!
 //! makes the trace of `bench/traces.rattle`, judges it ROUNDS times, and prints a line `NAME NANOSECONDS` for each
 //! time and what was found as numbers.
+#[allow(dead_code)]
+mod packets;
+
+use packets::{Op, Reply};
 use std::collections::HashSet;
 use std::env;
 use std::process::exit;
 use std::time::Instant;
-
-#[derive(Clone, Copy, PartialEq, Eq)]
-enum Op {
-    Load,
-    Store(u64),
-    Swap(u64),
-    Cas(u64, u64),
-    Add(u64),
-}
-
-#[derive(Clone, Copy, PartialEq, Eq)]
-enum Reply {
-    Ok,
-    Old(u64),
-}
 
 #[derive(Clone, Copy)]
 struct Call {
@@ -38,13 +27,7 @@ enum Event {
 }
 
 fn apply(op: Op, word: u64) -> (u64, Reply) {
-    match op {
-        Op::Load => (word, Reply::Old(word)),
-        Op::Store(value) => (value, Reply::Ok),
-        Op::Swap(value) => (value, Reply::Old(word)),
-        Op::Cas(expected, new) => (if word == expected { new } else { word }, Reply::Old(word)),
-        Op::Add(value) => (word.wrapping_add(value), Reply::Old(word)),
-    }
+    (op.apply(word), op.reply(word))
 }
 
 // The trace.
