@@ -20,6 +20,11 @@ USED = 17408
 OPENING = 9800
 SEED = 14
 MASK = (1 << 64) - 1
+# Two more machines of as many tiles: one whose first processor loads the farthest word, and that of the dense load.
+DENSE_WORDS = 4096
+SPARSE_MACHINE = "radix 8\ndims 2\ndepth 1\ntags 1\nwords 64\ninit 36 5\n"
+SPARSE_LINE = "0 load 36\n"
+DENSE_MACHINE = f"radix 8\ndims 2\ndepth 4\ntags 8\nwords {DENSE_WORDS}\n"
 # How often each operation is asked for, in 20.
 KINDS = ["load"] * 8 + ["store", "swap", "cas", "cas", "add", "add", "and", "or", "xor", "xor", "max", "min"]
 
@@ -87,12 +92,15 @@ def cas_lines(numbers):
         yield f"{at % TILES} cas {numbers.below(WORDS)} {numbers.next()} {numbers.next()}"
 
 
-def dense_line(processor, at, each, words):
-    """A line of the dense load, as baseline/dense.rs has it: operation `at` of so many of a processor, on so many words."""
-    mixed = (processor * each + at) * 2654435761 % 2**32
-    kind = ("load", "store", "add", "swap", "cas")[mixed // 1048576 % 5]
-    values = {"load": [], "cas": [0, mixed]}.get(kind, [mixed])
-    return " ".join(map(str, [processor, kind, mixed // 256 % words, *values])) + "\n"
+def dense_script(each):
+    """The script of the dense load, as baseline/dense.rs has it, of so many operations of each processor."""
+    lines = []
+    for at in range(TILES * each):
+        mixed = at * 2654435761 % 2**32
+        kind = ("load", "store", "add", "swap", "cas")[mixed // 1048576 % 5]
+        values = {"load": [], "cas": [0, mixed]}.get(kind, [mixed])
+        lines.append(" ".join(map(str, [at // each, kind, mixed // 256 % DENSE_WORDS, *values])) + "\n")
+    return "".join(lines)
 
 
 def write(folder, name, lines):
