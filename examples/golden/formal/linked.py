@@ -30,7 +30,6 @@ def sliced(bits, at, width):
 
 PARTS = {"request": 1, "operation": 4, "bank": 6, "word": 32, "first": 64, "second": 64, "accepted": 1, "tag": 4, "replied": 1,
          "reply_tag": 4, "reply_value": 64, "reply_bank": 6, "reply_place": 32}
-PARAMETERS = ("DIMS", "RADIX0", "RADIX1", "RADIX2", "DATELINE0", "DATELINE1", "DATELINE2", "DEPTH", "TAGS", "WORDS")
 
 
 def of_torus(folder, given, shape):

@@ -4,7 +4,6 @@ from __future__ import annotations
 from dataclasses import dataclass
 from typing import Any
 
-from torusmem_tools.draw import svg_text
 from torusmem_tools.draw.svg_text import Point
 from torusmem_tools.model.torus import Shape
 
@@ -133,11 +132,3 @@ def along(way: list[Point], part: float) -> Point:
             return x + (u - x) * share, y + (v - y) * share
         left -= length
     return way[-1]
-
-
-def tile_box(layout: Layout, tile: int, **attributes: object) -> str:
-    """The box of a tile, and its number."""
-    x, y = layout.at(tile)
-    place: dict[str, Any] = {"x": x - WIDE / 2, "y": y - HIGH / 2, "width": WIDE, "height": HIGH, "rx": 5}
-    box = svg_text.element("rect", stroke="#57606a", stroke_width=1.5, **place, **attributes)
-    return box + svg_text.text(x, y + 5, str(tile), 13, text_anchor="middle", font_weight="bold")

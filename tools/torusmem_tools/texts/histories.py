@@ -24,7 +24,6 @@ LINE = re.compile(r"jepsen\.util(?:\s+-|:)?\s+(\S+)\s+:(invoke|ok|fail|info)\s+:
 TIME = re.compile(r'[:"]time"?:?\s+([0-9]+)')
 IS_LINE = re.compile(rb"jepsen\.util")
 TAG = re.compile(rb"#[A-Za-z]")
-REGISTER = "the register"
 
 
 @dataclass
