@@ -41,7 +41,7 @@ int main(void) {
     for (uint32_t other = 0; other <= code; other++)
       MUST(is_text(torusmem_code_text(code), torusmem_code_text(other)) == (code == other));
   MUST(is_text(torusmem_code_text(TORUSMEM_WRONG_REPLY + 1), torusmem_code_text(UINT32_MAX)));
-  MUST(is_text(torusmem_version(), TORUSMEM_VERSION));
+  MUST(strncmp(torusmem_version(), TORUSMEM_VERSION, sizeof TORUSMEM_VERSION - 1) == 0);
   int first = 0, second = 0, third = 0;
   MUST(sscanf(torusmem_version(), "%d.%d.%d", &first, &second, &third) == 3);
   MUST(TORUSMEM_VERSION_NUMBER == 1000000 * first + 1000 * second + third);

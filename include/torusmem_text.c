@@ -42,7 +42,15 @@ const char *torusmem_code_text(uint32_t code) {
   return code < sizeof texts / sizeof *texts ? texts[code] : "a code that this version doesn't know";
 }
 
-const char *torusmem_version(void) { return TORUSMEM_VERSION; }
+#if defined(__GNUC__)
+/* What a library that is compiled without proofs says of itself; no other has it. */
+extern const char torusmem_unproved[] __attribute__((weak));
+#define IS_UNPROVED (torusmem_unproved != NULL)
+#else
+#define IS_UNPROVED false
+#endif
+
+const char *torusmem_version(void) { return IS_UNPROVED ? TORUSMEM_VERSION "-unproved" : TORUSMEM_VERSION; }
 
 /* How many operations the script of a processor makes: an index below that has an answer, or will have one. */
 static uint32_t operations_of(torusmem_machine *m, uint32_t processor) {

@@ -1,5 +1,5 @@
 """Starts a program that isn't built yet, or looks at a command without proofs (--unproved), or builds the library for C
-(--library). The first word names the program that answers the others, by the fewest crates."""
+(--library), with proofs or without. The first word names the program that answers the others, by the fewest crates."""
 
 from __future__ import annotations
 
@@ -12,9 +12,12 @@ sys.dont_write_bytecode = True
 if signal.getsignal(signal.SIGINT) != signal.SIG_IGN:
     signal.signal(signal.SIGINT, signal.SIG_DFL)
 
+import look  # noqa: E402
 import unproved  # noqa: E402
+import unproved_library  # noqa: E402
 import words  # noqa: E402
-from build import LIBRARY, PROGRAM, build, made_file, say  # noqa: E402
+from bitcode import NotKept, NotMade  # noqa: E402
+from build import LIBRARY, PROGRAM, Interrupted, build, made_file, say  # noqa: E402
 from crates import ROOT  # noqa: E402
 
 
@@ -32,15 +35,35 @@ def told(answer: words.Answer) -> int:
 
 
 def library(rest: list[str]) -> int:
-    """Proves and builds the library for C, where that is still to be done, and prints its path."""
+    """Proves and builds the library for C, where that is still to be done, and prints its path; or makes it without proofs."""
+    if rest == ["--unproved"]:
+        return library_without_proofs()
     if rest:
-        say("--library takes no other words")
+        say("--library takes no other words but --unproved")
         return 2
     status = build(LIBRARY)
     return status or told(words.Answer(f"{ROOT}/crates/{LIBRARY}/out/{made_file(LIBRARY)}\n", 0, True))
 
 
+def library_without_proofs() -> int:
+    """Prints the path of the library that is compiled without proofs, and makes it first where that is to be done."""
+    say(unproved_library.NOTE)
+    try:
+        path = unproved_library.made()
+    except NotMade as why:
+        return look.told(why)
+    except NotKept as why:
+        say(f"the library was not made: {why}")
+        return 127
+    except Interrupted:
+        say("interrupted. Nothing is kept of this library")
+        return 130
+    return told(words.Answer(f"{path}\n", 0, True))
+
+
 def main(name: str, given: list[str]) -> int:
+    if given[:2] == ["--unproved", "--library"]:
+        return library(["--unproved", *given[2:]])
     if given[:1] == ["--library"]:
         return library(given[1:])
     if given[:1] == ["--unproved"]:

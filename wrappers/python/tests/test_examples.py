@@ -727,7 +727,8 @@ class Words(unittest.TestCase):
         calls = torusmem._library.library()
         said = {code: calls.code_text(code).decode("ascii") for code in range(1, 15)}
         self.assertEqual(said, torusmem.REASONS)
-        self.assertEqual(calls.version().decode("ascii"), torusmem.__version__)
+        # A library that is compiled without proofs adds a word.
+        self.assertEqual(calls.version().decode("ascii").partition("-")[0], torusmem.__version__)
 
 
 class Arrays(unittest.TestCase):
