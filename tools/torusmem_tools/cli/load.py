@@ -172,7 +172,7 @@ def of_network(given: argparse.Namespace, top: int) -> str:
         return json.dumps(made, indent=2) + "\n"
     if given.histogram:
         return network_load.histograms(made, given.width)
-    return network_load.picture(net, made, given.width) if given.svg else network_load.table(made)
+    return network_load.picture(net, made, given.width, given.only) if given.svg else network_load.table(made)
 
 
 def words() -> command.Parser:
@@ -186,6 +186,7 @@ def words() -> command.Parser:
     most = command.whole(0, 65536)
     paper.add_word(parser, "with --svg or --histogram: ")
     cycles.add_word(parser)
+    parser.add_argument("--only", choices=tuple(network_load.COUNTS), help="of --network with --svg: one of the two pictures, the flits or the waits")
     parser.add_argument("--top", metavar="N", type=most, help="how many channels to name; 10 if not given")
     return parser
 
@@ -197,6 +198,8 @@ def work() -> str:
         raise command.WrongWords(f"--top is of no use with --{'svg' if given.svg else 'histogram'} (--help says more)")
     if given.width and not (given.svg or given.histogram):
         raise command.WrongWords("--width is of use with --svg and --histogram alone (--help says more)")
+    if given.only and not (given.svg and given.network):
+        raise command.WrongWords("--only is of use with --network and --svg alone (--help says more)")
     schedule_runs.refuse_network_words(given)
     top = 10 if given.top is None else given.top
     if given.network is not None:

@@ -106,14 +106,14 @@ from torusmem_tools.command import Refusal
 from torusmem_tools.draw import paper
 from torusmem_tools.draw.network_picture import picture
 from torusmem_tools.draw.router_ends import plan_of
-from torusmem_tools.model import traffic_draw
+from torusmem_tools.model import router_rules, traffic_draw
 from torusmem_tools.model.adaptive_verdict import sentences
 from torusmem_tools.model.adaptive_walk import duato_verdict
 from torusmem_tools.model.deadlock import run_of
 from torusmem_tools.model.network import Network, channel_dependencies, parse_network
 from torusmem_tools.model.network_verdict import Verdict, explain, verdict_of, verdict_read
 from torusmem_tools.model.network_words import network_of, text_of
-from torusmem_tools.model.packet_rounds import ARBITERS, simulate
+from torusmem_tools.model.packet_waits import simulated
 from torusmem_tools.model.turn_models import TURNS
 from torusmem_tools.model.wormhole import replay_moves
 from torusmem_tools.texts.network_rows import table
@@ -184,7 +184,7 @@ GENERATORS = ("mesh", "ring", "torus", "tree", "hypercube", "hyperx", "fat-tree"
 USES = {**{it: ("traffic",) for it in (*traffic_draw.DRAWN, "length", "from_csv")}, "mixed": ("mesh",), "adaptive": ("mesh", "torus", "hypercube", "hyperx"), **{it.replace("-", "_"): ("mesh",) for it in TURNS},
         "dateline": ("ring", "torus"), "plain": ("torus",), "vcs": GENERATORS,
         "ordered": ("from-garnet",), "set": ("from-garnet",), "classes": GENERATORS, "shared": GENERATORS,
-        "svg": (*GENERATORS, "walk"), "names": GENERATORS, "explain": ("walk",),
+        "svg": (*GENERATORS, "walk"), "names": GENERATORS, "explain": ("walk", "simulate"), **{it: ("simulate",) for it in router_rules.OPTIONS},
         "verdict": (*GENERATORS, "walk", "run"), "depth": ("run", "replay", "simulate"), "arbiter": ("simulate",), "moves": ("replay", "simulate")}
 
 
@@ -208,10 +208,10 @@ def asked() -> Namespace:
     words.add_argument("--names", action="store_true", help="names of routers and links, too")
     words.add_argument("--svg", action="store_true", help="draw it")
     paper.add_word(words, "of --svg: ")
-    words.add_argument("--explain", action="store_true", help="of walk: who holds what, and waits for what")
+    words.add_argument("--explain", action="store_true", help="of walk, and of simulate where it is locked: who holds what, and waits for what")
     words.add_argument("--verdict", metavar="FILE", help="what `torusmem network` printed of it")
     words.add_argument("--depth", type=command.whole(1, 8), help="how many flits a channel holds: 1, or up to 8")
-    words.add_argument("--arbiter", choices=ARBITERS, help="of simulate: which head an output takes, rotating by default")
+    router_rules.add_words(words, "of simulate: ")
     traffic_draw.add_words(words)
     given = words.parse_args()
     for option, of in USES.items():
@@ -259,9 +259,10 @@ def work() -> str:
     if given.what == "traffic":
         return traffic_draw.traffic_text(net, given)
     if given.what in ("replay", "simulate"):
-        alone(net)
+        if given.what == "replay":
+            alone(net)
         words = net, given.depth or 1, text_of(given.moves), given.moves
-        shown = replay_moves(*words) if given.what == "replay" else simulate(*words, given.arbiter or ARBITERS[0])
+        shown = replay_moves(*words) if given.what == "replay" else simulated(*words, router_rules.rules_of(given), given.explain)
         return "\n".join(shown) + "\n"
     if given.what == "run":
         return deadlock_run(net, given.verdict, given.depth or 1)

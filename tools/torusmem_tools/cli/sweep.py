@@ -38,33 +38,26 @@ from __future__ import annotations
 
 import itertools
 import json
-import math
 import multiprocessing
 import os
 import signal
 from dataclasses import replace
-from typing import Any, Callable, Iterator, Union
+from typing import Any, Callable, Iterator
 
 from torusmem_tools import command
 from torusmem_tools.draw import curves, paper
-from torusmem_tools.model import cycles, offered_load, offered_packets, traffic_draw, traffic_patterns, trial
-from torusmem_tools.model.packet_rounds import ARBITERS
+from torusmem_tools.model import cycles, offered_load, offered_packets, router_rules, swept, traffic_draw, traffic_patterns, trial
+from torusmem_tools.model.swept import Point, Row
 from torusmem_tools.model.torus import radices_of
 from torusmem_tools.progress import rewrite
 from torusmem_tools.texts.columns import aligned
 
 TOOL = "sweep"
-Point = Union[offered_load.Point, offered_packets.Point]
 LOADS = (0.01, 0.03, 0.05, 0.07, 0.09, 0.11, 0.13, 0.15)
 # What is offered where the command line doesn't say.
 TAGS, STORES = 16, 30
 # The patterns of a machine where the command line names none: those that every shape has.
 USUAL = tuple(it for it in traffic_patterns.PATTERNS if it not in traffic_patterns.BY_BITS)
-# Student's t at 97.5 % for 1, 2, .. degrees of freedom.
-STUDENT = (12.706, 4.303, 3.182, 2.776, 2.571, 2.447, 2.365, 2.306, 2.262, 2.228, 2.201, 2.179, 2.160, 2.145, 2.131,
-           2.120, 2.110, 2.101, 2.093, 2.086, 2.080, 2.074, 2.069, 2.064, 2.060, 2.056, 2.052, 2.048, 2.045)
-# A latency of so many times that without load is one of saturation, and loads this close are not told apart.
-SATURATION, BISECTED = 3, 0.002
 
 
 def ignore_interrupts() -> None:
@@ -80,7 +73,7 @@ def say(text: str) -> None:
 
 def numbered_result(numbered: tuple[int, Point]) -> tuple[int, offered_load.Found | str]:
     """In a process of its own: what a run came to, with its number, or why it didn't."""
-    return numbered[0], (offered_packets if isinstance(numbered[1], offered_packets.Point) else offered_load).result(numbered[1])
+    return numbered[0], swept.result(numbered[1])
 
 
 def all_measured(points: list[Point], jobs: int, measure: Callable[[tuple[int, Point]], Any]) -> list[Any]:
@@ -96,75 +89,34 @@ def all_measured(points: list[Point], jobs: int, measure: Callable[[tuple[int, P
     return found
 
 
-def mean_within(values: list[float]) -> tuple[float, float]:
-    """The mean, and the half width of its 95 % interval."""
-    mean = sum(values) / len(values)
-    variance = sum((it - mean) ** 2 for it in values) / (len(values) - 1)
-    return mean, STUDENT[len(values) - 2] * math.sqrt(variance / len(values))
-
-
-def zero_load(point: Point) -> float | None:
-    """The latency without load, where there is a formula for it."""
-    return offered_packets.zero_load(point) if isinstance(point, offered_packets.Point) else offered_load.zero_load(point)
-
-
-def is_saturated(point: Point, found: offered_load.Found) -> bool:
-    """Whether one run is: its latency is high, or not all that is measured is answered."""
-    zero = zero_load(point)
-    return not found.is_drained or zero is not None and found.latency > SATURATION * zero
-
-
-def saturation(numbered: tuple[int, Point]) -> tuple[int, float | str]:
-    """In a process of its own: the least load at which a run of this seed is saturated, by bisection between 0 and 1; or why it isn't
-    found. A run in which nothing is measured counts as one below it."""
-    number, point = numbered
-    low, high = 0.0, 1.0
-    while high - low > BISECTED:
-        load = (low + high) / 2
-        _, found = numbered_result((0, replace(point, load=load)))
-        if isinstance(found, str) and not found.startswith("no "):
-            return number, found
-        low, high = (low, load) if not isinstance(found, str) and is_saturated(point, found) else (load, high)
-    return number, (low + high) / 2
-
-
-def saturations(given: Any) -> list[dict[str, Any]]:
-    """Where each network or shape is saturated by each pattern: a mean over the seeds, with its interval."""
+def saturations(given: Any) -> list[Row]:
+    """Where each network or shape is saturated by each pattern."""
     points = list(dict.fromkeys(replace(it, load=1.0) for it in points_of(given)))
-    runs = [replace(it, seed=(it.seed + k) % 2**64) for it in points for k in range(given.seeds)]
-    found, rows = all_measured(runs, given.jobs, saturation), []
-    for at, it in enumerate(points):
-        mean, within = mean_within(found[at * given.seeds : (at + 1) * given.seeds])
-        zero = zero_load(it)
-        row: dict[str, Any] = {"shape": it.shape(), "traffic": it.traffic, "zero_load": zero and round(zero, 2)}
-        rows.append({**row, "saturation": round(mean, 4), "saturation_within": round(within, 4), "seeds": given.seeds})
-    return rows
+    found = all_measured(seeded(points, given), given.jobs, swept.saturation)
+    return [swept.saturation_row(it, found[at * given.seeds : (at + 1) * given.seeds]) for at, it in enumerate(points)]
 
 
-def saturation_table(rows: list[dict[str, Any]]) -> str:
+def seeded(points: list[Point], given: Any) -> list[Point]:
+    """The points with each of the seeds."""
+    return [replace(it, seed=(it.seed + k) % 2**64) for it in points for k in range(given.seeds)]
+
+
+def made_by(rows: list[Row]) -> str:
+    """The line on runs that the program didn't make."""
+    names = dict.fromkeys(next(iter(it.values())) for it in rows if it["by"] == swept.TOOLS)
+    return f"# by the plain model of tools/network, which isn't proved: {', '.join(names)}\n" if names else ""
+
+
+def saturation_table(rows: list[Row]) -> str:
     """The same as text."""
     cells = [[next(iter(rows[0])), "traffic", "without load", ""]]
     for it in rows:
         zero = "-" if it["zero_load"] is None else f"{it['zero_load']:.2f}"
         cells.append([it[cells[0][0]], it["traffic"], zero, f"saturation {it['saturation']:.3f} +- {it['saturation_within']:.3f}"])
-    return "".join(f"{it}\n" for it in aligned(cells, (0, 1, 3)))
+    return "".join(f"{it}\n" for it in aligned(cells, (0, 1, 3))) + made_by(rows)
 
 
-def row_of(point: Point, found: list[offered_load.Found]) -> dict[str, Any]:
-    """What the runs of a load came to."""
-    accepted, latency = mean_within([it.accepted for it in found]), mean_within([it.latency for it in found])
-    drained, zero = sum(it.is_drained for it in found), zero_load(point)
-    row: dict[str, Any] = {"shape": point.shape(), "traffic": point.traffic, "offered": point.load}
-    row.update(accepted=round(accepted[0], 5), accepted_within=round(accepted[1], 5))
-    row.update(latency=round(latency[0], 2), latency_within=round(latency[1], 2))
-    row.update(p95=max(it.p95 for it in found), measured=sum(it.measured for it in found), drained=drained)
-    is_high = zero is not None and latency[0] > SATURATION * zero
-    row.update(seeds=len(found), zero_load=zero and round(zero, 2), saturated=is_high or drained < len(found))
-    shares = min(it.least for it in found), max(it.most for it in found)
-    return {**row, "least": round(shares[0], 5), "most": round(shares[1], 5), "longest": max(it.longest for it in found)}
-
-
-def table(rows: list[dict[str, Any]]) -> str:
+def table(rows: list[Row]) -> str:
     """What the loads came to, as text."""
     first = next(iter(rows[0]))
     one = "of one sender" if first == "network" else "of one tile"
@@ -174,12 +126,12 @@ def table(rows: list[dict[str, Any]]) -> str:
         zero = "-" if it["zero_load"] is None else f"{it['zero_load']:.2f}"
         both = f"{it['accepted']:.4f} +- {it['accepted_within']:.4f}", f"{it['latency']:.2f} +- {it['latency_within']:.2f}"
         mark = "saturated" if it["saturated"] else ""
-        share = f"{it['least']:.4f} to {it['most']:.4f}"
+        share = f"{it['least']:.4f} ({it['worst']}) to {it['most']:.4f}"
         cells.append([it[heads[0]], it["traffic"], f"{it['offered']:g}", *both, str(it["p95"]), str(it["longest"]), share, zero, mark])
-    return "".join(f"{it}\n" for it in aligned(cells, (0, 1, 9)))
+    return "".join(f"{it}\n" for it in aligned(cells, (0, 1, 9))) + made_by(rows)
 
 
-def csv(rows: list[dict[str, Any]]) -> str:
+def csv(rows: list[Row]) -> str:
     """The same as comma-separated values, under the names of the columns."""
     cell: Callable[[object], str] = lambda it: "" if it is None else str(it).lower() if isinstance(it, bool) else str(it)
     return "".join(",".join(line) + "\n" for line in [list(rows[0]), *([cell(it) for it in row.values()] for row in rows)])
@@ -219,8 +171,7 @@ def words() -> command.Parser:
     number("warm-up", "R", 0, 100000, 200, "rounds before the measured ones")
     number("window", "R", 1, 100000, 500, "rounds that are measured")
     number("drain", "R", 0, 100000, 500, "the most rounds behind these")
-    arbiter = f"of a network: which head an output takes, of {' and '.join(ARBITERS)}; {ARBITERS[0]} if not given"
-    add("arbiter", "NAME", choices=ARBITERS, help=arbiter)
+    router_rules.add_words(parser, "of a network: ")
     cycles.add_word(parser)
     number("seeds", "N", 2, 30, 5, "runs of each load, each by a seed of its own")
     number("seed", "S", 0, 2**64 - 1, 1, "the first seed")
@@ -237,10 +188,10 @@ def words() -> command.Parser:
 
 def points_of(given: Any) -> Iterator[Point]:
     """The loads that are asked for, each with the first seed."""
-    rounds = given.warm_up, given.window, given.drain
+    rounds, rules = (given.warm_up, given.window, given.drain), router_rules.rules_of(given, given.cycle)
     for network, traffic, load in itertools.product(given.network or [], given.traffic or [None], given.loads):
         demand = traffic_draw.demand_of(given, traffic)
-        yield offered_packets.Point(network, demand, load, given.depth, *rounds, given.cycle, given.arbiter or ARBITERS[0], given.seed)
+        yield offered_packets.Point(network, demand, load, given.depth, *rounds, given.cycle, rules, given.seed)
     tags, stores = given.tags or TAGS, STORES if given.stores is None else given.stores
     for radices, traffic, load in itertools.product(given.shape or [], given.traffic or USUAL, given.loads):
         yield offered_load.Point(tuple(radices), traffic, load, tags, given.depth, stores, *rounds, not given.rounds_in_order, given.cycle, given.seed)
@@ -249,7 +200,7 @@ def points_of(given: Any) -> Iterator[Point]:
 def asked() -> Any:
     """What the command line asks for; refuses words that are of no use together."""
     given = words().parse_args()
-    idle = ("length", "digits", "burst", "hot", "to", "matrix", "arbiter") if given.shape else ("tags", "stores", "rounds_in_order")
+    idle = ("length", "digits", "burst", "hot", "to", "matrix", "arbiter", *router_rules.OPTIONS) if given.shape else ("tags", "stores", "rounds_in_order")
     for name in idle:
         if getattr(given, name) is not None and getattr(given, name) is not False:
             raise command.WrongWords(f"--{name.replace('_', '-')} is of no use with --{'shape' if given.shape else 'network'} (--help says more)")
@@ -260,7 +211,7 @@ def asked() -> Any:
     return given
 
 
-def named(rows: list[dict[str, Any]], given: Any) -> list[dict[str, Any]]:
+def named(rows: list[Row], given: Any) -> list[Row]:
     """The rows, whose first column says whether it has shapes or networks."""
     return [{("network" if key == "shape" and given.network else key): it for key, it in row.items()} for row in rows]
 
@@ -275,15 +226,15 @@ def work() -> str:
     given = asked()
     for it in points_of(given):
         # (what is refused is refused ahead of all runs, and they need not read the networks again)
-        zero_load(it)
-    os.environ["TORUSMEM"] = trial.built_torusmem()
+        swept.zero_load(it)
+    if any(isinstance(it, offered_load.Point) or it.rules.are_plain(offered_packets.network_of(it.network)) for it in points_of(given)):
+        os.environ["TORUSMEM"] = trial.built_torusmem()
     if given.saturation:
         rows = named(saturations(given), given)
         return json.dumps(rows, indent=2) + "\n" if given.json else csv(rows) if given.csv else saturation_table(rows)
     points = list(dict.fromkeys(points_of(given)))
-    runs = [replace(it, seed=(it.seed + k) % 2**64) for it in points for k in range(given.seeds)]
-    found = all_measured(runs, given.jobs, numbered_result)
-    rows = [row_of(it, found[at * given.seeds : (at + 1) * given.seeds]) for at, it in enumerate(points)]
+    found = all_measured(seeded(points, given), given.jobs, numbered_result)
+    rows = [swept.row_of(it, found[at * given.seeds : (at + 1) * given.seeds]) for at, it in enumerate(points)]
     if given.json:
         return json.dumps(named(rows, given), indent=2) + "\n"
     if given.csv:

@@ -37,13 +37,13 @@ def diagram(plan: Plan, marks: Marks, room: float = math.inf, apart: float = APA
 
 def narrowed(found: Diagram, room: float) -> Diagram:
     """A diagram with its routers nearer to each other from left to right, as long as it is wider than there is room and
-    nothing is left out for it."""
-    faults, best = found.missing + found.crowded, found
+    nothing is left out for it; from top to bottom too where its channels have inks in place of numbers."""
+    faults, best, is_inked = found.missing + found.crowded, found, bool(found.marks.inks) and not found.marks.numbers
     for part in NARROWER:
         least, _, most, _ = best.extent()
         if most - least <= room:
             break
-        tried = Diagram(found.plan, found.marks, [(it.x * part, it.y) for it in found.boxes], found.half, found.lane)
+        tried = Diagram(found.plan, found.marks, [(it.x * part, it.y * (part if is_inked else 1)) for it in found.boxes], found.half, found.lane)
         if tried.missing + tried.crowded > faults:
             break
         best = tried

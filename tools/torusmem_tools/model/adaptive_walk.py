@@ -60,6 +60,16 @@ def misfit(net: Network) -> Optional[str]:
     return None
 
 
+def stuck(net: Network) -> Optional[str]:
+    """The verdict on the first pair or choice that can't stand, or channel at which packets have no choice, so that none can be sent."""
+    wrong = misfit(net)
+    if wrong is not None:
+        return wrong
+    walk = Walk(net)
+    bare = ((x, j) for j in sorted(walk.starts) for x in walk.comes(j) if net.kinds[x] != "eject" and not walk.after(x, j))
+    return next((f"no choice {x} {j}" for x, j in bare), None)
+
+
 class Walk:
     """The choices of a network, and where packets come."""
 

@@ -2,7 +2,7 @@
 cache coherence (request, forward, response)."""
 from __future__ import annotations
 
-from typing import Dict, List
+from typing import Dict, List, Tuple
 
 from torusmem_tools.command import Refusal
 from torusmem_tools.model.network import Network
@@ -33,3 +33,20 @@ def with_classes(net: Network, count: int, is_shared: bool) -> Network:
     ends = [[x for x, kind in enumerate(net.kinds) if kind == it] for it in ("eject", "inject")]
     made.replies = [(ways[c][x], ways[d][y]) for x, y in zip(*ends) for c in range(count) for d in range(c + 1, count)]
     return made
+
+
+def groups_of(net: Network) -> List[Tuple[List[int], List[int]]]:
+    """The senders and the receivers that belong together, each in the order of their channels."""
+    above: Dict[int, int] = {}
+
+    def top(x: int) -> int:
+        while above.setdefault(x, x) != x:
+            x = above[x]
+        return x
+
+    for i, j in net.joins:
+        above[top(i)] = top(j)
+    found: Dict[int, Tuple[List[int], List[int]]] = {}
+    for x in sorted(above):
+        found.setdefault(top(x), ([], []))[net.kinds[x] == "eject"].append(x)
+    return [found[it] for it in sorted(found, key=lambda it: found[it][0][:1])]

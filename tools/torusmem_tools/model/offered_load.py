@@ -59,7 +59,7 @@ class Point:
 @dataclass(frozen=True)
 class Found:
     """What a run came to: operations answered for each cycle and tile, and the times of those asked for in the window; the
-    least and the most that are answered of a tile, and the longest of the times."""
+    least and the most that are answered of a tile, the longest of the times, and the tile of which the least is answered."""
 
     accepted: float
     latency: float
@@ -69,6 +69,7 @@ class Found:
     least: float
     most: float
     longest: int
+    worst: int
 
 
 def bank_of(numbers: campaign_cases.Numbers, point: Point, source: int) -> int:
@@ -148,7 +149,7 @@ def found_of(point: Point, machine: replay.Machine, asks: list[list[int]]) -> Fo
     rising = sorted(times)
     accepted = sum(of_one) / (point.window * len(of_one))
     shares = min(of_one) / point.window, max(of_one) / point.window
-    return Found(accepted, sum(rising) / len(rising), percentile(rising, 95), len(rising), is_drained, *shares, rising[-1])
+    return Found(accepted, sum(rising) / len(rising), percentile(rising, 95), len(rising), is_drained, *shares, rising[-1], of_one.index(min(of_one)))
 
 
 def zero_load(point: Point) -> float | None:

@@ -1,22 +1,27 @@
 """Packets through a network in clocked rounds, in plain Python: each choice that is enabled when a round begins is
-attempted once, but for heads that an arbiter passes over (crates/network_rounds). Nothing here is proved."""
+attempted once, but for heads that an arbiter passes over (crates/network_rounds). Where routers choose, a head asks for one of its
+choices that are free: an escape where no other is, and of several the first behind the one that it took last, going round. Nothing
+here is proved."""
 from __future__ import annotations
 
-from typing import Dict, Iterator, List, NamedTuple, Optional, Tuple
+from collections import deque
+from operator import attrgetter
+from typing import Deque, Dict, Iterator, List, NamedTuple, Optional, Tuple
 
 from torusmem_tools.command import Refusal
+from torusmem_tools.model.exchanges import Answers, Exchanges
 from torusmem_tools.model.network import Network, number_of
+from torusmem_tools.model.router_rules import MOST_FLITS, Flights, Rules, behind
 from torusmem_tools.model.wormhole import Wormhole
 
 # The most rounds of a simulation; the last round that a packet may name, and the most flits that it has.
 MOST_ROUNDS = 1000000
-MOST = 2147483647
+MOST = MOST_FLITS
 
-# Which head an output takes: `rotating`, that of the first input behind the one whose head it took last; or `turn`, any
-# that it has room for, in an order that begins with another input in each round.
-ARBITERS = ("rotating", "turn")
-
-Move = Tuple[str, int]
+# A move: its word, its channel, and of a put the one that it leads to, else 0.
+Move = Tuple[str, int, int]
+# What a channel must have for a move of this word.
+NEEDED = {"more": attrgetter("rest"), "take": attrgetter("flits"), "put": attrgetter("latch"), "accept": attrgetter("flits"), "credit": attrgetter("returning")}
 
 
 class Packet(NamedTuple):
@@ -29,10 +34,11 @@ class Packet(NamedTuple):
 
 
 class Course:
-    """What becomes of a packet: the rounds in which its sender begins it and in which its receiver has all of it."""
+    """What becomes of a packet: the rounds in which its sender begins it and in which its receiver has all of it; and the number of the
+    packet that it answers, or -1."""
 
-    def __init__(self, packet: Packet) -> None:
-        self.packet = packet
+    def __init__(self, packet: Packet, answers: int = -1) -> None:
+        self.packet, self.answers = packet, answers
         self.begun: Optional[int] = None
         self.delivered: Optional[int] = None
 
@@ -40,7 +46,8 @@ class Course:
         """The line of the report."""
         begun, delivered = ("-" if it is None else str(it) for it in (self.begun, self.delivered))
         latency = "-" if self.delivered is None else str(self.delivered - self.packet.round + 1)
-        return f"packet {' '.join(map(str, self.packet))} begun {begun} delivered {delivered} latency {latency}"
+        more = f" answers {self.answers}" if self.answers >= 0 else ""
+        return f"packet {' '.join(map(str, self.packet))} begun {begun} delivered {delivered} latency {latency}{more}"
 
 
 def read_packet(net: Network, words: List[str], where: str) -> Packet:
@@ -74,7 +81,7 @@ def routers_of(net: Network) -> List[List[int]]:
     """The channels that lead to a router each, found where channels meet: behind both the same one may be chosen."""
     number = list(range(len(net.kinds)))
     first: Dict[int, int] = {}
-    for (x, _), (y,) in net.choices.items():
+    for x, y in ((x, y) for (x, _), ys in net.choices.items() for y in ys):
         old, new = number[x], number[first.setdefault(y, x)]
         if old != new:
             number = [new if it == old else it for it in number]
@@ -85,76 +92,109 @@ def routers_of(net: Network) -> List[List[int]]:
     return [found[it] for it in sorted(found)]
 
 
-def rotated(moves: List[Move], turn: int) -> List[Move]:
-    """Some moves, from the one whose turn it is."""
-    first = turn % len(moves) if moves else 0
-    return moves[first:] + moves[:first]
+def rotated(channels: List[int], turn: int) -> List[int]:
+    """Some channels, from the one whose turn it is."""
+    first = turn % len(channels) if channels else 0
+    return channels[first:] + channels[:first] if first else channels
 
 
 class Simulation:
     """A network with packets on their way, in clocked rounds."""
 
-    def __init__(self, net: Network, depth: int, traffic: List[Packet], arbiter: str = ARBITERS[0]) -> None:
-        self.net, self.machine, self.is_turned = net, Wormhole(net, depth), arbiter == "turn"
-        # the input whose head each output took last
+    def __init__(self, net: Network, depth: int, traffic: List[Packet], rules: Rules = Rules()) -> None:
+        self.net, self.machine, self.rules = net, Wormhole(net, depth), rules
+        # the input whose head each output took last, and the output that each input's head took last
         self.granted: Dict[int, int] = {}
+        self.taken: Dict[int, int] = {}
         self.courses = [Course(it) for it in traffic]
-        self.queues: Dict[int, List[int]] = {}
+        self.answers, self.exchanges = Answers(net, rules), Exchanges(len(traffic))
+        self.flights = Flights(net, rules) if rules.router_delay or rules.link_delay else None
+        # of each sender the packets of the traffic that it hasn't begun, the answers, and the packet that it began last
+        self.queues: Dict[int, Deque[int]] = {x: deque() for x in sorted({*self.answers.senders(), *(it.start for it in traffic)})}
+        self.owed: Dict[int, Deque[int]] = {x: deque() for x in self.queues}
+        self.current: Dict[int, int] = {}
         for number, it in enumerate(traffic):
-            self.queues.setdefault(it.start, []).append(number)
-        self.begun = {x: 0 for x in self.queues}
+            self.queues[it.start].append(number)
         self.left, self.waited = [0] * len(net.kinds), [0] * len(net.kinds)
-        kinds = list(enumerate(net.kinds))
-        self.groups: List[List[Move]] = [
-            [("more", x) for x, it in kinds if it == "inject"],
-            [("take", x) for x, it in kinds if it != "eject"],
-            *([("put", x) for x in router] for router in routers_of(net)),
-            [("accept", x) for x, it in kinds if it == "eject"],
-            [("credit", x) for x, _ in kinds]]
+        kinds, routers, is_turned = list(enumerate(net.kinds)), routers_of(net), rules.arbiter == "turn"
+        self.groups: List[Tuple[str, List[int]]] = [
+            ("more", [x for x, it in kinds if it == "inject"]),
+            ("take", [x for x, it in kinds if it != "eject"]),
+            *(("put", router) for router in (routers if is_turned else [[x for router in routers for x in router]])),
+            ("accept", [x for x, it in kinds if it == "eject"]),
+            ("credit", [x for x, _ in kinds])]
+        # the words of moves that no other move of the same round may prevent
+        self.sure = {"more", "take", "credit", *["put"] * (not is_turned)}
 
     def due(self, number: int) -> Iterator[int]:
-        """The packets that are next at their senders, and whose round has come."""
-        for x in sorted(self.queues):
-            if self.begun[x] < len(self.queues[x]):
-                packet = self.queues[x][self.begun[x]]
-                if self.courses[packet].packet.round <= number:
-                    yield packet
+        """The packets that are next at their senders, answers ahead of others, and whose round has come; but where so many of a
+        sender's exchanges are under way as may be, only answers."""
+        most = self.rules.outstanding
+        for x, queue in self.queues.items():
+            for it in (self.owed[x], queue):
+                if it and self.courses[it[0]].packet.round <= number and (it is not queue or not most or self.exchanges.busy[x] < most):
+                    yield it[0]
+                    break
 
-    def can(self, word: str, x: int) -> bool:
-        return not self.machine.refusal(word, x)
+    def can(self, word: str, x: int, y: int, number: int) -> bool:
+        """Whether a move may happen in a round."""
+        to = y if word == "put" else None
+        return not self.machine.refusal(word, x, to) and (self.flights is None or self.flights.may(word, x, number))
 
-    def asked(self, word: str, x: int) -> Optional[int]:
-        """The output that a move asks for: that of a head, which is put."""
+    def wanted(self, x: int) -> Optional[int]:
+        """The output that the flit in the latch behind a channel asks for, or none where none is free."""
+        free = [y for y in self.machine.outputs(x) if not self.machine.no_put(x, y)]
+        if len(free) > 1:
+            return behind([y for y in free if y not in self.machine.escapes] or free, self.taken.get(x))
+        return free[0] if free else None
+
+    def enabled(self, number: int) -> List[Move]:
+        """The moves that are enabled when a round begins, in its order."""
+        turn = number - 1 if self.rules.arbiter == "turn" else 0
+        channels, found = self.machine.channels, []
+        for word, of in self.groups:
+            needed = NEEDED[word]
+            for x in [it for it in rotated(of, turn) if needed(channels[it])]:
+                y = self.wanted(x) if word == "put" else 0
+                if y is not None and (word == "put" or self.can(word, x, y, number)):
+                    found.append((word, x, y))
+        return found
+
+    def is_head(self, x: int) -> bool:
+        """Whether the flit in the latch behind a channel is a head."""
         latch = self.machine.channels[x].latch
-        return next(iter(self.machine.outputs(x)), None) if word == "put" and latch is not None and latch.head else None
+        return latch is not None and latch.head
+
+    def age(self, x: int) -> Tuple[int, int]:
+        """The round from which on the packet in the latch behind a channel could be begun, and its number."""
+        latch = self.machine.channels[x].latch
+        return (0, 0) if latch is None else (self.courses[latch.packet].packet.round, latch.packet)
 
     def chosen(self, enabled: List[Move]) -> List[Move]:
         """What is attempted of the moves that are enabled, by the arbiter."""
-        if self.is_turned:
+        if self.rules.arbiter == "turn":
             return enabled
         asking: Dict[int, List[int]] = {}
-        for word, x in enabled:
-            output = self.asked(word, x)
-            if output is not None:
-                asking.setdefault(output, []).append(x)
-        # behind the last one those with higher numbers come first, and then the others
-        first = {y: min([x for x in inputs if x > self.granted.get(y, x)] or inputs) for y, inputs in asking.items()}
+        for word, x, y in enabled:
+            if word == "put" and self.is_head(x):
+                asking.setdefault(y, []).append(x)
+        is_by_age = self.rules.arbiter == "oldest"
+        first = {y: min(inputs, key=self.age) if is_by_age else behind(inputs, self.granted.get(y)) for y, inputs in asking.items()}
         passed = {x for y, inputs in asking.items() for x in inputs if x != first[y]}
-        return [(word, x) for word, x in enabled if word != "put" or x not in passed]
+        return [it for it in enabled if it[0] != "put" or it[1] not in passed]
 
     def round(self, number: int) -> int:
         """Makes the round of this number, from 1 on, and answers how many moves it makes."""
         starts = [it for it in self.due(number)
                   if not self.machine.refusal("send", *self.courses[it].packet[1:])]
-        turn = number - 1 if self.is_turned else 0
-        enabled = self.chosen([it for group in self.groups for it in rotated(group, turn) if self.can(*it)])
+        enabled = self.chosen(self.enabled(number))
         full = [x for x, it in enumerate(self.machine.channels) if it.latch is not None]
         for packet in starts:
             self.begin(packet, number)
         moved = set()
-        for word, x in enabled:
-            if self.can(word, x):
-                self.move(word, x, number)
+        for word, x, y in enabled:
+            if word in self.sure or self.can(word, x, y, number):
+                self.move(word, x, y, number)
                 moved.add((word, x))
         for x in full:
             self.waited[x] += ("put", x) not in moved
@@ -163,10 +203,18 @@ class Simulation:
     def begin(self, packet: int, number: int) -> None:
         """The sender of a packet begins it."""
         it = self.courses[packet].packet
+        self.note("send", it.start, 0, number)
         self.machine.move("send", it.start, it.end, it.size)
-        self.begun[it.start] += 1
+        (self.queues if self.courses[packet].answers < 0 else self.owed)[it.start].popleft()
         self.courses[packet].begun = number
+        self.current[it.start] = packet
+        self.exchanges.begin(packet, it.start)
         self.tag(it.start, packet)
+
+    def note(self, word: str, x: int, y: int, number: int) -> None:
+        """Notes a move where links or routers take their time."""
+        if self.flights is not None:
+            self.flights.note(word, x, y, number)
 
     def tag(self, x: int, packet: int) -> None:
         """Notes on the last flit of a sender's channel which packet it is of, and which flit there."""
@@ -174,32 +222,41 @@ class Simulation:
         *others, last = at.flits
         at.flits = (*others, last._replace(packet=packet, number=self.courses[packet].packet.size - at.rest - 1))
 
-    def move(self, word: str, x: int, number: int) -> None:
+    def move(self, word: str, x: int, y: int, number: int) -> None:
         """Makes a move in a round."""
         if word == "accept":
             flit = self.machine.channels[x].flits[0]
             if flit.tail:
-                self.courses[flit.packet].delivered = number
+                self.deliver(flit.packet, number)
         self.left[x] += word in ("take", "accept")
-        output = self.asked(word, x)
-        if output is not None:
-            self.granted[output] = x
-        self.machine.move(word, x)
+        if word == "put" and self.is_head(x):
+            self.granted[y], self.taken[x] = x, y
+        self.note(word, x, y, number)
+        self.machine.move(word, x, y if word == "put" else None)
         if word == "more":
-            self.tag(x, self.queues[x][self.begun[x] - 1])
+            self.tag(x, self.current[x])
+
+    def deliver(self, packet: int, number: int) -> None:
+        """A receiver has all of a packet, and answers it."""
+        course = self.courses[packet]
+        course.delivered = number
+        for it in self.answers.to(course.packet.start, course.packet.end):
+            self.owed[it.start].append(self.exchanges.answer(packet))
+            self.courses.append(Course(Packet(number + 1, *it), packet))
+        self.exchanges.deliver(packet, self.courses[self.exchanges.first[packet]].packet.start)
 
     def is_over(self, number: int) -> bool:
         """Whether no sender's next packet is to come after this round."""
-        left = (self.queues[x][self.begun[x]:][:1] for x in self.queues)
-        return all(self.courses[it].packet.round <= number for next_one in left for it in next_one)
+        return all(self.courses[it[0]].packet.round <= number for it in self.queues.values() if it)
 
     def run(self) -> str:
-        """Makes rounds until none makes a move and no packet is to come, and answers the last line of the report."""
-        last = 0
+        """Makes rounds until none makes a move, nothing is under way on a link or in a router, and no packet is to come; and answers the
+        last line of the report."""
+        last, still = 0, self.rules.router_delay + self.rules.link_delay
         for number in range(1, MOST_ROUNDS + 1):
             if self.round(number):
                 last = number
-            elif self.is_over(number):
+            elif number - last > still and self.is_over(number):
                 return f"{self.machine.verdict()[0]} after round {last}"
         return f"not over after round {MOST_ROUNDS}"
 
@@ -209,10 +266,6 @@ class Simulation:
 
     def lines(self, end: str) -> List[str]:
         """The lines of a report that ends so."""
+        first = [] if self.rules.are_plain(self.net) else [self.rules.said(self.net)]
         channels = [f"channel {x} flits {a} waited {b}" for x, (a, b) in enumerate(zip(self.left, self.waited))]
-        return [*(it.line() for it in self.courses), *channels, end]
-
-
-def simulate(net: Network, depth: int, text: str, path: str, arbiter: str = ARBITERS[0]) -> List[str]:
-    """The report on the packets of a traffic text."""
-    return Simulation(net, depth, read_traffic(net, text, path), arbiter).report()
+        return [*first, *(it.line() for it in self.courses), *channels, end]

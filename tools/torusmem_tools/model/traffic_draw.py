@@ -13,6 +13,7 @@ from typing import Callable, Dict, List, Optional, Sequence, Tuple
 
 from torusmem_tools import command
 from torusmem_tools.model import campaign_cases, traffic_patterns
+from torusmem_tools.model.message_classes import groups_of
 from torusmem_tools.model.network import Network
 from torusmem_tools.model.network_words import sizes, text_of
 from torusmem_tools.model.packet_rounds import MOST, Packet
@@ -44,32 +45,17 @@ class Demand:
     matrix: str = ""
 
 
-def groups_of(net: Network) -> List[Tuple[List[int], List[int]]]:
-    """The senders and the receivers that belong together, each in the order of their channels."""
-    above: Dict[int, int] = {}
-
-    def top(x: int) -> int:
-        while above.setdefault(x, x) != x:
-            x = above[x]
-        return x
-
-    for i, j in net.joins:
-        above[top(i)] = top(j)
-    found: Dict[int, Tuple[List[int], List[int]]] = {}
-    for x in sorted(above):
-        found.setdefault(top(x), ([], []))[net.kinds[x] == "eject"].append(x)
-    return [found[it] for it in sorted(found, key=lambda it: found[it][0][:1])]
-
-
 class Traffic:
     """Where the packets of each sender go by a pattern, and how long they are."""
 
-    def __init__(self, net: Network, demand: Demand) -> None:
+    def __init__(self, net: Network, demand: Demand, is_of_requests: bool = False) -> None:
         self.demand, self.net = demand, net
         self.joined = set(net.joins)
+        silent = {y for _, y in net.replies} if is_of_requests else set()
         self.ends: Dict[int, List[int]] = {}
         for i, j in sorted(self.joined):
-            self.ends.setdefault(i, []).append(j)
+            if i not in silent:
+                self.ends.setdefault(i, []).append(j)
         self.groups = groups_of(net)
         self.places = {x: (k, ends) for starts, ends in self.groups for k, x in enumerate(starts)}
         self.weights = traffic_table.matrix(text_of(demand.matrix), demand.matrix) if demand.matrix else []
@@ -264,25 +250,26 @@ def add_words(words: ArgumentParser) -> None:
     add("--pattern", choices=PATTERNS, metavar="P", help=f"of traffic: {', '.join(PATTERNS)}; uniform if not given")
     add_demand_words(words, "of traffic: ", MOST)
     add("--seed", metavar="S", type=command.whole(0, 2**64 - 1), help="of traffic: the seed; 1 if not given")
+    add("--requests", action="store_true", help="of traffic: nothing from channels on which receivers answer, for simulate --replies")
     table = "of traffic: the packets of a table, CSV with the columns round,source,destination and maybe length,class"
     add("--from-csv", metavar="FILE", help=table)
 
 
 # What is of no use where a table has the packets.
-DRAWN = ("packets", "rate", "pattern", "digits", "burst", "hot", "to", "matrix", "seed")
+DRAWN = ("packets", "rate", "pattern", "digits", "burst", "hot", "to", "matrix", "seed", "requests")
 
 
 def traffic_text(net: Network, given: Namespace) -> str:
     """The traffic text that the command line asks for: the packets of a table, or rounds are drawn until there are so many."""
     if given.from_csv:
         for option in DRAWN:
-            if getattr(given, option) is not None:
+            if getattr(given, option) not in (None, False):
                 raise command.WrongWords(f"--{option} is of no use with --from-csv (--help says more)")
         if given.length and len(given.length) > 1:
             raise command.WrongWords("--length is one number with --from-csv, that of rows without a length (--help says more)")
         rows = traffic_table.packets(net, groups_of(net), text_of(given.from_csv), given.from_csv, given.length[0][0] if given.length else 4)
         return "".join(f"{line(it)}\n" for it in rows)
-    traffic = Traffic(net, demand_of(given, given.pattern))
+    traffic = Traffic(net, demand_of(given, given.pattern), bool(given.requests))
     if not traffic.pairs():
         raise command.Refusal("the network has no pair that packets of this pattern go between")
     numbers, rate, most = campaign_cases.Numbers(1 if given.seed is None else given.seed), given.rate or 0.05, given.packets or 100

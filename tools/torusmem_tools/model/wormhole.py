@@ -164,9 +164,14 @@ class Wormhole:
         out.owner, c.owned = (None, None) if c.latch.tail else (x, y)
         c.latch = None
 
+    def ways(self, word: str, x: int) -> List[Move]:
+        """The moves of a word at a channel: a put names its choice where there are several."""
+        outputs = self.outputs(x) if word == "put" else []
+        return [(word, x, y) for y in outputs] if len(outputs) > 1 else [(word, x)]
+
     def able(self) -> List[Move]:
         """The moves that may happen without a new packet."""
-        return [(word, x) for x in range(len(self.channels)) for word in MOVES if not self.refusal(word, x)]
+        return [it for x in range(len(self.channels)) for word in MOVES for it in self.ways(word, x) if not self.refusal(*it)]
 
     def begins(self, lengths: Iterable[int]) -> List[Move]:
         """The moves that begin a packet of one of these lengths."""
