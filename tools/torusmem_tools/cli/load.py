@@ -35,8 +35,9 @@ import json
 from typing import Any, Callable, Sequence
 
 from torusmem_tools import command
-from torusmem_tools.draw import channel_load, network_load, paper, svg_text, torus_layout
-from torusmem_tools.draw.histogram import drawn_bars, summary_of
+from torusmem_tools.draw import channel_load, network_load, paper, torus_layout
+from torusmem_tools.draw.distribution import drawn_all
+from torusmem_tools.draw.histogram import summary_of
 from torusmem_tools.draw.paper import Paper
 from torusmem_tools.model import cycles, replay, schedule_runs
 from torusmem_tools.model.network import parse_network
@@ -149,19 +150,15 @@ def table(made: dict[str, Any]) -> str:
     return "\n".join(lines) + "\n"
 
 
-def histograms(made: dict[str, Any], given: Paper | None) -> str:
-    """The histograms of the times of all operations that are answered."""
-    on = given or Paper(730)
+def drawn_times(made: dict[str, Any], given: Paper | None, is_distribution: bool) -> str:
+    """The histograms of the times of all operations that are answered, or their distribution functions."""
     of = [it for it in made["runs"] if it["answered"] is not None]
     if not of:
         raise command.Refusal("no operation is answered, so that there are no times to draw")
-    shape = " x ".join(map(str, made["radices"]))
-    parts = [svg_text.text(12, 24, f"{shape} tiles: {len(of)} operations", 11 if given else 14, font_weight="bold")]
+    said = f"{' x '.join(map(str, made['radices']))} tiles: {len(of)} operations"
     ways = (("issue", "issued", "service", "served"), ("service", "served", "answer", "answered"), ("issue", "issued", "answer", "answered"))
-    for at, (begin, first, end, last) in enumerate(ways):
-        heading = f"from {begin} to {end}"
-        parts += drawn_bars([it[last] - it[first] for it in of], heading, made["time"], 36 + 220 * at, on.room() - 30, 11 if given else 13)
-    return on.svg(TOOL, on.room(), 36 + 220 * len(ways), parts)
+    times = [(f"from {begin} to {end}", [it[last] - it[first] for it in of]) for begin, first, end, last in ways]
+    return drawn_all(times, said, made["time"], "operations", given, is_distribution)
 
 
 def of_network(given: argparse.Namespace, top: int) -> str:
@@ -170,8 +167,8 @@ def of_network(given: argparse.Namespace, top: int) -> str:
     made = network_load.figures(net, traffic_report.read_traffic_report(net, given.machine), top, given.cycle)
     if given.json:
         return json.dumps(made, indent=2) + "\n"
-    if given.histogram:
-        return network_load.histograms(made, given.width)
+    if given.histogram or given.distribution:
+        return network_load.drawn_times(made, given.width, given.distribution)
     return network_load.picture(net, made, given.width, given.only) if given.svg else network_load.table(made)
 
 
@@ -183,8 +180,9 @@ def words() -> command.Parser:
     shown.add_argument("--json", action="store_true", help="print JSON, with a row for each channel and operation")
     shown.add_argument("--svg", action="store_true", help="draw the torus, its channels in the colours of their loads")
     shown.add_argument("--histogram", action="store_true", help="draw how many operations took how long")
+    shown.add_argument("--distribution", action="store_true", help="draw which share of the operations took longer than a time, for heavy tails")
     most = command.whole(0, 65536)
-    paper.add_word(parser, "with --svg or --histogram: ")
+    paper.add_word(parser, "with --svg, --histogram or --distribution: ")
     cycles.add_word(parser)
     parser.add_argument("--only", choices=tuple(network_load.COUNTS), help="of --network with --svg: one of the two pictures, the flits or the waits")
     parser.add_argument("--top", metavar="N", type=most, help="how many channels to name; 10 if not given")
@@ -194,10 +192,11 @@ def words() -> command.Parser:
 def work() -> str:
     """What the tool prints."""
     given = words().parse_args()
-    if given.top is not None and (given.svg or given.histogram):
-        raise command.WrongWords(f"--top is of no use with --{'svg' if given.svg else 'histogram'} (--help says more)")
-    if given.width and not (given.svg or given.histogram):
-        raise command.WrongWords("--width is of use with --svg and --histogram alone (--help says more)")
+    picture = next((it for it in ("svg", "histogram", "distribution") if getattr(given, it)), None)
+    if given.top is not None and picture:
+        raise command.WrongWords(f"--top is of no use with --{picture} (--help says more)")
+    if given.width and not picture:
+        raise command.WrongWords("--width is of use with --svg, --histogram and --distribution alone (--help says more)")
     if given.only and not (given.svg and given.network):
         raise command.WrongWords("--only is of use with --network and --svg alone (--help says more)")
     schedule_runs.refuse_network_words(given)
@@ -208,6 +207,6 @@ def work() -> str:
     made = figures(texts, top, given.cycle)
     if given.json:
         return json.dumps(made, indent=2) + "\n"
-    if given.histogram:
-        return histograms(made, given.width)
+    if given.histogram or given.distribution:
+        return drawn_times(made, given.width, given.distribution)
     return channel_load.picture(made, replay.Machine(texts.case).shape, given.width, TOOL) if given.svg else table(made)

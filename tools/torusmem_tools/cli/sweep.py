@@ -157,6 +157,8 @@ def words() -> command.Parser:
     what.add_argument("--shape", metavar="RADIX[xRADIX..]", type=radices_of, action="append", help=shape)
     network = "the text of a network, in place of a machine; may be given more than once, too"
     what.add_argument("--network", metavar="NETWORK", action="append", help=network)
+    read = "with --svg: a file of what --json printed of loads, whose curves are drawn anew; may be given more than once, too"
+    what.add_argument("--read", metavar="FILE", action="append", help=read)
     usual = f"if not given all but {' and '.join(traffic_patterns.BY_BITS)}, of a network uniform"
     traffic = f"one of {', '.join(traffic_patterns.PATTERNS)}; may be given more than once; {usual}"
     add("traffic", "PATTERN", choices=traffic_patterns.PATTERNS, action="append", help=traffic)
@@ -200,10 +202,13 @@ def points_of(given: Any) -> Iterator[Point]:
 def asked() -> Any:
     """What the command line asks for; refuses words that are of no use together."""
     given = words().parse_args()
-    idle = ("length", "digits", "burst", "hot", "to", "matrix", "arbiter", *router_rules.OPTIONS) if given.shape else ("tags", "stores", "rounds_in_order")
-    for name in idle:
+    of_networks, of_machines = ("length", "digits", "burst", "hot", "to", "matrix", "arbiter", *router_rules.OPTIONS), ("tags", "stores", "rounds_in_order")
+    way = next(it for it in ("shape", "network", "read") if getattr(given, it))
+    for name in {"shape": of_networks, "network": of_machines, "read": (*of_networks, *of_machines, "traffic", "loads", "saturation")}[way]:
         if getattr(given, name) is not None and getattr(given, name) is not False:
-            raise command.WrongWords(f"--{name.replace('_', '-')} is of no use with --{'shape' if given.shape else 'network'} (--help says more)")
+            raise command.WrongWords(f"--{name.replace('_', '-')} is of no use with --{way} (--help says more)")
+    if given.read and not given.svg:
+        raise command.WrongWords("--read is of use with --svg alone (--help says more)")
     for name in ("loads", "svg"):
         if given.saturation and getattr(given, name):
             raise command.WrongWords(f"--{name} is of no use with --saturation (--help says more)")
@@ -216,14 +221,31 @@ def named(rows: list[Row], given: Any) -> list[Row]:
     return [{("network" if key == "shape" and given.network else key): it for key, it in row.items()} for row in rows]
 
 
-def lengths_said(lengths: tuple[traffic_draw.Share, ...] | None) -> str:
-    """The lengths of packets, as a picture names them."""
-    return " or ".join(str(it) for it, _ in lengths or traffic_draw.Demand("uniform").lengths)
+def read_rows(path: str) -> list[Row]:
+    """The rows that --json printed, in a file."""
+    try:
+        rows = json.loads(command.contents(path))
+        return [{("shape" if key == "network" else key): it for key, it in row.items()} for row in rows if row["latency"] >= row["offered"] >= 0 and row["unit"]]
+    except (ValueError, KeyError, TypeError, AttributeError):
+        raise command.Refusal(f"{path} isn't what sweep --json prints of loads") from None
+
+
+def plot(rows: list[Row], given: Any, words: str) -> str:
+    """The curves of some rows."""
+    is_network, unit = rows[0]["length"] is not None, rows[0]["unit"]
+    axis = f"offered, {'packets per sender' if is_network else 'operations per tile'} and {unit}"
+    said = f"packets of {rows[0]['length']} flit{'s' * (rows[0]['length'] != '1')}, depth {rows[0]['depth']}" if is_network else words
+    return curves.plot(rows, given.width, said, axis, unit)
 
 
 def work() -> str:
     """What the tool prints."""
     given = asked()
+    if given.read:
+        rows = [row for path in given.read for row in read_rows(path)]
+        if not rows:
+            raise command.Refusal(f"{given.read[0]} has no load")
+        return plot(rows, given, f"depth {rows[0]['depth']}")
     for it in points_of(given):
         # (what is refused is refused ahead of all runs, and they need not read the networks again)
         swept.zero_load(it)
@@ -241,10 +263,5 @@ def work() -> str:
         return csv(named(rows, given))
     if not given.svg:
         return table(named(rows, given))
-    unit = cycles.unit(given.cycle)
-    if given.network:
-        said = f"packets of {lengths_said(given.length)} flits, depth {given.depth}"
-        return curves.plot(rows, given.width, said, f"offered, packets per sender and {unit}", unit)
     rounds, stores = "rounds in order" if given.rounds_in_order else "clocked rounds", STORES if given.stores is None else given.stores
-    said = f"{rounds}, {stores} % stores, depth {given.depth}, {given.tags or TAGS} tags"
-    return curves.plot(rows, given.width, said, f"offered, operations per tile and {unit}", unit)
+    return plot(rows, given, f"{rounds}, {stores} % stores, depth {given.depth}, {given.tags or TAGS} tags")

@@ -2,7 +2,7 @@
 from __future__ import annotations
 
 import itertools
-from typing import Any, Dict, Iterator
+from typing import Any, Dict, Iterator, NamedTuple, Optional
 
 from torusmem_tools.draw import palette, svg_text
 from torusmem_tools.draw.paper import Paper
@@ -14,8 +14,16 @@ COLOURS.update({"bit-reverse": palette.GREEN, "shuffle": palette.VERMILLION, "pe
 MARKS = {"uniform": "disc", "transpose": "square", "bit-complement": "up", "neighbour": "diamond", "tornado": "down", "hot-spot": "cross"}
 MARKS.update({"bit-reverse": "square", "shuffle": "disc", "permutation": "up", "matrix": "diamond"})
 DASHES = (None, "5 2", "1.5 2", "7 2 1.5 2")
-SIGNS = ("hollow: saturated; at the top edge: above it", "bars: 95 % intervals over the seeds", "short thick line at the left: latency without load")
+SIGNS = ("hollow: saturated; a latency ends at its first such load", "bars: 95 % intervals over the seeds", "short thick line at the left: latency without load")
 Row = Dict[str, Any]
+
+
+class Look(NamedTuple):
+    """The colour, the mark and the dashes of a curve."""
+
+    colour: str
+    mark: str
+    dashes: Optional[str]
 
 
 def round_step(most: float, wanted: int) -> float:
@@ -42,6 +50,11 @@ class Panel:
         low = self.top + self.high
         return self.left + self.wide * x / self.ends[0], max(self.top, low - self.high * y / self.ends[1])
 
+    def cut(self, before: Point, last: Point) -> Point:
+        """The place of a point; of one above the panel where the line from the one before leaves it."""
+        part = 1.0 if last[1] <= self.ends[1] or last[1] <= before[1] else max(0.0, (self.ends[1] - before[1]) / (last[1] - before[1]))
+        return self.at(before[0] + part * (last[0] - before[0]), last[1])
+
     def axes(self, name: str, has_numbers: bool) -> Iterator[str]:
         """The lines, the numbers and the name of the axes; the numbers below only where they are wanted."""
         low, right, size = self.top + self.high, self.left + self.wide, self.letters
@@ -65,12 +78,26 @@ def tooltip(row: Row) -> str:
     return f"{text}, latency {row['latency']:.2f} +- {row['latency_within']:.2f}" + (", saturated" if row["saturated"] else "")
 
 
-def curve(panel: Panel, rows: list[Row], key: str, dashes: str | None) -> str:
+def looks_of(curves: list[list[Row]]) -> list[Look]:
+    """The looks of curves: colours and marks tell patterns, and dashes shapes; of one pattern all three tell shapes."""
+    shapes, patterns = (list(dict.fromkeys(rows[0][key] for rows in curves)) for key in ("shape", "traffic"))
+    found = []
+    for rows in curves:
+        number = shapes.index(rows[0]["shape"])
+        like = rows[0]["traffic"] if len(patterns) > 1 else list(MARKS)[number % 6]
+        found.append(Look(COLOURS[like], MARKS[like], DASHES[number % len(DASHES)]))
+    return found
+
+
+def curve(panel: Panel, rows: list[Row], key: str, look: Look) -> str:
     """The loads of a shape and a pattern: a line, bars of the 95 % intervals, and marks."""
-    traffic, size = rows[0]["traffic"], 0.3 * panel.letters
-    colour = COLOURS[traffic]
-    ends = [panel.at(it["offered"], it[key]) for it in rows]
-    line: Row = {"fill": "none", "stroke": colour, "stroke_width": 0.16 * panel.letters, "stroke_dasharray": dashes}
+    colour, size = look.colour, 0.3 * panel.letters
+    if key == "latency":
+        calm = next((at for at, it in enumerate(rows) if it["saturated"]), len(rows))
+        rows = rows[: calm + 1]
+    points = [(it["offered"], it[key]) for it in rows]
+    ends = [panel.cut(one, other) for one, other in zip([(0.0, rows[0]["zero_load"] or points[0][1]), *points], points)]
+    line: Row = {"fill": "none", "stroke": colour, "stroke_width": 0.16 * panel.letters, "stroke_dasharray": look.dashes}
     parts = [svg_text.element("path", d=svg_text.path(ends), **line)]
     if key == "latency" and rows[0]["zero_load"] is not None:
         x, y = panel.at(0, rows[0]["zero_load"])
@@ -78,20 +105,20 @@ def curve(panel: Panel, rows: list[Row], key: str, dashes: str | None) -> str:
     for it, (x, y) in zip(rows, ends):
         high, low = (panel.at(0, it[key] + by * it[f"{key}_within"])[1] for by in (1, -1))
         bar = svg_text.element("path", d=svg_text.path([(x, high), (x, min(low, panel.top + panel.high))]), stroke=colour, stroke_width=0.14 * panel.letters)
-        parts.append(svg_text.group([svg_text.title(tooltip(it)), bar, palette.mark(MARKS[traffic], x, y, size, colour, not it["saturated"])]))
+        bars = [] if key == "latency" and it["saturated"] else [bar]
+        parts.append(svg_text.group([svg_text.title(tooltip(it)), *bars, palette.mark(look.mark, x, y, size, colour, not it["saturated"])]))
     return svg_text.group(parts)
 
 
-def legend(curves: list[list[Row]], dashes: dict[str, str | None], place: Point, wide: float, letters: float) -> tuple[list[str], float]:
+def legend(curves: list[list[Row]], looks: list[Look], place: Point, wide: float, letters: float) -> tuple[list[str], float]:
     """A line for each curve, in columns, and the signs below; and how far down it goes."""
     parts, columns = [], max(1, int(wide // (16 * letters)))
-    for at, rows in enumerate(curves):
+    for at, (rows, look) in enumerate(zip(curves, looks)):
         x, y = place[0] + at % columns * wide / columns, place[1] + at // columns * 1.6 * letters
-        colour, traffic = COLOURS[rows[0]["traffic"]], rows[0]["traffic"]
-        line = {"stroke": colour, "stroke_width": 0.16 * letters, "stroke_dasharray": dashes[rows[0]["shape"]]}
+        line = {"stroke": look.colour, "stroke_width": 0.16 * letters, "stroke_dasharray": look.dashes}
         parts.append(svg_text.element("path", d=svg_text.path([(x, y - 0.35 * letters), (x + 3 * letters, y - 0.35 * letters)]), **line))
-        parts.append(palette.mark(MARKS[traffic], x + 1.5 * letters, y - 0.35 * letters, 0.3 * letters, colour, True))
-        parts.append(svg_text.text(x + 3.5 * letters, y, f"{rows[0]['shape']} {traffic}", letters))
+        parts.append(palette.mark(look.mark, x + 1.5 * letters, y - 0.35 * letters, 0.3 * letters, look.colour, True))
+        parts.append(svg_text.text(x + 3.5 * letters, y, f"{rows[0]['shape']} {rows[0]['traffic']}", letters))
     low = place[1] + -(-len(curves) // columns) * 1.6 * letters
     for text in SIGNS:
         parts.append(svg_text.text(place[0], low, text, letters))
@@ -102,9 +129,8 @@ def legend(curves: list[list[Row]], dashes: dict[str, str | None], place: Point,
 def plot(rows: list[Row], paper: Paper, words: str, axis: str, unit: str) -> str:
     """Both panels with all curves, and the legend."""
     wide, letters = paper.wide, paper.letters()
-    shapes = list(dict.fromkeys(it["shape"] for it in rows))
-    dashes = {it: DASHES[at % len(DASHES)] for at, it in enumerate(shapes)}
     curves = [list(of) for _, of in itertools.groupby(rows, lambda it: (it["shape"], it["traffic"]))]
+    looks = looks_of(curves)
     calm = [it["latency"] for it in rows if not it["saturated"]] or [it["latency"] for it in rows]
     high = 1.6 * max([*calm, *(it["zero_load"] or 0 for it in rows)])
     left, right, most = 4.6 * letters, 1.2 * letters, max(it["offered"] for it in rows)
@@ -113,8 +139,8 @@ def plot(rows: list[Row], paper: Paper, words: str, axis: str, unit: str) -> str
     lower = Panel((left, upper.top + upper.high + 1.8 * letters, room, 0.32 * room), (most, max(it["accepted"] for it in rows) * 1.05), letters)
     parts = [svg_text.text(left, 1.5 * letters, words, letters), *upper.axes(f"latency, {unit}s", False), *lower.axes("accepted", True)]
     for panel, key in ((upper, "latency"), (lower, "accepted")):
-        parts += [curve(panel, of, key, dashes[of[0]["shape"]]) for of in curves]
+        parts += [curve(panel, of, key, look) for of, look in zip(curves, looks)]
     low = lower.top + lower.high + 3.2 * letters
     parts.append(svg_text.text(left + room / 2, low, axis, letters, text_anchor="middle"))
-    more, low = legend(curves, dashes, (left, low + 2 * letters), room, letters)
+    more, low = legend(curves, looks, (left, low + 2 * letters), room, letters)
     return svg_text.svg(wide, low, [*parts, *more], unit=paper.unit)

@@ -10,7 +10,8 @@ from torusmem_tools.draw.channel_load import colour, step_of
 from torusmem_tools.draw.channel_marks import name_of
 from torusmem_tools.draw.diagram import Diagram, Marks
 from torusmem_tools.draw.diagram_fit import diagram
-from torusmem_tools.draw.histogram import drawn_bars, summary_of
+from torusmem_tools.draw.distribution import drawn_all
+from torusmem_tools.draw.histogram import summary_of
 from torusmem_tools.draw.network_picture import COLUMN, MARGIN, PAGE
 from torusmem_tools.draw.paper import Paper
 from torusmem_tools.draw.router_ends import Plan, plan_of
@@ -134,20 +135,15 @@ def table(made: Row) -> str:
     return "\n".join([*lines, "", *aligned([["hottest channels", *COUNTS], *hottest])]) + "\n"
 
 
-def histograms(made: Row, given: Optional[Paper]) -> str:
-    """The histograms of the times of all packets that are delivered."""
-    on = given or Paper(730)
+def drawn_times(made: Row, given: Optional[Paper], is_distribution: bool) -> str:
+    """The histograms of the times of all packets that are delivered, or their distribution functions."""
     of = [it for it in made["runs"] if it["delivered"] is not None]
     if not of:
         raise Refusal("no packet is delivered, so that there are no times to draw")
     said = f"{len(made['channels'])} channels: {len(of)} packets"
-    parts = [svg_text.text(12, 24, said, 11 if given else 14, font_weight="bold")]
-    ways: Tuple[Tuple[str, Callable[[Row], Any]], ...]
-    ways = (("wait at the sender", lambda it: it["begun"] - it["round"]), ("from begun to delivered", lambda it: it["delivered"] - it["begun"] + 1),
-            ("latency", lambda it: it["delivered"] - it["round"] + 1))
-    for at, (heading, time) in enumerate(ways):
-        parts += drawn_bars([time(it) for it in of], heading, made["unit"], 36 + 220 * at, on.room() - 30, 11 if given else 13, "packets")
-    return on.svg("load", on.room(), 36 + 220 * len(ways), parts)
+    times = [("wait at the sender", [it["begun"] - it["round"] for it in of]),
+             ("from begun to delivered", [it["delivered"] - it["begun"] + 1 for it in of]), ("latency", [it["delivered"] - it["round"] + 1 for it in of])]
+    return drawn_all(times, said, made["unit"], "packets", given, is_distribution)
 
 
 def tooltips(net: Network, plan: Plan, made: Row) -> Dict[int, str]:

@@ -6,6 +6,7 @@ from dataclasses import replace
 from typing import Any, Dict, List, Optional, Tuple, Union
 
 from torusmem_tools.model import offered_load, offered_packets
+from torusmem_tools.model.cycles import unit
 
 Point = Union[offered_load.Point, offered_packets.Point]
 Row = Dict[str, Any]
@@ -80,4 +81,10 @@ def row_of(point: Point, found: List[offered_load.Found]) -> Row:
     row.update(seeds=len(found), zero_load=zero and round(zero, 2), saturated=is_high or drained < len(found))
     least, most = min(found, key=lambda it: it.least), max(it.most for it in found)
     row.update(least=round(least.least, 5), most=round(most, 5), longest=max(it.longest for it in found))
-    return {**row, "worst": least.worst, "by": maker(point)}
+    lengths = lengths_said(point) if isinstance(point, offered_packets.Point) else None
+    return {**row, "worst": least.worst, "by": maker(point), "length": lengths, "depth": point.depth, "unit": unit(point.cycle)}
+
+
+def lengths_said(point: offered_packets.Point) -> str:
+    """The lengths of packets, as a picture names them."""
+    return " or ".join(str(it) for it, _ in point.demand.lengths)
