@@ -53,6 +53,7 @@ static void every_call_says_empty(torusmem_machine *m) {
   MUST(says(torusmem_round(m), TORUSMEM_EMPTY, 0));
   MUST(says(torusmem_finish(m), TORUSMEM_EMPTY, 0));
   MUST(says(torusmem_clocked_round(m, 0), TORUSMEM_EMPTY, 0) && says(torusmem_finish_clocked(m), TORUSMEM_EMPTY, 0));
+  MUST(says(torusmem_fair_round(m), TORUSMEM_EMPTY, 0) && says(torusmem_fair_rounds(m, 1), TORUSMEM_EMPTY, 0));
   MUST(says(torusmem_append(m, 0, TORUSMEM_LOAD, 0, 0, 0, 0), TORUSMEM_EMPTY, 0));
   MUST(says(torusmem_ask(m, 0, TORUSMEM_LOAD, 0, 0, 0, 0), TORUSMEM_EMPTY, 0));
   MUST(torusmem_answer_of(m, 0, 0).code == TORUSMEM_EMPTY);
@@ -804,7 +805,7 @@ static void memory_of_a_watch_stays(void) {
   MUST(live == 0);
 }
 
-/* Clocked rounds: of the script's store and its load behind a fence, each over one hop, each takes 4 + 2 * 4 + 5. */
+/* Clocked rounds, also fair ones: of the script's store and its load behind a fence, each over one hop, each takes 4 + 2 * 4 + 5. */
 static void clocked_rounds(void) {
   torusmem_machine m = TORUSMEM_MACHINE_INIT;
   uint64_t turn = 0;
@@ -816,6 +817,10 @@ static void clocked_rounds(void) {
     MUST(says(torusmem_clocked_round(&m, turn), TORUSMEM_OK, 0));
   }
   MUST(turn == 34);
+  torusmem_free(&m);
+  MUST(says(load(&m), TORUSMEM_OK, 0) && says(torusmem_fair_round(&m), TORUSMEM_OK, 0));
+  MUST(says(torusmem_fair_rounds(&m, 16), TORUSMEM_OK, 16) && says(torusmem_finished(&m), TORUSMEM_OK, 0));
+  MUST(says(torusmem_fair_rounds(&m, UINT64_MAX), TORUSMEM_OK, 17) && reports_well(&m));
   torusmem_free(&m);
   MUST(live == 0);
 }
@@ -1171,6 +1176,11 @@ static void steps(void) {
   before = uses_of_memory();
   MUST(says(torusmem_clocked_round(&m, 0), TORUSMEM_OK, 0) && uses_of_memory() == before);
   MUST(torusmem_finish_clocked(&m).code == TORUSMEM_OK && uses_of_memory() == before);
+  torusmem_free(&m);
+  MUST(says(load(&m), TORUSMEM_OK, 0));
+  before = uses_of_memory();
+  MUST(says(torusmem_fair_round(&m), TORUSMEM_OK, 0) && uses_of_memory() == before);
+  MUST(torusmem_fair_rounds(&m, UINT64_MAX).code == TORUSMEM_OK && uses_of_memory() == before);
   torusmem_free(&m);
   MUST(!m.full && live == 0);
 }

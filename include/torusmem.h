@@ -275,6 +275,18 @@ torusmem_outcome torusmem_run(torusmem_machine *m, const torusmem_attempt *attem
 torusmem_outcome torusmem_enabled(torusmem_machine *m, uint32_t agent, uint32_t choice, uint32_t number)
     TORUSMEM_RESULT;
 
+/* ROUNDS. Plain rounds (torusmem_round) and turned ones (torusmem_clocked_round) starve: while other tiles go on asking, an
+   operation may wait for ever. Fair rounds don't, so a host takes those. */
+
+/* Makes one fair round: a clocked round, in which of the heads that ask for an output of a router the one goes first whose
+   operation was issued first. Where one has been out for more than B fair rounds, a guard lets none begin; B is
+   241 * tiles * tags. So each is answered within 2 * B + 2 * tiles + 1 fair rounds, whatever is asked meanwhile. OK,
+   value 1: the guard held back what would have begun in this round; value 0: it didn't; EMPTY. */
+torusmem_outcome torusmem_fair_round(torusmem_machine *m);
+
+/* Makes fair rounds until every script is finished, at most so many. OK, value: how many; EMPTY. */
+torusmem_outcome torusmem_fair_rounds(torusmem_machine *m, uint64_t most);
+
 /* Makes one round: each choice of each agent is attempted once, in order. OK, value 0; EMPTY. */
 torusmem_outcome torusmem_round(torusmem_machine *m);
 
@@ -283,7 +295,7 @@ torusmem_outcome torusmem_finish(torusmem_machine *m);
 
 /* Makes one clocked round: each choice that is enabled now is attempted once, in the order of a round, so that a flit goes
    one stage at most. The puts of each router begin at input turn mod p, where p is the number of its inputs, and then come
-   those before it: give the number of rounds so far. OK, value 0; EMPTY. */
+   those before it: give the number of rounds so far. Such rounds starve. OK, value 0; EMPTY. */
 torusmem_outcome torusmem_clocked_round(torusmem_machine *m, uint64_t turn);
 
 /* Makes clocked rounds, with the turns from 0 on, until every script is finished. OK, value: how many rounds, the least
@@ -1000,6 +1012,9 @@ static inline void torusmem_watch_end_marked(torusmem_watch *w) {
 #define torusmem_enabled(m, ...) torusmem_left(torusmem_enabled(TORUSMEM_MACHINE(m, "torusmem_enabled"), __VA_ARGS__))
 #define torusmem_round(m) torusmem_left(torusmem_round(TORUSMEM_MACHINE(m, "torusmem_round")))
 #define torusmem_finish(m) torusmem_left(torusmem_finish(TORUSMEM_MACHINE(m, "torusmem_finish")))
+#define torusmem_fair_round(m) torusmem_left(torusmem_fair_round(TORUSMEM_MACHINE(m, "torusmem_fair_round")))
+#define torusmem_fair_rounds(m, ...) \
+  torusmem_left(torusmem_fair_rounds(TORUSMEM_MACHINE(m, "torusmem_fair_rounds"), __VA_ARGS__))
 #define torusmem_clocked_round(m, ...) \
   torusmem_left(torusmem_clocked_round(TORUSMEM_MACHINE(m, "torusmem_clocked_round"), __VA_ARGS__))
 #define torusmem_finish_clocked(m) \

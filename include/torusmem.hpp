@@ -142,6 +142,10 @@ class machine {
   }
   void round() { granted("round", torusmem_round(&held_)); }
   uint64_t finish() { return granted("finish", torusmem_finish(&held_)); }
+  bool fair_round() { return granted("fair_round", torusmem_fair_round(&held_)) == 1; }
+  uint64_t fair_rounds(uint64_t most = UINT64_MAX) {
+    return granted("fair_rounds", torusmem_fair_rounds(&held_, most));
+  }
   void clocked_round(uint64_t turn) { granted("clocked_round", torusmem_clocked_round(&held_, turn)); }
   uint64_t finish_clocked() { return granted("finish_clocked", torusmem_finish_clocked(&held_)); }
 

@@ -28,7 +28,7 @@ def main():
     machine = Machine.read(*sys.argv[1:3])
     memory, served = machine.words(), 0
     while not machine.finished:
-        machine.round()
+        machine.fair_round()
         for row in machine.order(served):
             entry = machine.entries(row.bank, row.place)[0]
             old = memory[entry.address]

@@ -3,7 +3,7 @@
    A task is a board with some queens; it makes a task for each way to place one more. Each processor has a deque of
    tasks in shared words: it puts and takes at the bottom, and where it has none it steals at the top of another's, by
    `cas`. What it asks next follows from what it was answered last: torusmem_ask gives it one operation at a time,
-   torusmem_round moves the machine on for all of them, and torusmem_answer_of has the answer once it is there.
+   torusmem_fair_round moves the machine on for all of them, and torusmem_answer_of has the answer once it is there.
 
    Beside the machine stands a plain memory, on whose words each operation is done when its bank has served it. All
    replies and words must be the same in both, and each machine's report a good one. A processor has at most 4096
@@ -224,7 +224,7 @@ static bool run(runtime *r) {
       is_waiting |= p->waits;
     }
     if (!is_waiting) return true;
-    if (!granted("round", torusmem_round(&r->machine))) return false;
+    if (!granted("fair_round", torusmem_fair_round(&r->machine))) return false;
     for (uint32_t bank = 0; bank < TILES; bank++)
       if (!follow(r, bank)) return false;
     for (processor *p = r->processors; p < end; p++)

@@ -1,6 +1,6 @@
 // A memory for SystemC: a TLM-2.0 target with a socket for each processor of a torusmem machine.
 //
-// At each rising edge of its clock the machine makes a round. A transaction of eight bytes is a load or a store of the
+// At each rising edge of its clock the machine makes a fair round. A transaction of eight bytes is a load or a store of the
 // word at its address, which counts bytes; with an extension Atomic it is any operation of torusmem.h. It ends at the edge
 // at which the machine has answered it: b_transport waits for that, nb_transport takes transactions while others are out,
 // and answers them in the order of the machine's answers.
@@ -105,7 +105,7 @@ class Memory : public sc_core::sc_module {
   }
 
   void edge() {
-    machine_.round();
+    machine_.fair_round();
     rounds_++;
     for (uint32_t processor = 0; processor < lanes_.size(); processor++) {
       Lane &lane = lanes_[processor];

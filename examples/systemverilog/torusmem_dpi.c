@@ -11,6 +11,7 @@ void *torusmem_dpi_open(const char *machine, const char *scripts);
 void torusmem_dpi_close(void *m);
 int torusmem_dpi_ask(void *m, uint32_t processor, uint32_t operation, uint32_t address, uint64_t first, uint64_t second);
 void torusmem_dpi_round(void *m);
+int torusmem_dpi_fair_round(void *m);
 int torusmem_dpi_answer(void *m, uint32_t processor, uint32_t index, uint64_t *old);
 uint64_t torusmem_dpi_word(void *m, uint32_t address);
 void *torusmem_dpi_watch(uint32_t words);
@@ -47,6 +48,9 @@ int torusmem_dpi_ask(void *m, uint32_t processor, uint32_t operation, uint32_t a
 }
 
 void torusmem_dpi_round(void *m) { torusmem_round(m); }
+
+/* 1: the guard held back what would have begun; 0: it didn't. */
+int torusmem_dpi_fair_round(void *m) { return (int)torusmem_fair_round(m).value; }
 
 /* 1: answered; 0: not yet. */
 int torusmem_dpi_answer(void *m, uint32_t processor, uint32_t index, uint64_t *old) {

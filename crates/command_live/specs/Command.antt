@@ -17,14 +17,14 @@ ask_of tiles memory (processor ∷ rest) =
     line_for tiles memory processor rest >>= λ found. Ok (command.Ask (found.0) (found.1))
 
 -- a number of rounds is 1 to 1000000
-abbrev pub rounds_asked : ℕ → Result Command Fault
-rounds_asked n = if nat_le 1 n && nat_le n 1000000 then Ok (command.Rounds n) else Err fault.Range
+abbrev pub rounds_asked : ℕ → Result ℕ Fault
+rounds_asked n = if nat_le 1 n && nat_le n 1000000 then Ok n else Err fault.Range
 
--- what stands behind `round`: their number, or nothing for one
-abbrev pub round_of : List (List ℕ) → Result Command Fault
-round_of [] = Ok (command.Rounds 1)
-round_of (n ∷ []) = an_index n >>= rounds_asked
-round_of (n ∷ m ∷ more) = Err fault.Line
+-- how many stand behind `round` or `clocked`: their number, or nothing for one
+abbrev pub round_count : List (List ℕ) → Result ℕ Fault
+round_count [] = Ok 1
+round_count (n ∷ []) = an_index n >>= rounds_asked
+round_count (n ∷ m ∷ more) = Err fault.Line
 
 -- what stands behind `wait`: a processor, and the index of one of its operations
 abbrev pub wait_of : List (List ℕ) → Result Command Fault
@@ -48,14 +48,17 @@ load_digits (x ∷ y ∷ more) = Err fault.Line
 abbrev pub named : ℕ → ℕ → List ℕ → List (List ℕ) → Result Command Fault
 named tiles memory keyword rest =
     if bytes_eq keyword (codes "ask") then ask_of tiles memory rest
-    else (if bytes_eq keyword (codes "round") then round_of rest
+    else (if bytes_eq keyword (codes "round")
+    then (round_count rest >>= λ n. Ok (command.Rounds n))
+    else (if bytes_eq keyword (codes "clocked")
+    then (round_count rest >>= λ n. Ok (command.Clocked n))
     else (if bytes_eq keyword (codes "wait") then wait_of rest
     else (if bytes_eq keyword (codes "finish") then alone command.Finish rest
     else (if bytes_eq keyword (codes "report") then alone command.Report rest
     else (if bytes_eq keyword (codes "save") then alone command.Save rest
     else (if bytes_eq keyword (codes "load") then load_digits rest
     else (if bytes_eq keyword (codes "quit") then alone command.Quit rest
-    else Err fault.Line)))))))
+    else Err fault.Line))))))))
 
 -- a line of another shape is a bad one; one of the right shape may have a fault
 abbrev pub command_from : Result Command Fault → Command

@@ -15,6 +15,7 @@ use Rattle.core_laws.specs.Handed.{handed, moves_kept, refused}
 use Rattle.core_laws.specs.Machine.{IsAfter, RunsOn, core_after}
 use Rattle.machine_asked.specs.Rounds.{rounds_of, NeedsRounds}
 use Rattle.machine_asked.specs.Asked.{Asked, IsNumberedLine, NeedsToWait, answer_to, has_spin, index_asked, spins_with}
+use Rattle.machine_asked.specs.Asked.{AreFewestFair, fair_rounds_made, fair_rounds_of}
 use Rattle.machine_record.specs.declared.action.Action.TheVariants as action
 use Rattle.machine_record.specs.Machine.{KeepsLine, KeepsRecord, Recorded}
 use Rattle.command_live.specs.Records.{LoadsRecord, SavesKept}
@@ -32,6 +33,7 @@ pub record TakesLine (p : ℕ) (line : Line) (old new : Asked) (told : ToldLine)
   pub taken : refused old.core p line ≡ None
   pub state : new.core ≡ handed old.core p line
   pub spins : new.spins ≡ spins_with old.spins p line
+  pub guard : new.guard ≡ old.guard
   pub law : (l : Load) (steps : List Step) → IsAfter l old.core steps
       → IsAfter (load_with l p line) new.core (moves_kept l old.core p steps)
   pub answer : told ≡ reply.Asked p (index_asked old p line)
@@ -56,6 +58,7 @@ AsksMachine p line old new told =
 pub record MakesRounds (count : ℕ) (old new : Asked) (told : ToldLine) : Type 0 where
   pub state : new.core ≡ core_after old.core (rounds_of old.core.shape count)
   pub spins : new.spins ≡ old.spins
+  pub guard : new.guard ≡ old.guard
   pub runs_on : RunsOn old.core new.core (rounds_of old.core.shape count)
   pub answer : told ≡ reply.Rounds count
 
@@ -63,6 +66,16 @@ pub record MakesRounds (count : ℕ) (old new : Asked) (told : ToldLine) : Type 
 abbrev pub MakesKeptRounds : ℕ → Recorded → Recorded → ToldLine → Type 0
 MakesKeptRounds count old new told =
     MakesRounds count old.asked new.asked told × KeepsRecord (action.Rounds count) old new
+
+-- the machine makes the fewest fair rounds that finish every script, at most so many, and keeps them; the
+-- answer is their number
+pub record MakesKeptFair (most : ℕ) (old new : Recorded) (told : ToldLine) : Type 0 where
+  pub rounds : ℕ
+  pub fewest : AreFewestFair old.asked most rounds
+  pub made : new.asked ≡ fair_rounds_made old.asked rounds
+  pub runs_on : RunsOn old.asked.core new.asked.core (fair_rounds_of old.asked rounds)
+  pub kept : KeepsRecord (action.FairRounds rounds) old new
+  pub answer : told ≡ reply.Rounds rounds
 
 -- it makes the least number of rounds that finish every script, and keeps them
 pub record FinishesScripts (old new : Recorded) (told : ToldLine) : Type 0 where
@@ -83,6 +96,7 @@ pub record Waits (p index : ℕ) (old new : Recorded) (told : ToldLine) : Type 0
   pub needed : NeedsToWait old.asked.core p index rounds
   pub state : new.asked.core ≡ core_after old.asked.core (rounds_of old.asked.core.shape rounds)
   pub spins : new.asked.spins ≡ old.asked.spins
+  pub guard : new.asked.guard ≡ old.asked.guard
   pub runs_on : RunsOn old.asked.core new.asked.core (rounds_of old.asked.core.shape rounds)
   pub kept : KeepsRecord (action.Rounds rounds) old new
   pub answer : told ≡ told_of_wait p index (answer_to new.asked.core p index)
@@ -121,6 +135,7 @@ abbrev pub Obeys : {A : Type 0} → Command → List ℕ → Recorded → Record
 Obeys command.Nothing digits old new said = TellsDialogue (Told reply.Nothing) old new said
 Obeys (command.Ask p line) digits old new said = IsLine (AsksMachine p line old new) said
 Obeys (command.Rounds count) digits old new said = IsLine (MakesKeptRounds count old new) said
+Obeys (command.Clocked most) digits old new said = IsLine (MakesKeptFair most old new) said
 Obeys (command.Wait p index) digits old new said = IsLine (WaitsFor p index old new) said
 Obeys command.Finish digits old new said = IsLine (FinishesScripts old new) said
 Obeys command.Report digits old new said = (new ≡ old) × Reports old.asked said

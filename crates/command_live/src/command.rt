@@ -10,6 +10,8 @@ pub enum Command {
     Ask(u32, Line),
     /// So many rounds, 1 to 1000000.
     Rounds(u32),
+    /// At most so many fair rounds, 1 to 1000000, until every script is finished.
+    Clocked(u32),
     /// The answer to the operation of a processor that has this index.
     Wait(u32, u32),
     /// Rounds until every script is finished.

@@ -29,6 +29,7 @@ fn goes_on(command: Command) -> bool
         Command::Nothing => true,
         Command::Ask(_, _) => true,
         Command::Rounds(_) => true,
+        Command::Clocked(_) => true,
         Command::Wait(_, _) => true,
         Command::Finish => true,
         Command::Report => true,

@@ -6,7 +6,8 @@ ghost use Rattle.hex.specs.Hex.{decode_of, encode_lower};
 ghost use Rattle.core_laws.specs.Machine.{RunsOn, core_after};
 ghost use Rattle.machine_asked.specs.Rounds.{rounds_of};
 ghost use Rattle.command_live.specs.Records.{IsTheLine, LoadsRecord, SavesKept, told_unrestored, told_unspelled};
-ghost use Rattle.command_live.specs.Obeying.{AsksMachine, MakesKeptRounds, Obeys, Reports, WaitsFor};
+ghost use Rattle.command_live.specs.Obeying.{AsksMachine, MakesKeptFair, MakesKeptRounds, Obeys};
+ghost use Rattle.command_live.specs.Obeying.{Reports, WaitsFor};
 
 use crate::said::Said;
 use crate::{Command, Told};
@@ -33,6 +34,13 @@ fn made<A: Allocator>(machine: &mut RecordedMachine<A>, count: u32) -> Told
 {
     machine.rounds(count);
     Told::Rounds(u64::from(count))
+}
+
+/// Makes fair rounds until every script is finished, at most so many.
+fn clocked<A: Allocator>(machine: &mut RecordedMachine<A>, most: u32) -> Told
+    ensures { MakesKeptFair most machine.old machine.new result }
+{
+    Told::Rounds(machine.fair_rounds(u64::from(most)))
 }
 
 /// Makes rounds until an operation has its answer, or every script is finished.
@@ -158,6 +166,7 @@ pub fn obey<A: Allocator + Copy>(
         Command::Nothing => Said::Told(Told::Nothing),
         Command::Ask(processor, line) => Said::Told(asked(machine, processor, line)),
         Command::Rounds(count) => Said::Told(made(machine, count)),
+        Command::Clocked(most) => Said::Told(clocked(machine, most)),
         Command::Wait(processor, index) => Said::Told(waited(machine, processor, index)),
         Command::Finish => Said::Told(Told::Rounds(machine.finish())),
         Command::Report => reported(alloc, machine),

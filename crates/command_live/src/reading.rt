@@ -2,8 +2,8 @@
 
 ghost use Rattle.std.specs.Prelude.{◌≡◌, map};
 ghost use Rattle.lexer.specs.Words.{first_words};
-ghost use Rattle.command_live.specs.Command.{alone, ask_of, command_from, command_of, load_digits, named, round_of};
-ghost use Rattle.command_live.specs.Command.{rounds_asked, second_in, wait_of};
+ghost use Rattle.command_live.specs.Command.{alone, ask_of, command_from, command_of, load_digits};
+ghost use Rattle.command_live.specs.Command.{named, round_count, rounds_asked, second_in, wait_of};
 
 use crate::command::Command;
 use lexer::first_words;
@@ -27,22 +27,22 @@ fn ask_of(words: &[&[u8]], tiles: u32, memory: u32) -> Result<Command, Fault>
 }
 
 /// A number of rounds.
-fn rounds_asked(count: u32) -> Result<Command, Fault>
+fn rounds_asked(count: u32) -> Result<u32, Fault>
     ensures { result ≡ rounds_asked count }
 {
     if 1 <= count && count <= MOST_ROUNDS {
-        Ok(Command::Rounds(count))
+        Ok(count)
     } else {
         Err(Fault::Range)
     }
 }
 
-/// What stands behind `round`.
-fn round_of(words: &[&[u8]]) -> Result<Command, Fault>
-    ensures { result ≡ round_of (map (λ word. word.now) words.now) }
+/// How many rounds are asked for behind `round` or `clocked`.
+fn round_count(words: &[&[u8]]) -> Result<u32, Fault>
+    ensures { result ≡ round_count (map (λ word. word.now) words.now) }
 {
     match words {
-        [] => Ok(Command::Rounds(1)),
+        [] => Ok(1),
         [count] => rounds_asked(an_index(count)?),
         [_, _, ..] => Err(Fault::Line),
     }
@@ -93,7 +93,10 @@ fn named(keyword: &[u8], rest: &[&[u8]], tiles: u32, memory: u32) -> Result<Comm
         return ask_of(rest, tiles, memory);
     }
     if keyword == b"round".as_slice() {
-        return round_of(rest);
+        return Ok(Command::Rounds(round_count(rest)?));
+    }
+    if keyword == b"clocked".as_slice() {
+        return Ok(Command::Clocked(round_count(rest)?));
     }
     if keyword == b"wait".as_slice() {
         return wait_of(rest);

@@ -4,5 +4,6 @@ pub mod Numbered
 pub mod Standing
 pub mod OneMore
 pub mod Waiting
+pub mod FairRounds
 pub mod Openings
 pub mod OneMemory

@@ -15,14 +15,16 @@ use Rattle.machine_parts.specs.Appended.{load_with, MayFollow}
 use Rattle.machine_parts.specs.Handed.{BringsWords, refused, moves_kept, handed}
 use Rattle.machine_parts.proofs.Handed.{taken}
 use Rattle.machine_parts.specs.Machine.{Core, IsAfter, RunsOn}
+use Rattle.fair_rounds.specs.Guard.{Guarding}
 use Rattle.machine_asked.specs.declared.asked.AskedMachine.TheInside.{Inside}
 use Rattle.machine_asked.specs.Asked.{Asked, IsAsked, IsNumberedLine, has_spin, index_asked, is_operation, is_spin, spins_with}
 use Rattle.machine_asked.specs.Inside.{IsAskedMachine}
 use Rattle.machine_asked.proofs.Numbered.{asked_is_numbered}
 
 -- further steps
-pub steps_on : (v : Asked) (new : Core) (more : List Step) → IsAsked v → RunsOn v.core new more → IsAsked (record { core = new; spins = v.spins })
-steps_on v new more h on = record { load = h.load; steps = h.steps ++ more; after = on h.load h.steps h.after; spins = h.spins }
+pub steps_on : (v : Asked) (guard : Guarding) (new : Core) (more : List Step) → IsAsked v → RunsOn v.core new more
+    → IsAsked (record { core = new; spins = v.spins; guard = guard })
+steps_on v guard new more h on = record { load = h.load; steps = h.steps ++ more; after = on h.load h.steps h.after; spins = h.spins }
 
 pub counts_on : (v : Asked) (counts : List ℕ) (new : Core) (more : List Step) → IsAsked v → RunsOn v.core new more → counts ≡ v.core.allowed
     → counts ≡ new.allowed
@@ -92,7 +94,8 @@ module _ (v : Asked) (p : ℕ) (line : Line) (h : IsAsked v) where
     flagged = ap (λ (b : Bool). b || is_spin line) (flag may.there) ∙ sym (spin_push (script_of scripts p) line)
 
     pub asked_with : (now : Core) (spins : List Bool) → spins ≡ spins_with v.spins p line
-        → IsAfter (load_with h.load p line) now (moves_kept h.load v.core p h.steps) → IsAsked (record { core = now; spins = spins })
+        → IsAfter (load_with h.load p line) now (moves_kept h.load v.core p h.steps)
+        → IsAsked (record { core = now; spins = spins; guard = v.guard })
     asked_with now spins is on = record {
       load = load_with h.load p line;
       steps = moves_kept h.load v.core p h.steps;

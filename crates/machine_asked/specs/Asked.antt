@@ -1,6 +1,6 @@
--- A machine that is asked for operations: which of its scripts have spins, and which index an
--- operation has that is asked.
-use Rattle.std.specs.Prelude.{◌≡◌, ℕ, ◌<◌, ◌==◌, ◌&&◌, ◌||◌, Bool, true, false, not, List, ◌++◌, map, take, length}
+-- A machine that is asked for operations: which of its scripts have spins, which index an operation has
+-- that is asked, and what its fair rounds make.
+use Rattle.std.specs.Prelude.{◌≡◌, ℕ, zero, suc, ◌<◌, ◌≤◌, ◌==◌, ◌&&◌, ◌||◌, Bool, true, false, not, List, [], ◌++◌, map, take, length}
 use Rattle.std.specs.Prelude.{Option, Some, None, is_some, option_and_then, slice_get, slice_set, slice_index_or}
 use Rattle.std.specs.Prelude.{if◌then◌else◌}
 use Rattle.std.specs.List.{find, list_any}
@@ -17,6 +17,9 @@ use Rattle.machine_parts.specs.Machine.{Core, IsAfter}
 use Rattle.machine_parts.specs.Machine.{all_finished, core_after}
 use Rattle.machine_parts.specs.Machine.{shown}
 use Rattle.machine_core.specs.Rounds.{rounds_of}
+use Rattle.machine_core.specs.Guarded.{guarded_round}
+use Rattle.machine_core.specs.Oldest.{oldest}
+use Rattle.fair_rounds.specs.Guard.{Guarding, holds, guard_after}
 
 -- a line is a spin: nobody can tell beforehand how many loads it makes
 abbrev pub is_spin : Line → Bool
@@ -33,10 +36,12 @@ is_operation first = true
 abbrev pub has_spin : List Line → Bool
 has_spin lines = list_any is_spin lines
 
--- a machine, and of each of its scripts whether it has a spin (this project's own format)
+-- a machine, of each of its scripts whether it has a spin, and the guard of its fair rounds (this
+-- project's own format)
 pub record Asked : Type 0 where
   pub core : Core
   pub spins : List Bool
+  pub guard : Guarding
 
 -- the machine stands where some steps lead from an accepted load, whose scripts have these spins
 pub record IsAsked (v : Asked) : Type 0 where
@@ -45,9 +50,37 @@ pub record IsAsked (v : Asked) : Type 0 where
   pub after : IsAfter load v.core steps
   pub spins : v.spins ≡ map has_spin load.scripts
 
--- in another state, with the same scripts
+-- in another state, with the same scripts and guard
 abbrev pub asked_in : Asked → Core → Asked
-asked_in v c = record { core = c; spins = v.spins }
+asked_in v c = record { core = c; spins = v.spins; guard = v.guard }
+
+-- the attempts of its next fair round: none begins an operation where the guard holds
+abbrev pub asked_attempts : Asked → List Step
+asked_attempts v = guarded_round oldest (holds v.guard v.core) v.core
+
+-- once it is made
+abbrev pub fair_made : Asked → Asked
+fair_made v = record {
+  core = core_after v.core (asked_attempts v);
+  spins = v.spins;
+  guard = guard_after v.guard v.core;
+}
+
+-- once so many are made, and the attempts of these, one after the other
+abbrev pub fair_rounds_made : Asked → ℕ → Asked
+fair_rounds_made v zero = v
+fair_rounds_made v (suc k) = fair_made (fair_rounds_made v k)
+
+abbrev pub fair_rounds_of : Asked → ℕ → List Step
+fair_rounds_of v zero = []
+fair_rounds_of v (suc k) = fair_rounds_of v k ++ asked_attempts (fair_rounds_made v k)
+
+-- so many fair rounds are the fewest that finish every script; where these are more than the most that
+-- are allowed, they are that many
+pub record AreFewestFair (v : Asked) (most k : ℕ) : Type 0 where
+  pub allowed : k ≤ most
+  pub unfinished : (j : ℕ) → j < k → all_finished (fair_rounds_made v j).core.state ≡ false
+  pub finished : k < most → all_finished (fair_rounds_made v k).core.state ≡ true
 
 -- which scripts have spins once processor p is handed a line
 abbrev pub spins_with : List Bool → ℕ → Line → List Bool

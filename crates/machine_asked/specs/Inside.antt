@@ -4,7 +4,7 @@ use Rattle.machine_asked.specs.declared.asked.AskedMachine.TheInside.{Inside}
 use Rattle.machine_asked.specs.Asked.{Asked, IsAsked}
 
 abbrev pub asked_of : {A : Type 0} → Inside A → Asked
-asked_of a = record { core = a.machine; spins = a.spins.items }
+asked_of a = record { core = a.machine; spins = a.spins.items; guard = a.guard }
 
 -- the counts, the depth and the tags are those of the machine, and it stands as it is asked
 pub record IsAskedMachine {A : Type 0} (a : Inside A) : Type 0 where

@@ -3,3 +3,4 @@ pub mod Asked
 pub mod Inside
 pub mod Opened
 pub mod GoingOn
+pub mod Hosts

@@ -17,10 +17,12 @@ ghost use Rattle.machine_parts.specs.ProgressMoves.{moves_left};
 ghost use Rattle.machine_parts.specs.Handed.{handed, moves_kept, refused};
 ghost use Rattle.machine_core.specs.Rounds.{NeedsRounds, rounds_of};
 ghost use Rattle.machine_core.specs.Loading.{HasLoaded, IsLoadFault, load_by};
-ghost use Rattle.machine_asked.specs.Asked.{IsAsked, IsNumberedLine, NeedsToWait, answer_to, has_spin, index_asked};
-ghost use Rattle.machine_asked.specs.Asked.{is_behind_spin, is_settled, spins_with};
+ghost use Rattle.fair_rounds.specs.Guard.{usual_guard};
+ghost use Rattle.machine_asked.specs.Asked.{IsAsked, IsNumberedLine, answer_to, has_spin, index_asked};
+ghost use Rattle.machine_asked.specs.Asked.{is_behind_spin, spins_with};
 
 use crate::flags::{count_more, counts_of, is_operation, mark_spin, spins_of};
+use fair_rounds::Guard;
 use machine_core::Machine;
 use machine_parts::brings_words;
 use one_order::Answer;
@@ -30,8 +32,8 @@ use std::marker::Model;
 use torus::{Fault, Step, Stepped};
 
 /// A machine whose scripts grow while it runs. Beside it stands of each script whether it has a spin and
-/// how many operations it makes at most, by which the index of an operation that is asked is known; and
-/// the depth and the tags that were loaded.
+/// how many operations it makes at most, by which the index of an operation that is asked is known; the
+/// depth and the tags that were loaded; and the guard of its fair rounds.
 #[derive(Drop)]
 pub struct AskedMachine<A: Allocator = Global> {
     pub(crate) machine: Machine<A>,
@@ -39,6 +41,7 @@ pub struct AskedMachine<A: Allocator = Global> {
     spins: Vec<bool, A>,
     depth: u32,
     tags: u32,
+    pub(crate) guard: Guard,
 }
 
 impl<A: Allocator> Model for AskedMachine<A> {
@@ -64,6 +67,7 @@ impl<A: Allocator + Copy> AskedMachine<A> {
         ensures spins { IfOk result
             (λ m. (l : Load) → load_by (lines machine.now) (lines scripts.now) ≡ Ok l
             → m.spins ≡ map has_spin l.scripts) }
+        ensures guard { IfOk result (λ m. m.guard ≡ usual_guard m.core) }
         ensures fault { IfErr result (IsLoadFault (load_by (lines machine.now) (lines scripts.now))) }
     {
         let machine = read_machine(alloc, machine)?;
@@ -78,13 +82,17 @@ impl<A: Allocator + Copy> AskedMachine<A> {
             return Err(out_of_memory());
         };
         match Machine::load(alloc, machine, scripts) {
-            Ok(machine) => Ok(AskedMachine {
-                machine,
-                counts,
-                spins,
-                depth,
-                tags,
-            }),
+            Ok(machine) => {
+                let guard = Guard::of(&machine);
+                Ok(AskedMachine {
+                    machine,
+                    counts,
+                    spins,
+                    depth,
+                    tags,
+                    guard,
+                })
+            }
             Err(fault) => Err(LineFault { fault, line: 0 }),
         }
     }
@@ -148,6 +156,7 @@ impl<A: Allocator> AskedMachine<A> {
         ensures step { Steps self.old.core self.new.core result step }
         ensures runs_on { RunsOn self.old.core self.new.core (step ∷ []) }
         ensures spins { self.new.spins ≡ self.old.spins }
+        ensures guard { self.new.guard ≡ self.old.guard }
     {
         self.machine.step(step)
     }
@@ -162,6 +171,7 @@ impl<A: Allocator> AskedMachine<A> {
             → MakesMove self.old.core (round self.old.core.shape) }
         ensures runs_on { RunsOn self.old.core self.new.core (round self.old.core.shape) }
         ensures spins { self.new.spins ≡ self.old.spins }
+        ensures guard { self.new.guard ≡ self.old.guard }
     {
         self.machine.round();
     }
@@ -180,6 +190,7 @@ impl<A: Allocator> AskedMachine<A> {
             → AreFinished (run_of l (before ++ rounds_of self.old.core.shape result))
             (length (before ++ rounds_of self.old.core.shape result)) l.scripts }
         ensures spins { self.new.spins ≡ self.old.spins }
+        ensures guard { self.new.guard ≡ self.old.guard }
     {
         self.machine.finish()
     }
@@ -190,32 +201,6 @@ impl<A: Allocator> AskedMachine<A> {
         ensures { result ≡ answer_to self.now.core processor index }
     {
         answer_of(self.machine.answers(processor)?, index)
-    }
-
-    /// Whether nobody has to wait for an operation: it is answered, or every script is finished.
-    fn is_settled(&self, processor: u32, index: u32) -> bool
-        ensures { result ≡ is_settled self.now.core processor index }
-    {
-        self.answer_to(processor, index).is_some() || self.machine.finished()
-    }
-
-    /// Makes rounds until the operation of a processor that has this index is answered, or every script is
-    /// finished, and answers how many: the least number that does.
-    pub fn wait(&mut self, processor: u32, index: u32) -> u64
-        ensures state { self.new.core
-            ≡ core_after self.old.core (rounds_of self.old.core.shape result) }
-        ensures needed { NeedsToWait self.old.core processor index result }
-        ensures runs_on { RunsOn self.old.core self.new.core
-            (rounds_of self.old.core.shape result) }
-        ensures spins { self.new.spins ≡ self.old.spins }
-    {
-        self.reached();
-        let mut rounds = 0;
-        while !self.is_settled(processor, index) {
-            self.round();
-            rounds += 1;
-        }
-        rounds
     }
 
     /// How many operations a processor's script makes at most; `None` exactly where there is no such
@@ -242,7 +227,8 @@ impl<A: Allocator> AskedMachine<A> {
     pub fn append(&mut self, processor: u32, line: Line) -> Result<(), Fault>
         ensures taken { OnOk result ((refused self.old.core processor line ≡ None)
             × (self.new.core ≡ handed self.old.core processor line)
-            × (self.new.spins ≡ spins_with self.old.spins processor line)) }
+            × (self.new.spins ≡ spins_with self.old.spins processor line)
+            × (self.new.guard ≡ self.old.guard)) }
         ensures law { OnOk result ((l : Load) (steps : List Step) → IsAfter l self.old.core steps
             → IsAfter (load_with l processor line) self.new.core
             (moves_kept l self.old.core processor steps)) }
@@ -267,7 +253,8 @@ impl<A: Allocator> AskedMachine<A> {
     pub fn ask(&mut self, processor: u32, line: Line) -> Result<Option<u32>, Fault>
         ensures taken { OnOk result ((refused self.old.core processor line ≡ None)
             × (self.new.core ≡ handed self.old.core processor line)
-            × (self.new.spins ≡ spins_with self.old.spins processor line)) }
+            × (self.new.spins ≡ spins_with self.old.spins processor line)
+            × (self.new.guard ≡ self.old.guard)) }
         ensures law { OnOk result ((l : Load) (steps : List Step) → IsAfter l self.old.core steps
             → IsAfter (load_with l processor line) self.new.core
             (moves_kept l self.old.core processor steps)) }

@@ -6,6 +6,7 @@ mod clocked;
 mod flags;
 pub mod laws;
 mod opening;
+mod wait;
 
 pub use asked::AskedMachine;
 pub use machine_core::Machine;

@@ -5,7 +5,7 @@ use Rattle.std.proofs.lemmas.Bool.{ltb-true}
 use Rattle.torus.specs.declared.step.Choice.{Choice}
 use Rattle.torus.specs.declared.step.Choice.TheVariants.{Send, Take, TakeFrom, Put, Credit, CreditOf, Serve, Done, Look}
 use Rattle.machine_record.specs.declared.action.Action.{Action}
-use Rattle.machine_record.specs.declared.action.Action.TheVariants.{Move, Rounds, Line, Clocked, ClockedRounds}
+use Rattle.machine_record.specs.declared.action.Action.TheVariants.{Move, Rounds, Line, Clocked, ClockedRounds, FairRounds}
 use Rattle.machine_record.specs.Action.{action_coded, action_number, action_of, choice_number, is_narrow, move_recorded, port_of}
 
 -- a kind, and the rest
@@ -53,3 +53,4 @@ number_back (Rounds count) narrow = of_parts count 9 (omega arith)
 number_back (Line number) narrow = of_parts number 10 (omega arith)
 number_back (Clocked turn) narrow = of_parts turn 11 (omega arith)
 number_back (ClockedRounds count) narrow = of_parts count 12 (omega arith)
+number_back (FairRounds count) narrow = of_parts count 13 (omega arith)

@@ -12,10 +12,10 @@ use Rattle.machine_parts.specs.Handed.{handed, refused}
 use Rattle.machine_parts.specs.Machine.{RunsOn, Steps, core_after}
 use Rattle.machine_core.specs.Rounds.{rounds_of}
 use Rattle.machine_core.specs.Clocked.{clocked_round, clocked_rounds}
-use Rattle.machine_asked.specs.Asked.{Asked, spins_with}
+use Rattle.machine_asked.specs.Asked.{Asked, fair_rounds_made, spins_with}
 use Rattle.machine_asked.proofs.Waiting.{on_after}
 use Rattle.machine_record.specs.declared.action.Action.{Action}
-use Rattle.machine_record.specs.declared.action.Action.TheVariants.{Move, Rounds, Clocked, ClockedRounds}
+use Rattle.machine_record.specs.declared.action.Action.TheVariants.{Move, Rounds, Clocked, ClockedRounds, FairRounds}
 use Rattle.machine_record.specs.declared.row.LineRow.{LineRow}
 use Rattle.machine_record.specs.Action.{action_number, is_narrow}
 use Rattle.machine_record.specs.Recording.{Recording, Room}
@@ -36,41 +36,46 @@ keeps_action old new room after v w a h did (inl kept) = subst (λ (k : Option R
 keeps_action old new room after v w a h did (inr ended) = subst (λ (k : Option Recording). RecordMakes k w) (sym ended.1) tt
 
 -- a move
-pub keeps_move : (old new : Option Recording) (room after : Room) (v w : Asked) (attempt : Step) → RecordMakes old v → Steps v.core w.core Moved attempt → w.spins ≡ v.spins
+pub keeps_move : (old new : Option Recording) (room after : Room) (v w : Asked) (attempt : Step) → RecordMakes old v → Steps v.core w.core Moved attempt → w.spins ≡ v.spins → w.guard ≡ v.guard
     → KeepsAction (Move attempt) old room new after → RecordMakes new w
-keeps_move old new room after v w attempt h steps spins kept =
-    keeps_action old new room after v w (Move attempt) h (λ rows. moved_is v w Moved attempt steps spins refl) kept
+keeps_move old new room after v w attempt h steps spins guard kept =
+    keeps_action old new room after v w (Move attempt) h (λ rows. moved_is v w Moved attempt steps spins guard refl) kept
 
 -- no move
-pub keeps_idle : (old : Option Recording) (v w : Asked) (attempt : Step) → RecordMakes old v → Steps v.core w.core Idle attempt → w.spins ≡ v.spins
+pub keeps_idle : (old : Option Recording) (v w : Asked) (attempt : Step) → RecordMakes old v → Steps v.core w.core Idle attempt → w.spins ≡ v.spins → w.guard ≡ v.guard
     → RecordMakes old w
-keeps_idle old v w attempt h steps spins = subst (λ (x : Asked). RecordMakes old x) (sym (idle_is v w Idle attempt steps spins refl)) h
+keeps_idle old v w attempt h steps spins guard = subst (λ (x : Asked). RecordMakes old x) (sym (idle_is v w Idle attempt steps spins guard refl)) h
 
 -- rounds
 pub keeps_rounds : (old new : Option Recording) (room after : Room) (v w : Asked) (k : ℕ) → RecordMakes old v → w.core ≡ core_after v.core (rounds_of v.core.shape k)
-    → w.spins ≡ v.spins → KeepsAction (Rounds k) old room new after → RecordMakes new w
-keeps_rounds old new room after v w k h state spins kept = keeps_action old new room after v w (Rounds k) h (λ rows. ap Some (rounds_is v w k state spins)) kept
+    → w.spins ≡ v.spins → w.guard ≡ v.guard → KeepsAction (Rounds k) old room new after → RecordMakes new w
+keeps_rounds old new room after v w k h state spins guard kept = keeps_action old new room after v w (Rounds k) h (λ rows. ap Some (rounds_is v w k state spins guard)) kept
 
 -- so many rounds lead on
 pub rounds_on : (v w : Asked) (k : ℕ) → w ≡ rounds_made v k → RunsOn v.core w.core (rounds_of v.core.shape k)
 rounds_on v w k is = on_after v.core w.core k (ap (λ (x : Asked). x.core) is)
 
-pub keeps_round : (old new : Option Recording) (room after : Room) (v w : Asked) → RecordMakes old v → w.core ≡ core_after v.core (round v.core.shape) → w.spins ≡ v.spins
+pub keeps_round : (old new : Option Recording) (room after : Room) (v w : Asked) → RecordMakes old v → w.core ≡ core_after v.core (round v.core.shape) → w.spins ≡ v.spins → w.guard ≡ v.guard
     → KeepsAction (Rounds 1) old room new after → RecordMakes new w
-keeps_round old new room after v w h state spins kept =
-    keeps_rounds old new room after v w 1 h (state ∙ ap (core_after v.core) (sym (append-nil (round v.core.shape)))) spins kept
+keeps_round old new room after v w h state spins guard kept =
+    keeps_rounds old new room after v w 1 h (state ∙ ap (core_after v.core) (sym (append-nil (round v.core.shape)))) spins guard kept
 
 -- a clocked round, which is kept by the input at which its puts begin
 pub keeps_clocked : (old new : Option Recording) (room after : Room) (v w : Asked) (turn k : ℕ) → k ≡ turn % port_count (dims_of v.core.shape) → RecordMakes old v
-    → w.core ≡ core_after v.core (clocked_round v.core turn) → w.spins ≡ v.spins → KeepsAction (Clocked k) old room new after → RecordMakes new w
-keeps_clocked old new room after v w turn k is h state spins kept =
-    keeps_action old new room after v w (Clocked k) h (λ rows. ap Some (clocked_is v w turn k is state spins)) kept
+    → w.core ≡ core_after v.core (clocked_round v.core turn) → w.spins ≡ v.spins → w.guard ≡ v.guard → KeepsAction (Clocked k) old room new after → RecordMakes new w
+keeps_clocked old new room after v w turn k is h state spins guard kept =
+    keeps_action old new room after v w (Clocked k) h (λ rows. ap Some (clocked_is v w turn k is state spins guard)) kept
 
 -- clocked rounds
 pub keeps_clocked_rounds : (old new : Option Recording) (room after : Room) (v w : Asked) (k : ℕ) → RecordMakes old v → w.core ≡ core_after v.core (clocked_rounds v.core k)
-    → w.spins ≡ v.spins → KeepsAction (ClockedRounds k) old room new after → RecordMakes new w
-keeps_clocked_rounds old new room after v w k h state spins kept =
-    keeps_action old new room after v w (ClockedRounds k) h (λ rows. ap Some (clocked_rounds_are v w k state spins)) kept
+    → w.spins ≡ v.spins → w.guard ≡ v.guard → KeepsAction (ClockedRounds k) old room new after → RecordMakes new w
+keeps_clocked_rounds old new room after v w k h state spins guard kept =
+    keeps_action old new room after v w (ClockedRounds k) h (λ rows. ap Some (clocked_rounds_are v w k state spins guard)) kept
+
+-- fair rounds
+pub keeps_fair : (old new : Option Recording) (room after : Room) (v w : Asked) (k : ℕ) → RecordMakes old v → w ≡ fair_rounds_made v k
+    → KeepsAction (FairRounds k) old room new after → RecordMakes new w
+keeps_fair old new room after v w k h is kept = keeps_action old new room after v w (FairRounds k) h (λ rows. ap Some (sym is)) kept
 
 -- a line
 line_more : (k : Option Recording) (v : Asked) (p : ℕ) (first : ScriptLine) → RecordMakes k v → HasLineNumber k → refused v.core p first ≡ None
@@ -86,6 +91,6 @@ kept_line old new room after v w p first h none is (inl kept) =
 kept_line old new room after v w p first h none is (inr ended) = subst (λ (k : Option Recording). RecordMakes k w) (sym ended.1) tt
 
 pub keeps_line : (old new : Option Recording) (room after : Room) (v w : Asked) (p : ℕ) (first : ScriptLine) → RecordMakes old v → refused v.core p first ≡ None
-    → w.core ≡ handed v.core p first → w.spins ≡ spins_with v.spins p first → KeepsRow p first old room new after → RecordMakes new w
-keeps_line old new room after v w p first h none core spins kept =
-    kept_line old new room after v w p first h none (λ i. record { core = sym core i; spins = sym spins i }) kept
+    → w.core ≡ handed v.core p first → w.spins ≡ spins_with v.spins p first → w.guard ≡ v.guard → KeepsRow p first old room new after → RecordMakes new w
+keeps_line old new room after v w p first h none core spins guard kept =
+    kept_line old new room after v w p first h none (λ i. record { core = sym core i; spins = sym spins i; guard = sym guard i }) kept

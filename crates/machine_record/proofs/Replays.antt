@@ -26,9 +26,9 @@ use Rattle.machine_core.specs.Rounds.{rounds_of}
 use Rattle.machine_core.specs.Clocked.{clocked_round, clocked_rounds, turned_at}
 use Rattle.machine_core.proofs.Finishing.{rounds_push}
 use Rattle.machine_core.proofs.Rounds.{core_append, same_shape}
-use Rattle.machine_asked.specs.Asked.{Asked, asked_in}
+use Rattle.machine_asked.specs.Asked.{Asked, asked_in, fair_made, fair_rounds_made}
 use Rattle.machine_record.specs.declared.action.Action.{Action}
-use Rattle.machine_record.specs.declared.action.Action.TheVariants.{Move, Rounds, Line, Clocked, ClockedRounds}
+use Rattle.machine_record.specs.declared.action.Action.TheVariants.{Move, Rounds, Line, Clocked, ClockedRounds, FairRounds}
 use Rattle.machine_record.specs.declared.row.LineRow.{LineRow}
 use Rattle.machine_record.specs.Action.{action_number, action_of, is_narrow}
 use Rattle.machine_record.specs.Row.{line_of_row, row_of_line}
@@ -76,6 +76,7 @@ acted_grown rows more v (Rounds k) w h = h
 acted_grown rows more v (Line k) w h = row_there rows more v k w (slice_get rows k) refl h
 acted_grown rows more v (Clocked k) w h = h
 acted_grown rows more v (ClockedRounds k) w h = h
+acted_grown rows more v (FairRounds k) w h = h
 
 acted_by_grown : (rows more : List LineRow) (v : Asked) (o : Option Action) (w : Asked) → option_and_then (acted rows v) o ≡ Some w
     → option_and_then (acted (rows ++ more) v) o ≡ Some w
@@ -164,33 +165,33 @@ made_line r p first v few h none =
     (acts rows v (with_line v p first) (Line (length r.rows)) (lt-ltb (length r.rows) 268435456 few) there)
 
 -- what a step comes to
-pub moved_is : (v w : Asked) (stepped : Stepped) (attempt : Step) → Steps v.core w.core stepped attempt → w.spins ≡ v.spins → stepped ≡ Moved
+pub moved_is : (v w : Asked) (stepped : Stepped) (attempt : Step) → Steps v.core w.core stepped attempt → w.spins ≡ v.spins → w.guard ≡ v.guard → stepped ≡ Moved
     → machine_moved v attempt ≡ Some w
-moved_is v w stepped attempt h spins is =
+moved_is v w stepped attempt h spins guard is =
     ap (λ (t : Stepped). if_moved t (asked_in v (core_next v.core attempt))) (sym h.result ∙ is)
-    ∙ (λ i. Some (record { core = sym h.change i; spins = sym spins i }))
+    ∙ (λ i. Some (record { core = sym h.change i; spins = sym spins i; guard = sym guard i }))
 
 idle_none : (o : Option State) → Idle ≡ machine_told o → o ≡ None
 idle_none None e = refl
 idle_none (Some s) e = absurd (cc)
 
-pub idle_is : (v w : Asked) (stepped : Stepped) (attempt : Step) → Steps v.core w.core stepped attempt → w.spins ≡ v.spins → stepped ≡ Idle → w ≡ v
-idle_is v w stepped attempt h spins is =
+pub idle_is : (v w : Asked) (stepped : Stepped) (attempt : Step) → Steps v.core w.core stepped attempt → w.spins ≡ v.spins → w.guard ≡ v.guard → stepped ≡ Idle → w ≡ v
+idle_is v w stepped attempt h spins guard is =
     let none : step (built_to v.core) v.core.state attempt ≡ None = idle_none _ (sym is ∙ h.result) in
     let same : w.core ≡ v.core = h.change ∙ ap (core_with v.core (event_in (built_to v.core) v.core.state attempt)) none in
-    λ i. record { core = same i; spins = spins i }
+    λ i. record { core = same i; spins = spins i; guard = guard i }
 
 pub idle_undone : (v w : Asked) (stepped : Stepped) (attempt : Step) → Steps v.core w.core stepped attempt → stepped ≡ Idle → machine_moved v attempt ≡ None
 idle_undone v w stepped attempt h is = ap (λ (t : Stepped). if_moved t (asked_in v (core_next v.core attempt))) (sym h.result ∙ is)
 
 -- rounds
-pub rounds_is : (v w : Asked) (k : ℕ) → w.core ≡ core_after v.core (rounds_of v.core.shape k) → w.spins ≡ v.spins → rounds_made v k ≡ w
-rounds_is v w k state spins = λ i. record { core = sym state i; spins = sym spins i }
+pub rounds_is : (v w : Asked) (k : ℕ) → w.core ≡ core_after v.core (rounds_of v.core.shape k) → w.spins ≡ v.spins → w.guard ≡ v.guard → rounds_made v k ≡ w
+rounds_is v w k state spins guard = λ i. record { core = sym state i; spins = sym spins i; guard = sym guard i }
 
 -- a round more
 pub round_more : (start now next : Asked) (k : ℕ) → now ≡ rounds_made start k → next.core ≡ core_after now.core (round now.core.shape)
-    → next.spins ≡ now.spins → next ≡ rounds_made start (k + 1)
-round_more start now next k so_far is spins =
+    → next.spins ≡ now.spins → next.guard ≡ now.guard → next ≡ rounds_made start (k + 1)
+round_more start now next k so_far is spins guard =
     let core : next.core ≡ core_after start.core (rounds_of start.core.shape (k + 1)) =
     is
     ∙ (ap (λ (s : Shape). core_after now.core (round s))
@@ -199,27 +200,28 @@ round_more start now next k so_far is spins =
     ∙ (sym (core_append start.core (rounds_of start.core.shape k) (round start.core.shape))
     ∙ ap (core_after start.core) (sym (rounds_push start.core.shape k))))) in
     let flags : next.spins ≡ start.spins = spins ∙ ap (λ (x : Asked). x.spins) so_far in
-    λ i. record { core = core i; spins = flags i }
+    let seen : next.guard ≡ start.guard = guard ∙ ap (λ (x : Asked). x.guard) so_far in
+    λ i. record { core = core i; spins = flags i; guard = seen i }
 
 -- a clocked round, of a turn or of the input at which its puts begin
 pub clocked_is : (v w : Asked) (turn k : ℕ) → k ≡ turn % port_count (dims_of v.core.shape) → w.core ≡ core_after v.core (clocked_round v.core turn)
-    → w.spins ≡ v.spins → clocked_made v k ≡ w
-clocked_is v w turn k is state spins =
+    → w.spins ≡ v.spins → w.guard ≡ v.guard → clocked_made v k ≡ w
+clocked_is v w turn k is state spins guard =
     let ports : ℕ = port_count (dims_of v.core.shape) in
     let same : k % ports ≡ turn % ports = ap (λ (n : ℕ). n % ports) is ∙ mod-mod turn ports in
     let core : core_after v.core (clocked_round v.core k) ≡ w.core =
     ap (λ (n : ℕ). core_after v.core (filter (λ a. is_some (step (built_to v.core) v.core.state a)) (flat_map (turned_at ports n) (range_with_len 0 (tiles_of v.core.shape))))) same
     ∙ sym state in
-    λ i. record { core = core i; spins = sym spins i }
+    λ i. record { core = core i; spins = sym spins i; guard = sym guard i }
 
 -- clocked rounds
-pub clocked_rounds_are : (v w : Asked) (k : ℕ) → w.core ≡ core_after v.core (clocked_rounds v.core k) → w.spins ≡ v.spins → clocked_rounds_made v k ≡ w
-clocked_rounds_are v w k state spins = λ i. record { core = sym state i; spins = sym spins i }
+pub clocked_rounds_are : (v w : Asked) (k : ℕ) → w.core ≡ core_after v.core (clocked_rounds v.core k) → w.spins ≡ v.spins → w.guard ≡ v.guard → clocked_rounds_made v k ≡ w
+clocked_rounds_are v w k state spins guard = λ i. record { core = sym state i; spins = sym spins i; guard = sym guard i }
 
 -- a clocked round more
 pub clocked_more : (start now next : Asked) (k : ℕ) → now ≡ clocked_rounds_made start k → next.core ≡ core_after now.core (clocked_round now.core k)
-    → next.spins ≡ now.spins → next ≡ clocked_rounds_made start (k + 1)
-clocked_more start now next k so_far is spins =
+    → next.spins ≡ now.spins → next.guard ≡ now.guard → next ≡ clocked_rounds_made start (k + 1)
+clocked_more start now next k so_far is spins guard =
     let made : List Step = clocked_rounds start.core k in
     let more : suc k ≡ k + 1 = omega arith in
     let core : next.core ≡ core_after start.core (clocked_rounds start.core (k + 1)) =
@@ -228,7 +230,14 @@ clocked_more start now next k so_far is spins =
     ∙ (sym (core_append start.core made (clocked_round (core_after start.core made) k))
     ∙ ap (λ (n : ℕ). core_after start.core (clocked_rounds start.core n)) more)) in
     let flags : next.spins ≡ start.spins = spins ∙ ap (λ (x : Asked). x.spins) so_far in
-    λ i. record { core = core i; spins = flags i }
+    let seen : next.guard ≡ start.guard = guard ∙ ap (λ (x : Asked). x.guard) so_far in
+    λ i. record { core = core i; spins = flags i; guard = seen i }
+
+-- a fair round more
+pub fair_more : (start now next : Asked) (k : ℕ) → now ≡ fair_rounds_made start k → next ≡ fair_made now → next ≡ fair_rounds_made start (k + 1)
+fair_more start now next k so_far is =
+    let more : suc k ≡ k + 1 = omega arith in
+    is ∙ (ap fair_made so_far ∙ ap (fair_rounds_made start) more)
 
 -- an action more of those that are done
 pub done_more : (rows : List LineRow) (v w u : Asked) (numbers : List ℕ) (k number : ℕ) → replayed rows v (take k numbers) ≡ Some w

@@ -6,6 +6,7 @@ use Rattle.script.specs.declared.fault.LineFault.{LineFault}
 use Rattle.machine_parts.specs.Core.{Load}
 use Rattle.machine_parts.proofs.Machines.{named_machine}
 use Rattle.machine_core.specs.Loading.{HasLoaded, IsLoadFault, load_by}
+use Rattle.fair_rounds.specs.Guard.{usual_guard}
 use Rattle.machine_asked.specs.Asked.{Asked, has_spin}
 use Rattle.machine_record.specs.Reading.{record_in_bytes}
 use Rattle.machine_record.specs.Recording.{Recording, Room, fresh_record}
@@ -20,25 +21,27 @@ use Rattle.std.specs.Prelude.{IfOk}
 
 -- a machine that is loaded
 pub loaded_is : (x : Result Load LineFault) (v : Asked) (h : HasLoaded x v.core) → ((l : Load) → x ≡ Ok l → v.spins ≡ map has_spin l.scripts)
-    → v ≡ loaded h.load
-loaded_is x v h spins =
+    → v.guard ≡ usual_guard v.core → v ≡ loaded h.load
+loaded_is x v h spins guard =
     let core = named_machine h.load v.core [] h.after in
     let flags = spins h.load h.read in
-    λ i. record { core = core i; spins = flags i }
+    let usual = guard ∙ ap usual_guard core in
+    λ i. record { core = core i; spins = flags i; guard = usual i }
 
 -- a fresh record makes it
 pub fresh_makes : (machine scripts : List ℕ) (v : Asked) → HasLoaded (load_by (lines machine) (lines scripts)) v.core
-    → ((l : Load) → load_by (lines machine) (lines scripts) ≡ Ok l → v.spins ≡ map has_spin l.scripts) → made_by (fresh_record machine scripts) ≡ Some v
-fresh_makes machine scripts v h spins =
-    ap (replayed_from (fresh_record machine scripts)) h.read ∙ ap Some (sym (loaded_is (load_by (lines machine) (lines scripts)) v h spins))
+    → ((l : Load) → load_by (lines machine) (lines scripts) ≡ Ok l → v.spins ≡ map has_spin l.scripts)
+    → v.guard ≡ usual_guard v.core → made_by (fresh_record machine scripts) ≡ Some v
+fresh_makes machine scripts v h spins guard =
+    ap (replayed_from (fresh_record machine scripts)) h.read ∙ ap Some (sym (loaded_is (load_by (lines machine) (lines scripts)) v h spins guard))
 
 -- a machine with such a record of a machine text alone
 pub fresh_is : (text : List ℕ) (v : Asked) (kept : Recording) (room : Room) → HasLoaded (load_by (lines text) []) v.core
-    → ((l : Load) → load_by (lines text) [] ≡ Ok l → v.spins ≡ map has_spin l.scripts) → kept ≡ fresh_record text []
+    → ((l : Load) → load_by (lines text) [] ≡ Ok l → v.spins ≡ map has_spin l.scripts) → v.guard ≡ usual_guard v.core → kept ≡ fresh_record text []
     → IsFreshCall (record { asked = v; kept = Some kept; room = room })
-fresh_is text v kept room h spins is = record {
+fresh_is text v kept room h spins guard is = record {
   text = text;
-  made = record { made = fresh_makes text [] v h spins; keeps = ap Some is };
+  made = record { made = fresh_makes text [] v h spins guard; keeps = ap Some is };
 }
 
 -- a fault that isn't of memory is a text's
@@ -77,11 +80,11 @@ is_made_by v kept room machine r view is h = subst (IsMadeAgain r) view (is_made
 -- the machine of a record's texts
 pub loaded_by : (r : Recording) (machine scripts : List ℕ) (v : Asked) → machine ≡ r.machine → scripts ≡ r.scripts
     → HasLoaded (load_by (lines machine) (lines scripts)) v.core
-    → ((l : Load) → load_by (lines machine) (lines scripts) ≡ Ok l → v.spins ≡ map has_spin l.scripts) → IsLoaded r v
-loaded_by r machine scripts v m s h spins = record {
+    → ((l : Load) → load_by (lines machine) (lines scripts) ≡ Ok l → v.spins ≡ map has_spin l.scripts) → v.guard ≡ usual_guard v.core → IsLoaded r v
+loaded_by r machine scripts v m s h spins guard = record {
   load = h.load;
   texts = (λ i. load_by (lines (sym m i)) (lines (sym s i))) ∙ h.read;
-  is = loaded_is (load_by (lines machine) (lines scripts)) v h spins;
+  is = loaded_is (load_by (lines machine) (lines scripts)) v h spins guard;
 }
 
 -- the place of an action that can't be done

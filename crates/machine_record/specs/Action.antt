@@ -5,7 +5,7 @@ use Rattle.torus.specs.declared.step.Step.{Step}
 use Rattle.torus.specs.declared.step.Choice.{Choice}
 use Rattle.torus.specs.declared.step.Choice.TheVariants.{Send, Take, TakeFrom, Put, Credit, CreditOf, Serve, Done, Look}
 use Rattle.machine_record.specs.declared.action.Action.{Action}
-use Rattle.machine_record.specs.declared.action.Action.TheVariants.{Move, Rounds, Line, Clocked, ClockedRounds}
+use Rattle.machine_record.specs.declared.action.Action.TheVariants.{Move, Rounds, Line, Clocked, ClockedRounds, FairRounds}
 
 -- the number of a choice
 abbrev pub choice_number : Choice → ℕ
@@ -36,13 +36,14 @@ abbrev pub choice_coded : ℕ → ℕ → Option Choice
 choice_coded number port = slice_get (choices_coded port) number
 
 -- the number of an action: its lowest four bits are its kind, that is the choice of an attempt, 9 for
--- rounds, 10 for a line, 11 for a clocked round and 12 for clocked rounds
+-- rounds, 10 for a line, 11 for a clocked round, 12 for clocked rounds and 13 for fair rounds
 abbrev pub action_number : Action → ℕ
 action_number (Move s) = (s.agent * 4096 + port_of s.choice) * 16 + choice_number s.choice
 action_number (Rounds count) = count * 16 + 9
 action_number (Line number) = number * 16 + 10
 action_number (Clocked turn) = turn * 16 + 11
 action_number (ClockedRounds count) = count * 16 + 12
+action_number (FairRounds count) = count * 16 + 13
 
 -- it has 32 bits
 abbrev pub is_narrow : Action → Bool
@@ -51,6 +52,7 @@ is_narrow (Rounds count) = nat_lt count 268435456
 is_narrow (Line number) = nat_lt number 268435456
 is_narrow (Clocked turn) = nat_lt turn 268435456
 is_narrow (ClockedRounds count) = nat_lt count 268435456
+is_narrow (FairRounds count) = nat_lt count 268435456
 
 -- an attempt by an agent
 abbrev pub move_recorded : ℕ → Choice → Action
@@ -63,7 +65,8 @@ action_coded kind rest =
     else (if kind == 10 then Some (Line rest)
     else (if kind == 11 then Some (Clocked rest)
     else (if kind == 12 then Some (ClockedRounds rest)
-    else option_map (move_recorded (rest / 4096)) (choice_coded kind (rest % 4096)))))
+    else (if kind == 13 then Some (FairRounds rest)
+    else option_map (move_recorded (rest / 4096)) (choice_coded kind (rest % 4096))))))
 
 -- the action that has a number
 abbrev pub action_of : ℕ → Option Action

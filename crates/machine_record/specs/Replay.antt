@@ -14,9 +14,10 @@ use Rattle.machine_parts.specs.Machine.{built_to, core_after, core_after_load, c
 use Rattle.machine_core.specs.Loading.{load_by}
 use Rattle.machine_core.specs.Rounds.{rounds_of}
 use Rattle.machine_core.specs.Clocked.{clocked_round, clocked_rounds}
-use Rattle.machine_asked.specs.Asked.{Asked, asked_in, has_spin, spins_with}
+use Rattle.fair_rounds.specs.Guard.{usual_guard}
+use Rattle.machine_asked.specs.Asked.{Asked, asked_in, fair_rounds_made, has_spin, spins_with}
 use Rattle.machine_record.specs.declared.action.Action.{Action}
-use Rattle.machine_record.specs.declared.action.Action.TheVariants.{Move, Rounds, Line, Clocked, ClockedRounds}
+use Rattle.machine_record.specs.declared.action.Action.TheVariants.{Move, Rounds, Line, Clocked, ClockedRounds, FairRounds}
 use Rattle.machine_record.specs.declared.row.LineRow.{LineRow}
 use Rattle.machine_record.specs.Action.{action_of}
 use Rattle.machine_record.specs.Row.{line_of_row}
@@ -24,7 +25,11 @@ use Rattle.machine_record.specs.Recording.{Recording}
 
 -- a machine that a load is loaded to, before any step
 abbrev pub loaded : Load → Asked
-loaded l = record { core = core_after_load l []; spins = map has_spin l.scripts }
+loaded l = record {
+  core = core_after_load l [];
+  spins = map has_spin l.scripts;
+  guard = usual_guard (core_after_load l []);
+}
 
 -- what comes of an attempt, where it moves
 abbrev pub if_moved : Stepped → Asked → Option Asked
@@ -50,7 +55,8 @@ clocked_rounds_made v count = asked_in v (core_after v.core (clocked_rounds v.co
 
 -- the machine whose processor p is handed a line, whatever the line
 abbrev pub with_line : Asked → ℕ → ScriptLine → Asked
-with_line v p line = record { core = handed v.core p line; spins = spins_with v.spins p line }
+with_line v p line =
+    record { core = handed v.core p line; spins = spins_with v.spins p line; guard = v.guard }
 
 -- a machine that was handed a line, unless there is a fault for which the line is refused
 abbrev pub if_taken : Option Fault → Asked → Option Asked
@@ -70,6 +76,7 @@ acted rows v (Rounds count) = Some (rounds_made v count)
 acted rows v (Line number) = option_and_then (row_handed v) (slice_get rows number)
 acted rows v (Clocked turn) = Some (clocked_made v turn)
 acted rows v (ClockedRounds count) = Some (clocked_rounds_made v count)
+acted rows v (FairRounds count) = Some (fair_rounds_made v count)
 
 -- the machine after the action of a number
 abbrev pub acted_by : List LineRow → Asked → ℕ → Option Asked

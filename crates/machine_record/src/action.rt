@@ -19,6 +19,8 @@ pub enum Action {
     Clocked(u32),
     /// So many clocked rounds, with the turns from 0 on.
     ClockedRounds(u32),
+    /// So many fair rounds.
+    FairRounds(u32),
 }
 
 /// The number of a choice, 0 to 8.
@@ -81,7 +83,8 @@ fn move_coded(number: u32, rest: u32) -> Option<Action>
     }
 }
 
-/// The action of a kind: 0 to 8 a choice, 9 rounds, 10 a line, 11 a clocked round, 12 clocked rounds.
+/// The action of a kind: 0 to 8 a choice, 9 rounds, 10 a line, 11 a clocked round, 12 clocked rounds,
+/// 13 fair rounds.
 fn action_coded(kind: u32, rest: u32) -> Option<Action>
     ensures { result ≡ action_coded kind rest }
 {
@@ -90,6 +93,7 @@ fn action_coded(kind: u32, rest: u32) -> Option<Action>
         10 => Some(Action::Line(rest)),
         11 => Some(Action::Clocked(rest)),
         12 => Some(Action::ClockedRounds(rest)),
+        13 => Some(Action::FairRounds(rest)),
         _ => move_coded(kind, rest),
     }
 }
@@ -106,6 +110,7 @@ impl Action {
             Action::Line(number) => number < 268435456,
             Action::Clocked(turn) => turn < 268435456,
             Action::ClockedRounds(count) => count < 268435456,
+            Action::FairRounds(count) => count < 268435456,
         }
     }
 
@@ -122,6 +127,7 @@ impl Action {
             Action::Line(number) => number * 16 + 10,
             Action::Clocked(turn) => turn * 16 + 11,
             Action::ClockedRounds(count) => count * 16 + 12,
+            Action::FairRounds(count) => count * 16 + 13,
         }
     }
 

@@ -83,6 +83,18 @@ pub(crate) fn keep_clocked_rounds<A: Allocator>(kept: &mut Option<Record<A>>, co
     }
 }
 
+/// Keeps fair rounds. The record ends where no number names them, or memory is refused.
+#[tactic(auto, using(crate::proofs::Kept::ends_wide))]
+pub(crate) fn keep_fair_rounds<A: Allocator>(kept: &mut Option<Record<A>>, count: u64)
+    ensures { KeepsWithin (Action.FairRounds count) kept.old kept.new }
+{
+    if count < MOST {
+        keep(kept, Action::FairRounds(count as u32));
+    } else {
+        *kept = None;
+    }
+}
+
 /// Puts a line that a processor is handed behind a record.
 ///
 /// Errors: no number names it, or out of memory.

@@ -15,6 +15,7 @@ ghost use Rattle.machine_parts.specs.Rounds.{moves_in};
 ghost use Rattle.machine_parts.specs.AbstractScripts.{AreFinished};
 ghost use Rattle.machine_core.specs.Loading.{HasLoaded, IsLoadFault, load_by};
 ghost use Rattle.machine_core.specs.Rounds.{NeedsRounds, rounds_of};
+ghost use Rattle.fair_rounds.specs.Guard.{usual_guard};
 ghost use Rattle.machine_asked.specs.Asked.{IsAsked, IsNumberedLine, NeedsToWait, has_spin};
 ghost use Rattle.machine_asked.specs.Asked.{index_asked, spins_with};
 ghost use Rattle.machine_asked.specs.Opened.{IsOpened};
@@ -65,6 +66,7 @@ impl<A: Allocator + Copy> RecordedMachine<A> {
         ensures spins { IfOk result
             (λ m. (l : Load) → load_by (lines machine.now) (lines scripts.now) ≡ Ok l
             → m.asked.spins ≡ map has_spin l.scripts) }
+        ensures guard { IfOk result (λ m. m.asked.guard ≡ usual_guard m.asked.core) }
         ensures kept { IfOk result (λ m. m.kept ≡ Some (fresh_record machine.now scripts.now)) }
         ensures fault { IfErr result (IsLoadFault (load_by (lines machine.now) (lines scripts.now))) }
     {
@@ -144,6 +146,7 @@ impl<A: Allocator> RecordedMachine<A> {
         ensures step { Steps self.old.asked.core self.new.asked.core result step }
         ensures runs_on { RunsOn self.old.asked.core self.new.asked.core (step ∷ []) }
         ensures spins { self.new.asked.spins ≡ self.old.asked.spins }
+        ensures guard { self.new.asked.guard ≡ self.old.asked.guard }
         ensures kept { KeepsStep step result self.old self.new }
     {
         match self.machine.step(step) {
@@ -167,6 +170,7 @@ impl<A: Allocator> RecordedMachine<A> {
         ensures runs_on { RunsOn self.old.asked.core self.new.asked.core
             (round self.old.asked.core.shape) }
         ensures spins { self.new.asked.spins ≡ self.old.asked.spins }
+        ensures guard { self.new.asked.guard ≡ self.old.asked.guard }
         ensures kept { KeepsRecord (Action.Rounds 1) self.old self.new }
     {
         self.machine.round();
@@ -180,6 +184,7 @@ impl<A: Allocator> RecordedMachine<A> {
         ensures runs_on { RunsOn self.old.asked.core self.new.asked.core
             (rounds_of self.old.asked.core.shape count) }
         ensures spins { self.new.asked.spins ≡ self.old.asked.spins }
+        ensures guard { self.new.asked.guard ≡ self.old.asked.guard }
         ensures kept { KeepsRecord (Action.Rounds count) self.old self.new }
     {
         make_rounds(&mut self.machine, count);
@@ -201,6 +206,7 @@ impl<A: Allocator> RecordedMachine<A> {
             → AreFinished (run_of l (before ++ rounds_of self.old.asked.core.shape result))
             (length (before ++ rounds_of self.old.asked.core.shape result)) l.scripts }
         ensures spins { self.new.asked.spins ≡ self.old.asked.spins }
+        ensures guard { self.new.asked.guard ≡ self.old.asked.guard }
         ensures kept { KeepsRecord (Action.Rounds result) self.old self.new }
     {
         let rounds = self.machine.finish();
@@ -217,6 +223,7 @@ impl<A: Allocator> RecordedMachine<A> {
         ensures runs_on { RunsOn self.old.asked.core self.new.asked.core
             (rounds_of self.old.asked.core.shape result) }
         ensures spins { self.new.asked.spins ≡ self.old.asked.spins }
+        ensures guard { self.new.asked.guard ≡ self.old.asked.guard }
         ensures kept { KeepsRecord (Action.Rounds result) self.old self.new }
     {
         let rounds = self.machine.wait(processor, index);
@@ -230,7 +237,8 @@ impl<A: Allocator> RecordedMachine<A> {
     pub fn append(&mut self, processor: u32, line: Line) -> Result<(), Fault>
         ensures taken { OnOk result ((refused self.old.asked.core processor line ≡ None)
             × (self.new.asked.core ≡ handed self.old.asked.core processor line)
-            × (self.new.asked.spins ≡ spins_with self.old.asked.spins processor line)) }
+            × (self.new.asked.spins ≡ spins_with self.old.asked.spins processor line)
+            × (self.new.asked.guard ≡ self.old.asked.guard)) }
         ensures law { OnOk result ((l : Load) (steps : List Step)
             → IsAfter l self.old.asked.core steps
             → IsAfter (load_with l processor line) self.new.asked.core
@@ -252,7 +260,8 @@ impl<A: Allocator> RecordedMachine<A> {
     pub fn ask(&mut self, processor: u32, line: Line) -> Result<Option<u32>, Fault>
         ensures taken { OnOk result ((refused self.old.asked.core processor line ≡ None)
             × (self.new.asked.core ≡ handed self.old.asked.core processor line)
-            × (self.new.asked.spins ≡ spins_with self.old.asked.spins processor line)) }
+            × (self.new.asked.spins ≡ spins_with self.old.asked.spins processor line)
+            × (self.new.asked.guard ≡ self.old.asked.guard)) }
         ensures law { OnOk result ((l : Load) (steps : List Step)
             → IsAfter l self.old.asked.core steps
             → IsAfter (load_with l processor line) self.new.asked.core

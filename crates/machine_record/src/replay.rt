@@ -1,6 +1,7 @@
 //! What a record's actions do to a machine.
 
 ghost use Rattle.std.specs.Prelude.{◌≡◌, IfOk};
+ghost use Rattle.machine_asked.specs.Asked.{fair_rounds_made};
 ghost use Rattle.machine_record.specs.Replay.{acted, acted_by, clocked_rounds_made, machine_moved};
 ghost use Rattle.machine_record.specs.Replay.{rounds_made, row_handed};
 ghost use Rattle.machine_record.specs.Replayed.{ComesInTurn, Replays};
@@ -35,6 +36,15 @@ fn make_clocked<A: Allocator>(machine: &mut AskedMachine<A>, count: u32)
 {
     for turn in 0..count {
         machine.clocked_round(turn as u64);
+    }
+}
+
+/// Makes so many fair rounds.
+fn make_fair<A: Allocator>(machine: &mut AskedMachine<A>, count: u32)
+    ensures { machine.new ≡ fair_rounds_made machine.old count }
+{
+    for made in 0..count {
+        machine.fair_round();
     }
 }
 
@@ -80,6 +90,10 @@ fn act<A: Allocator>(
         }
         Action::ClockedRounds(count) => {
             make_clocked(machine, count);
+            Ok(true)
+        }
+        Action::FairRounds(count) => {
+            make_fair(machine, count);
             Ok(true)
         }
     }

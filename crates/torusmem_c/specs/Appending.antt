@@ -72,6 +72,7 @@ pub record IsHanded (p : ℕ) (line : Line) (old new : Asked) : Type 0 where
   pub taken : refused old.core p line ≡ None
   pub state : new.core ≡ handed old.core p line
   pub spins : new.spins ≡ spins_with old.spins p line
+  pub guard : new.guard ≡ old.guard
   pub law : (l : Load) (steps : List Step) → IsAfter l old.core steps
       → IsAfter (load_with l p line) new.core (moves_kept l old.core p steps)
 

@@ -13,10 +13,11 @@ abbrev pub OfAsked : {R : Type 0} → R → (Asked → Asked → R → Type 0) �
 OfAsked empty does None new r = (new ≡ None) × (r ≡ empty)
 OfAsked empty does (Some v) new r = (w : Asked) × (new ≡ Some w) × does v w r
 
--- it works on the machine alone: its scripts stay as they are
+-- it works on the machine alone: its scripts and the guard of its fair rounds stay as they are
 pub record OnCore {R : Type 0} (does : Core → Core → R → Type 0) (old new : Asked) (r : R) : Type 0
   where
     pub spins : new.spins ≡ old.spins
+    pub guard : new.guard ≡ old.guard
     pub core : does old.core new.core r
 
 abbrev pub OfHeld : {R : Type 0} → R → (Core → Core → R → Type 0) → Option Asked → Option Asked → R
@@ -28,6 +29,11 @@ OfHeld empty does = OfAsked empty (OnCore does)
 abbrev pub OnHeld : (Core → Core → Outcome → Type 0) → Option Asked → Option Asked → Outcome
     → Type 0
 OnHeld does = OfHeld (c_outcome code.Empty 0) does
+
+-- a call works on the machine that a handle holds, and on the guard of its fair rounds
+abbrev pub OnGuarded : (Asked → Asked → Outcome → Type 0) → Option Asked → Option Asked → Outcome
+    → Type 0
+OnGuarded does = OfAsked (c_outcome code.Empty 0) does
 
 -- a call changes nothing of the machine, and answers what there is to tell of it
 abbrev pub HandleTells : {R : Type 0} → (Core → R) → Core → Core → R → Type 0

@@ -10,6 +10,7 @@ use Rattle.report_check.specs.declared.fault.CheckFault.{CheckFault}
 use Rattle.report_check.specs.declared.fault.CheckFault.TheVariants.{BadReport, Memory}
 use Rattle.machine_report.specs.Report.{machine_report}
 use Rattle.machine_core.specs.Loading.{HasLoaded, IsLoadFault}
+use Rattle.fair_rounds.specs.Guard.{usual_guard}
 use Rattle.torusmem_c.specs.declared.outcome.Outcome.{Outcome}
 use Rattle.torusmem_c.specs.declared.outcome.Code.TheVariants as code
 use Rattle.torusmem_c.specs.Outcome.{fault_outcome, no_memory, c_outcome}
@@ -26,6 +27,7 @@ abbrev pub LoadsEmpty : Result Load LineFault → Option Asked → Outcome → T
 LoadsEmpty asked None r = (f : LineFault) × IsLoadFault asked f × (r ≡ fault_outcome f)
 LoadsEmpty asked (Some v) r =
     HasLoaded asked v.core × ((l : Load) → asked ≡ Ok l → v.spins ≡ map has_spin l.scripts)
+    × (v.guard ≡ usual_guard v.core)
     × (r ≡ c_outcome code.Done 0)
 
 -- a load: where a machine is held already, it stays, and the answer says so

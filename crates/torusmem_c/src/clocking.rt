@@ -1,9 +1,9 @@
-//! Clocked rounds of the machine that a handle holds.
+//! Clocked and fair rounds of the machine that a handle holds.
 
 ghost use Rattle.std.specs.Prelude.{◌≡◌};
 ghost use Rattle.c_handles.specs.HeldMachine.{held};
-ghost use Rattle.torusmem_c.specs.Clocked.{MakesClocked, SaysClocked};
-ghost use Rattle.torusmem_c.specs.Held.{OnHeld};
+ghost use Rattle.torusmem_c.specs.Clocked.{MakesClocked, MakesFair, SaysClocked, SaysFair};
+ghost use Rattle.torusmem_c.specs.Held.{OnGuarded, OnHeld};
 
 use crate::outcome::Outcome;
 use c_handles::MachineHandle;
@@ -30,6 +30,30 @@ pub extern "C" fn torusmem_finish_clocked(handle: &mut MachineHandle) -> Outcome
 {
     match handle.machine() {
         Some(machine) => Outcome::done(machine.finish_clocked()),
+        None => Outcome::empty(),
+    }
+}
+
+/// Makes one fair round: a clocked one, in which of the heads in a router that of the oldest operation goes
+/// first. Where an operation has been out for more than 241 fair rounds for each tag of each tile, none
+/// begins: 1 then, and else 0. So no operation waits for ever.
+#[unsafe(no_mangle)]
+pub extern "C" fn torusmem_fair_round(handle: &mut MachineHandle) -> Outcome
+    ensures { OnGuarded MakesFair (held handle.old) (held handle.new) result }
+{
+    match handle.machine() {
+        Some(machine) => Outcome::told(machine.fair_round()),
+        None => Outcome::empty(),
+    }
+}
+
+/// Makes fair rounds until every script is finished, at most so many, and answers how many.
+#[unsafe(no_mangle)]
+pub extern "C" fn torusmem_fair_rounds(handle: &mut MachineHandle, most: u64) -> Outcome
+    ensures { OnGuarded (SaysFair most) (held handle.old) (held handle.new) result }
+{
+    match handle.machine() {
+        Some(machine) => Outcome::done(machine.fair_rounds(most)),
         None => Outcome::empty(),
     }
 }

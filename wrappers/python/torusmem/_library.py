@@ -125,6 +125,8 @@ CALLS = {
     "enabled": (Outcome, [_M, c_uint32, c_uint32, c_uint32]),
     "round": (Outcome, [_M]),
     "finish": (Outcome, [_M]),
+    "fair_round": (Outcome, [_M]),
+    "fair_rounds": (Outcome, [_M, c_uint64]),
     "clocked_round": (Outcome, [_M, c_uint64]),
     "finish_clocked": (Outcome, [_M]),
     "append": (Outcome, [_M, c_uint32, c_uint32, c_uint32, c_uint64, c_uint64, c_uint32]),

@@ -167,6 +167,18 @@ class Machine(Looks):
         return self._value(self._calls.finish(self._at))
 
     @alone
+    def fair_round(self) -> bool:
+        """Attempts each choice once that is enabled now; of the heads in a router the oldest operation's goes first. Whether
+        the guard held back what would have begun: it does where an operation has been out for more than 241 fair rounds for
+        each tag of each tile. So no operation waits for ever, as it may in other rounds."""
+        return self._value(self._calls.fair_round(self._at)) == 1
+
+    @alone
+    def fair_rounds(self, most: int = 2**64 - 1) -> int:
+        """Makes fair rounds until every script is finished, at most so many; how many."""
+        return self._value(self._calls.fair_rounds(self._at, most))
+
+    @alone
     def clocked_round(self, turn: int) -> None:
         """Attempts each choice once that is enabled now, so that a flit goes one stage at most. The puts of each router begin
         at input `turn` modulo the number of its inputs: give the number of rounds so far, below 2**64."""

@@ -325,6 +325,8 @@ extern "C" {
     pub fn torusmem_enabled(m: *mut torusmem_machine, agent: u32, choice: u32, number: u32) -> torusmem_outcome;
     pub fn torusmem_round(m: *mut torusmem_machine) -> torusmem_outcome;
     pub fn torusmem_finish(m: *mut torusmem_machine) -> torusmem_outcome;
+    pub fn torusmem_fair_round(m: *mut torusmem_machine) -> torusmem_outcome;
+    pub fn torusmem_fair_rounds(m: *mut torusmem_machine, most: u64) -> torusmem_outcome;
     pub fn torusmem_clocked_round(m: *mut torusmem_machine, turn: u64) -> torusmem_outcome;
     pub fn torusmem_finish_clocked(m: *mut torusmem_machine) -> torusmem_outcome;
     pub fn torusmem_append(

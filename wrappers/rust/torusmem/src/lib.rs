@@ -475,6 +475,19 @@ impl Machine {
         self.raw.finish().value
     }
 
+    /// Makes a fair round: each choice is attempted once that is enabled now, and of the heads in a router the oldest
+    /// operation's goes first. Answers whether the guard held back what would have begun: it does where an operation
+    /// has been out for more than 241 fair rounds for each tag of each tile. So no operation waits for ever, as it may
+    /// in other rounds.
+    pub fn fair_round(&mut self) -> bool {
+        self.raw.fair_round().value == 1
+    }
+
+    /// Makes fair rounds until every script is finished, at most so many, and answers how many.
+    pub fn fair_rounds(&mut self, most: u64) -> u64 {
+        self.raw.fair_rounds(most).value
+    }
+
     /// Attempts each choice once that is enabled now, so that a flit goes one stage at most. The puts of each router
     /// begin at input `turn` modulo the number of its inputs: give the number of rounds so far.
     pub fn clocked_round(&mut self, turn: u64) {

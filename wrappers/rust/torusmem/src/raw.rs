@@ -109,6 +109,7 @@ impl Raw {
         enabled = torusmem_enabled(agent, choice, number) -> torusmem_outcome;
         round = torusmem_round() -> torusmem_outcome;
         finish = torusmem_finish() -> torusmem_outcome;
+        fair_round = torusmem_fair_round() -> torusmem_outcome;
         finish_clocked = torusmem_finish_clocked() -> torusmem_outcome;
         finished = torusmem_finished() -> torusmem_outcome;
         moves_left = torusmem_moves_left() -> torusmem_outcome;
@@ -122,6 +123,11 @@ impl Raw {
         entries = torusmem_entries(bank) -> torusmem_outcome;
         entry_at = torusmem_entry_at(bank, i) -> torusmem_entry;
         next = torusmem_next(at, input, dst) -> torusmem_outcome;
+    }
+
+    pub fn fair_rounds(&mut self, most: u64) -> torusmem_outcome {
+        // SAFETY: the machine is this one's alone, for as long as the call takes. The number may be any.
+        unsafe { torusmem_fair_rounds(&mut self.0, most) }
     }
 
     pub fn clocked_round(&mut self, turn: u64) -> torusmem_outcome {

@@ -6,7 +6,7 @@ use Rattle.machine_record.proofs.replay.make_clocked.Goals as goal
 pub loop-turn-preserved : goal.loop-turn-preserved
 loop-turn-preserved g c =
     clocked_more c.args.machine.now c.loop-turn.machine c.clocked_round.new.self c.loop-turn.turn c.loop-turn.invariant c.clocked_round.ensures.state
-    c.clocked_round.ensures.spins
+    c.clocked_round.ensures.spins c.clocked_round.ensures.guard
 
 pub returns : goal.returns
 returns g c =

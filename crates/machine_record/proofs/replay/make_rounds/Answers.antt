@@ -5,7 +5,7 @@ use Rattle.machine_record.proofs.replay.make_rounds.Goals as goal
 
 pub loop-made-preserved : goal.loop-made-preserved
 loop-made-preserved g c =
-    round_more c.args.machine.now c.loop-made.machine c.round.new.self c.loop-made.made c.loop-made.invariant c.round.ensures.state c.round.ensures.spins
+    round_more c.args.machine.now c.loop-made.machine c.round.new.self c.loop-made.made c.loop-made.invariant c.round.ensures.state c.round.ensures.spins c.round.ensures.guard
 
 pub returns : goal.returns
 returns g c =

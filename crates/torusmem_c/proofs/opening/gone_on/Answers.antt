@@ -15,6 +15,7 @@ returns-in-Ok c =
       c_outcome code.Done c.finish-rounds.result,
       record {
         spins = made.spins;
+        guard = made.guard;
         core = record {
           rounds = c.finish-rounds.result;
           answer = refl;
@@ -37,6 +38,7 @@ returns-in-Err c =
       c_outcome code.Done c.finish-rounds.result,
       record {
         spins = made.spins;
+        guard = made.guard;
         core = record {
           rounds = c.finish-rounds.result;
           answer = refl;

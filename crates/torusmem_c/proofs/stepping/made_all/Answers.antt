@@ -42,6 +42,7 @@ returns c =
     let moves : c.moves_left-left.result - c.moves_left.result ≡ moves_in (step (built_to now)) now.state steps = omega (arith, all) in
     record {
       spins = c.loop-it.invariant.spins;
+      guard = c.loop-it.invariant.guard;
       core = record {
         state = led c;
         answer = ap (λ (n : ℕ). c_outcome code.Done n) moves;

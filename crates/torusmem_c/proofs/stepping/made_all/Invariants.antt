@@ -8,4 +8,5 @@ abbrev pub invariant-loop-it : goal.invariant-loop-it
 invariant-loop-it l = record {
   led : core_after l.machine.asked.core (steps_named (drop l.it-index l.attempts)) ≡ core_after l.fn.machine.asked.core (steps_named l.attempts);
   spins : l.machine.asked.spins ≡ l.fn.machine.asked.spins;
+  guard : l.machine.asked.guard ≡ l.fn.machine.asked.guard;
 }

@@ -18,6 +18,7 @@ returns-then-is_built-clause-opened g c =
       fresh = loaded.after;
       scripts = no_lines (lines c.as_slice.result.now) loaded.load loaded.read
           ∙ ap (λ (s : Shape). replicate (tiles_of s) []) (sym loaded.after.shape ∙ built.shape_is);
+      guard = c.in-Ok.ensures.guard;
     }
 
 pub returns-then-is_built-clause-spins : goal.returns-then-is_built-clause-spins

@@ -3,13 +3,14 @@ use Rattle.machine_asked.proofs.Waiting.{few_rounds, on_after, waited, waits_mor
 use Rattle.machine_asked.proofs.asked.AskedMachine.wait.Goals as goal
 
 pub loop-self-init : goal.loop-self-init
-loop-self-init g c = record { waited = waits_none c.args.self.now.core c.args.processor c.args.index; spins = refl }
+loop-self-init g c = record { waited = waits_none c.args.self.now.core c.args.processor c.args.index; spins = refl; guard = refl }
 
 pub loop-self-preserved : goal.loop-self-preserved
 loop-self-preserved g c = record {
   waited = waits_more c.args.self.now.core c.loop-self.self.core c.round.new.self.core c.args.processor c.args.index c.loop-self.rounds
       c.loop-self.invariant.waited (sym c.is_settled.ensures ∙ c.loop-self-test.true) c.round.ensures.state;
   spins = c.round.ensures.spins ∙ c.loop-self.invariant.spins;
+  guard = c.round.ensures.guard ∙ c.loop-self.invariant.guard;
 }
 
 pub loop-self-smaller : goal.loop-self-smaller
@@ -33,4 +34,5 @@ returns g c =
           (sym c.is_settled.ensures ∙ c.loop-self-test.false);
       runs_on = on_after c.args.self.now.core c.loop-self.self.core c.loop-self.rounds made.made.so_far;
       spins = c.loop-self.invariant.spins;
+      guard = c.loop-self.invariant.guard;
     }

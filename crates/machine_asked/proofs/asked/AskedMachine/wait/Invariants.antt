@@ -7,6 +7,7 @@ abbrev pub invariant-loop-self : goal.invariant-loop-self
 invariant-loop-self g l = record {
   waited : HasWaited l.fn.self.core l.self.core l.processor l.index l.rounds;
   spins : l.self.spins ≡ l.fn.self.spins;
+  guard : l.self.guard ≡ l.fn.self.guard;
 }
 
 -- no machine needs more rounds than the moves that a machine can have left

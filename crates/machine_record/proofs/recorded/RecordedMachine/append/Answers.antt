@@ -7,4 +7,4 @@ pub invariant_of-self-2 : goal.invariant_of-self-2
 invariant_of-self-2 g c =
     keeps_line (option_map recording_of c.self.inside.kept) (option_map recording_of c.keep_line.new.kept) (room_of c.self.inside.kept) (room_of c.keep_line.new.kept)
     c.self.inside.machine c.append.new.self c.args.processor c.args.line
-    c.self.invariant c.in_ok-append.ensures.taken.0 c.in_ok-append.ensures.taken.1 c.in_ok-append.ensures.taken.2 c.keep_line.ensures
+    c.self.invariant c.in_ok-append.ensures.taken.0 c.in_ok-append.ensures.taken.1 c.in_ok-append.ensures.taken.2 c.in_ok-append.ensures.taken.3 c.keep_line.ensures

@@ -7,7 +7,7 @@ pub invariant_of-self-2 : goal.invariant_of-self-2
 invariant_of-self-2 g c =
     keeps_line (option_map recording_of c.self.inside.kept) (option_map recording_of c.keep_line.new.kept) (room_of c.self.inside.kept) (room_of c.keep_line.new.kept)
     c.self.inside.machine c.ask.new.self c.args.processor c.args.line
-    c.self.invariant c.in_ok-index.ensures.taken.0 c.in_ok-index.ensures.taken.1 c.in_ok-index.ensures.taken.2 c.keep_line.ensures
+    c.self.invariant c.in_ok-index.ensures.taken.0 c.in_ok-index.ensures.taken.1 c.in_ok-index.ensures.taken.2 c.in_ok-index.ensures.taken.3 c.keep_line.ensures
 
 pub returns-clause-numbered : goal.returns-clause-numbered
 returns-clause-numbered g c = rw (← c.self.view_is) c.in_ok-index.ensures.numbered

@@ -13,4 +13,4 @@ invariant_of-self g c =
     keeps_clocked (option_map recording_of c.self.inside.kept) (option_map recording_of c.keep_clocked.new.kept) (room_of c.self.inside.kept) (room_of c.keep_clocked.new.kept)
     c.self.inside.machine c.clocked_round.new.self
     c.args.turn (c.args.turn % (8 * c.dims.result + 2)) (ap (λ (n : ℕ). c.args.turn % (8 * n + 2)) dims) c.self.invariant c.clocked_round.ensures.state
-    c.clocked_round.ensures.spins c.keep_clocked.ensures
+    c.clocked_round.ensures.spins c.clocked_round.ensures.guard c.keep_clocked.ensures

@@ -7,4 +7,4 @@ pub invariant_of-self : goal.invariant_of-self
 invariant_of-self g c =
     keeps_rounds (option_map recording_of c.self.inside.kept) (option_map recording_of c.keep_rounds.new.kept) (room_of c.self.inside.kept) (room_of c.keep_rounds.new.kept)
     c.self.inside.machine c.finish-rounds.new.self c.finish-rounds.result
-    c.self.invariant c.finish-rounds.ensures.state c.finish-rounds.ensures.spins c.keep_rounds.ensures
+    c.self.invariant c.finish-rounds.ensures.state c.finish-rounds.ensures.spins c.finish-rounds.ensures.guard c.keep_rounds.ensures

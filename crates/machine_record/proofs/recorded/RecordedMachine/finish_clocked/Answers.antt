@@ -7,5 +7,5 @@ pub invariant_of-self : goal.invariant_of-self
 invariant_of-self g c =
     keeps_clocked_rounds (option_map recording_of c.self.inside.kept) (option_map recording_of c.keep_clocked_rounds.new.kept) (room_of c.self.inside.kept) (room_of c.keep_clocked_rounds.new.kept)
     c.self.inside.machine
-    c.finish_clocked-rounds.new.self c.finish_clocked-rounds.result c.self.invariant c.finish_clocked-rounds.ensures.state c.finish_clocked-rounds.ensures.spins
+    c.finish_clocked-rounds.new.self c.finish_clocked-rounds.result c.self.invariant c.finish_clocked-rounds.ensures.state c.finish_clocked-rounds.ensures.spins c.finish_clocked-rounds.ensures.guard
     c.keep_clocked_rounds.ensures

@@ -7,9 +7,9 @@ use Rattle.machine_record.proofs.recorded.RecordedMachine.open.Goals as goal
 pub invariant_of-result : goal.invariant_of-result
 invariant_of-result g c =
     ap made_by c.begun_without_scripts.ensures
-    ∙ fresh_makes c.in_ok-opened.opened.text.items [] c.in_ok-opened.opened.machine c.in_ok-opened.ensures.loaded c.in_ok-opened.ensures.spins
+    ∙ fresh_makes c.in_ok-opened.opened.text.items [] c.in_ok-opened.opened.machine c.in_ok-opened.ensures.loaded c.in_ok-opened.ensures.spins c.in_ok-opened.ensures.opened.guard
 
 pub returns-clause-kept : goal.returns-clause-kept
 returns-clause-kept g c =
     fresh_is c.in_ok-opened.opened.text.items c.in_ok-opened.opened.machine (recording_of c.begun_without_scripts.result)
-    (room_of (Some c.begun_without_scripts.result)) c.in_ok-opened.ensures.loaded c.in_ok-opened.ensures.spins c.begun_without_scripts.ensures
+    (room_of (Some c.begun_without_scripts.result)) c.in_ok-opened.ensures.loaded c.in_ok-opened.ensures.spins c.in_ok-opened.ensures.opened.guard c.begun_without_scripts.ensures

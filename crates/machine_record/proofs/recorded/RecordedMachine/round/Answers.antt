@@ -7,4 +7,4 @@ pub invariant_of-self : goal.invariant_of-self
 invariant_of-self g c =
     keeps_round (option_map recording_of c.self.inside.kept) (option_map recording_of c.keep_rounds.new.kept) (room_of c.self.inside.kept) (room_of c.keep_rounds.new.kept)
     c.self.inside.machine c.round.new.self c.self.invariant c.round.ensures.state
-    c.round.ensures.spins c.keep_rounds.ensures
+    c.round.ensures.spins c.round.ensures.guard c.keep_rounds.ensures

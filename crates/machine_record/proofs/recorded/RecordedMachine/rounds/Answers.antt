@@ -9,7 +9,7 @@ pub invariant_of-self : goal.invariant_of-self
 invariant_of-self g c =
     keeps_rounds (option_map recording_of c.self.inside.kept) (option_map recording_of c.keep.new.kept) (room_of c.self.inside.kept) (room_of c.keep.new.kept)
     c.self.inside.machine c.make_rounds.new.machine c.args.count c.self.invariant (ap (λ (x : Asked). x.core) c.make_rounds.ensures)
-    (ap (λ (x : Asked). x.spins) c.make_rounds.ensures) c.keep.ensures
+    (ap (λ (x : Asked). x.spins) c.make_rounds.ensures) (ap (λ (x : Asked). x.guard) c.make_rounds.ensures) c.keep.ensures
 
 pub returns-clause-runs_on : goal.returns-clause-runs_on
 returns-clause-runs_on g c =
