@@ -3,22 +3,43 @@ from __future__ import annotations
 
 import copy
 from collections import Counter
-from typing import Callable, Iterator
+from typing import Callable, Iterator, Tuple
 
 from torusmem_tools.model import campaign_cases, clocked_rounds, replay
 
 
-def turned(shape: replay.Shape, number: int) -> Iterator[clocked_rounds.Attempt]:
-    """The attempts of the clocked round of a number, in their order, enabled or not."""
-    for agent, choice, port in replay.attempts(shape):
-        yield agent, choice, ((port or 0) + (number - 1 if choice == "put" else 0)) % shape.ports
+def in_turn(machine: replay.Machine, number: int) -> Iterator[clocked_rounds.Attempt]:
+    """The attempts of the round of a number, in their order, enabled or not, where the puts begin at the input whose turn it is."""
+    for agent, choice, port in replay.attempts(machine.shape):
+        yield agent, choice, ((port or 0) + (number - 1 if choice == "put" else 0)) % machine.shape.ports
 
 
-def moves(machine: replay.Machine, number: int, _: replay.Begins) -> list[str]:
+def issue_of(machine: replay.Machine, agent: int, port: int) -> int:
+    """The number of the issue of the operation whose head stands at an input of a router; 0 where none does."""
+    flit = machine.routers[agent // 3].latches.get(port)
+    return flit.operation.events[0] if flit and flit.number == 0 else 0
+
+
+def by_age(machine: replay.Machine, number: int) -> Iterator[clocked_rounds.Attempt]:
+    """The attempts of a round, in their order, enabled or not, where the heads go in the order of issue, behind other flits."""
+    puts: list[Tuple[int, clocked_rounds.Attempt]] = []
+    for agent, choice, port in replay.attempts(machine.shape):
+        if choice == "put":
+            puts.append((issue_of(machine, agent, port or 0), (agent, choice, port or 0)))
+            continue
+        yield from (it for _, it in sorted(puts))
+        puts.clear()
+        yield agent, choice, port or 0
+
+
+ORDERS = {"turn": in_turn, "oldest": by_age}
+
+
+def moves(arbiter: str, machine: replay.Machine, number: int, _: replay.Begins) -> list[str]:
     """Makes the clocked round of this number as docs/FORMATS.md words it, and answers the lines of its moves."""
     twin: Callable[[], replay.Machine] = lambda: copy.deepcopy(machine, {id(machine.shape): machine.shape})
     enabled, tried = [], twin()
-    for attempt in turned(machine.shape, number):
+    for attempt in ORDERS[arbiter](machine, number):
         if tried.step(*attempt, number):
             enabled.append(attempt)
             tried = twin()

@@ -11,6 +11,7 @@ use Rattle.sentences.specs.declared.scripts.EndedScripts.{EndedScripts}
 use Rattle.sentences.specs.Ended.{IsEndInTextOrder}
 use Rattle.command_texts.specs.Ends.{HasEndedRounds, ShowsReached}
 use Rattle.command_texts.specs.Run.{HasRun, asked_of}
+use Rattle.command_jobs.specs.Jobs.{pace_of}
 use Rattle.command_line.specs.declared.command.Job.{Job}
 use Rattle.command_line.specs.declared.command.Job.TheVariants.{Steps, Round}
 
@@ -29,8 +30,8 @@ ShowsEnd (Steps machine script steps) texts saw old new result = Does
     (lines texts.third.items))) saw)
     (IsTextsFault (asked_of (lines texts.first.items) (lines texts.second.items)
     (lines texts.third.items))) old new result
-ShowsEnd (Round machine script rounds clocked) texts saw old new result = Does
-    (ShowsReached (HasEndedRounds clocked (load_by (lines texts.first.items)
+ShowsEnd (Round machine script rounds pace) texts saw old new result = Does
+    (ShowsReached (HasEndedRounds (pace_of pace) (load_by (lines texts.first.items)
     (lines texts.second.items)) rounds) saw)
     (IsTextsFault (load_by (lines texts.first.items) (lines texts.second.items))) old new result
 ShowsEnd _ texts saw old new result = Unit {0}

@@ -9,13 +9,14 @@ ghost use Rattle.command_texts.specs.Run.{HasRun, PrintsRun, asked_of};
 ghost use Rattle.command_texts.specs.Rounds.{PrintsRounds};
 ghost use Rattle.command_jobs.specs.Ends.{ShowsEnd};
 ghost use Rattle.command_jobs.specs.Jobs.{AnswersJob, IsFinishedJob, done_in, finished_in};
-ghost use Rattle.command_jobs.specs.Jobs.{is_of_commands};
+ghost use Rattle.command_jobs.specs.Jobs.{is_of_commands, pace_of};
 
 use crate::progress_line::ProgressLine;
-use command_line::Job;
+use command_line::{AskedPace, Job};
 use command_texts::{
     Ending, channels_text, check_text, round_text_with, route_text, steps_text_with,
 };
+use fair_rounds::Pace;
 use program_fault::{ProgramFault, Texts};
 use report_lines::Out;
 use sentences::Course;
@@ -28,6 +29,19 @@ pub struct Ended {
     pub finished: bool,
     /// What a run with a report was made of.
     pub course: Option<Course>,
+    /// In how many rounds a guard held operations back.
+    pub held: u64,
+}
+
+/// The pace of rounds that the words of a command line name.
+pub fn pace_of(pace: AskedPace) -> Pace
+    ensures { result ≡ pace_of pace }
+{
+    match pace {
+        AskedPace::InOrder => Pace::InOrder,
+        AskedPace::Turned => Pace::Turned,
+        AskedPace::Fair(most) => Pace::Fair(most),
+    }
 }
 
 /// Whether the work of a job stands in `commands`.
@@ -67,11 +81,10 @@ pub fn answer<R: Eprint + Clock + AllocGlobal, W: Out, E: Ending>(
     let first = texts.first.as_slice();
     match *job {
         Job::Steps { .. } => by_steps(rt, texts, is_seen, out, ending),
-        Job::Round {
-            rounds,
-            clocked,
-            ..
-        } => in_rounds(rt, texts, u64::from(rounds), clocked, is_seen, out, ending),
+        Job::Round { rounds, pace, .. } => {
+            let pace = pace_of(pace);
+            in_rounds(rt, texts, u64::from(rounds), pace, is_seen, out, ending)
+        }
         Job::Route {
             src,
             dst,
@@ -93,6 +106,7 @@ fn plain(done: Result<(), ProgramFault>) -> Result<Ended, ProgramFault>
         Ok(()) => Ok(Ended {
             finished: true,
             course: None,
+            held: 0,
         }),
         Err(fault) => Err(fault),
     }
@@ -128,28 +142,29 @@ fn by_steps<R: Eprint + Clock + AllocGlobal, W: Out, E: Ending>(
             Ok(Ended {
                 finished,
                 course: Some(Course::Steps { moves }),
+                held: 0,
             })
         }
         Err(fault) => Err(fault),
     }
 }
 
-/// Runs in rounds, clocked or in order, at most so many.
+/// Runs in rounds of a pace, at most so many.
 fn in_rounds<R: Eprint + Clock + AllocGlobal, W: Out, E: Ending>(
     rt: &R,
     texts: &Texts,
     rounds: u64,
-    clocked: bool,
+    pace: Pace,
     is_seen: bool,
     out: &mut W,
     ending: &mut E,
 ) -> Result<Ended, ProgramFault>
-    ensures prints { PrintsRounds clocked
+    ensures prints { PrintsRounds pace
         (load_by (lines texts.now.first.items) (lines texts.now.second.items)) rounds
         (output (W.taken out.old) (W.failures out.old))
         (output (W.taken out.new) (W.failures out.new)) (finished_in result) }
     ensures ends { Does
-        (ShowsReached (HasEndedRounds clocked
+        (ShowsReached (HasEndedRounds pace
         (load_by (lines texts.now.first.items) (lines texts.now.second.items)) rounds)
         (E.saw ending.new))
         (IsTextsFault (load_by (lines texts.now.first.items) (lines texts.now.second.items)))
@@ -159,9 +174,7 @@ fn in_rounds<R: Eprint + Clock + AllocGlobal, W: Out, E: Ending>(
     let (machine, script) = (texts.first.as_slice(), texts.second.as_slice());
     let mut line = ProgressLine::new(rt, is_seen);
     let alloc = rt.alloc();
-    match round_text_with(
-        alloc, machine, script, rounds, clocked, out, &mut line, ending,
-    ) {
+    match round_text_with(alloc, machine, script, rounds, pace, out, &mut line, ending) {
         Ok(finished) => {
             let course = Course::Rounds {
                 rounds: line.rounds_made(),
@@ -170,6 +183,7 @@ fn in_rounds<R: Eprint + Clock + AllocGlobal, W: Out, E: Ending>(
             Ok(Ended {
                 finished,
                 course: Some(course),
+                held: line.rounds_held(),
             })
         }
         Err(fault) => Err(fault),

@@ -55,7 +55,8 @@ fn tell_hint<R: Eprint>(rt: &R, job: &Job, texts: &Texts, fault: &ProgramFault) 
 }
 
 /// Whether every script is finished, once the output is written to its last byte. How a run ended
-/// is printed behind its report, where that is asked for or standard error `is_seen`.
+/// is printed behind its report, where that is asked for or standard error `is_seen`, and else what of it
+/// nobody should miss.
 fn printed<R: Print + Eprint + Clock + AllocGlobal>(
     rt: &R,
     request: &Request,
@@ -65,11 +66,11 @@ fn printed<R: Print + Eprint + Clock + AllocGlobal>(
     requires { is_of_commands request.now.job ≡ true }
 {
     let is_told = request.explain || is_seen;
-    let mut end = RunEnd::new(rt.alloc(), is_told, &texts.first, &texts.second);
+    let mut end = RunEnd::new(rt.alloc(), &texts.first, &texts.second);
     let mut writer = writer(rt)?;
     let mut out = Piped::new(&mut writer);
     let ended = answer(rt, &request.job, texts, is_seen, &mut out, &mut end)?;
     flushed(&mut writer)?;
-    tell_end_of(rt, &request.job, &end, ended);
+    tell_end_of(rt, &request.job, &end, ended, is_told);
     Ok(ended.finished)
 }

@@ -12,7 +12,7 @@ pub mod reading;
 pub mod run_end;
 pub mod version;
 
-pub use answering::{Ended, answer, is_of_commands};
+pub use answering::{Ended, answer, is_of_commands, pace_of};
 pub use doing::done;
 pub use naming::{kind, names};
 pub use printing::{all_printed, fault_told, flushed, tell_end_of, writer};

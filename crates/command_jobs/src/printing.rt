@@ -39,14 +39,41 @@ pub fn all_printed<R: Print + AllocGlobal>(rt: &R, bytes: &[u8]) -> Result<(), P
     flushed(&mut writer)
 }
 
-/// Says how the run of a job ended, behind its report, where that was found.
-pub fn tell_end_of<R: Eprint>(rt: &R, job: &Job, end: &RunEnd, ended: Ended) {
+/// Says how the run of a job ended, behind its report, where that was found: all of it where that is to be
+/// told, and else how many spins ran out of loads, where every script is finished. Before it comes in how
+/// many rounds a guard held operations back, where it did.
+pub fn tell_end_of<R: Eprint>(rt: &R, job: &Job, end: &RunEnd, ended: Ended, is_told: bool) {
+    tell_held(rt, ended.held);
+    if !is_told {
+        tell_spent(rt, end, ended.finished);
+        return;
+    }
     if let (Some(course), Some(found), Some(name)) = (
         ended.course,
         end.found(),
         names(job).second,
     ) {
         tell_end(rt, name, found, ended.finished, course);
+    }
+}
+
+/// Says in how many rounds a guard held operations back, where it did.
+fn tell_held<R: Eprint>(rt: &R, held: u64) {
+    if held > 0 {
+        let rounds = if held == 1 { "round" } else { "rounds" };
+        let _ = eprintln!(rt; "the guard held operations back in {held} {rounds}");
+    }
+}
+
+/// Says how many spins ran out of loads, where some did though every script is finished.
+fn tell_spent<R: Eprint>(rt: &R, end: &RunEnd, finished: bool) {
+    let Some(found) = end.found() else {
+        return;
+    };
+    let count = found.spins.len();
+    if finished && count > 0 {
+        let spins = if count == 1 { "spin" } else { "spins" };
+        let _ = eprintln!(rt; "{count} {spins} ran out of loads");
     }
 }
 

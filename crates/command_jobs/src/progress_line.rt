@@ -20,6 +20,8 @@ pub struct ProgressLine<'a, R> {
     rounds_made: u64,
     /// How many moves the run has made, once it has ended.
     moves_made: u64,
+    /// In how many of its rounds a guard held operations back, once it has ended.
+    rounds_held: u64,
     /// How many rounds were made since the last look at the clock.
     rounds: u32,
     /// When the line that stands there was written.
@@ -34,6 +36,7 @@ impl<'a, R: Eprint + Clock> ProgressLine<'a, R> {
             is_wanted,
             rounds_made: 0,
             moves_made: 0,
+            rounds_held: 0,
             rounds: 0,
             written: None,
         }
@@ -47,6 +50,11 @@ impl<'a, R: Eprint + Clock> ProgressLine<'a, R> {
     /// How many moves the run has made, once it has ended.
     pub fn moves_made(&self) -> u64 {
         self.moves_made
+    }
+
+    /// In how many of the run's rounds a guard held operations back, once it has ended.
+    pub fn rounds_held(&self) -> u64 {
+        self.rounds_held
     }
 
     /// Whether the line is to be written, at a look at the clock; not where there is none.
@@ -82,8 +90,9 @@ impl<R: Eprint + Clock> Progress for ProgressLine<'_, R> {
         let _ = eprint!(self.rt; "\r\x1b[Krounds made {rounds}, operations answered {answered}");
     }
 
-    fn ended(&mut self, moves: u64) {
+    fn ended(&mut self, moves: u64, held: u64) {
         self.moves_made = moves;
+        self.rounds_held = held;
         if self.written.is_some() {
             self.written = None;
             let _ = eprint!(self.rt; "\r\x1b[K");

@@ -9,11 +9,10 @@ use machine_report::{Reached, answers_of};
 use sentences::{EndedScripts, ended_in_text_order};
 use std::alloc::Global;
 
-/// Finds what became of the scripts of a run, where that is wanted.
+/// Finds what became of the scripts of a run.
 #[derive(Drop)]
 pub struct RunEnd<'a> {
     alloc: Global,
-    is_wanted: bool,
     machine: &'a [u8],
     scripts: &'a [u8],
     found: Option<EndedScripts<Global>>,
@@ -22,17 +21,16 @@ pub struct RunEnd<'a> {
 impl<'a> RunEnd<'a> {
     /// What is found of a run of the machine of a text, whose processors follow the scripts of a text:
     /// nothing before its end.
-    pub fn new(alloc: Global, is_wanted: bool, machine: &'a [u8], scripts: &'a [u8]) -> Self {
+    pub fn new(alloc: Global, machine: &'a [u8], scripts: &'a [u8]) -> Self {
         RunEnd {
             alloc,
-            is_wanted,
             machine,
             scripts,
             found: None,
         }
     }
 
-    /// What became of the scripts; `None` where that wasn't wanted, and where memory ran out.
+    /// What became of the scripts; `None` before the end, and where memory ran out.
     pub fn found(&self) -> Option<&EndedScripts<Global>> {
         self.found.as_ref()
     }
@@ -44,11 +42,7 @@ impl Ending for RunEnd<'_> {
     ghost saw = { λ end core. HasFound end.machine.now end.scripts.now core end.found };
 
     fn shown<S: Reached>(&mut self, reached: &S) {
-        self.found = if self.is_wanted {
-            found(self.alloc, reached, self.machine, self.scripts)
-        } else {
-            None
-        };
+        self.found = found(self.alloc, reached, self.machine, self.scripts);
     }
 }
 

@@ -1,5 +1,6 @@
 -- The command line is one of which clap says all.
-use Rattle.std.specs.Prelude.{◌≡◌, true, List, [], Option, Some, None, IfErr, IfOk, IfSome, Result, Ok, Err, option_map}
+use Rattle.std.specs.Prelude.{◌≡◌, true, Contains, List, [], Option, Some, None, IfErr, IfOk, IfSome, IsSomeAnd}
+use Rattle.std.specs.Prelude.{Result, Ok, Err, option_map}
 use Rattle.std.proofs.Common.{refl, ap, sym, subst, ◌∙◌}
 use Rattle.clap.specs.Simple.{App, HasMatchesOf, is_simple, subcommand_of, subcommand_rows_of}
 use Rattle.clap.specs.Faults.{fault_of, is_simple_and_free}
@@ -43,7 +44,8 @@ rows_are a words m P e has given = subst (λ o. IfSome (rows_in o) P) (found_row
 pub refused_is : (words : List Text) (m : ArgMatches) (e : NoJob) → HasMatchesOf torusmem_app words m
     → TellsNoJob (subcommand_name_of m) (rows_in (subcommand_rows_of m)) e → TellsNoJob (name_by words) (rows_by words) e
 refused_is words m (Options misuse) has tells = (
-  name_is torusmem_app words m (misused misuse) refl has tells.0,
+  subst (λ name. IsSomeAnd name (Contains (misused misuse)))
+      (name_found m ∙ ap (option_map (λ f. f.0)) (found_rows torusmem_app words m refl has)) tells.0,
   rows_are torusmem_app words m (IsMisuse misuse) refl has tells.1,
 )
 refused_is words m Missing has tells = subst (λ name. IfSome (rows_by words) (NamesNothing name))

@@ -1,10 +1,12 @@
 -- What a job says of the values that the words of its subcommand give (this project's own format).
-use Rattle.std.specs.Prelude.{◌≡◌, ℕ, ◌≤◌, Bool, true, false, List, [], ◌∷◌, Option, Some, None, codes, option_map}
+use Rattle.std.specs.Prelude.{◌≡◌, ℕ, ◌≤◌, Bool, true, false, List, [], ◌∷◌, Option, Some, None, IfSome, codes, option_map}
 use Rattle.std.specs.Option.{unwrap_or}
 use Rattle.std.specs.Str.Parse.{digits_value, without_leading_plus}
 use Rattle.clap.specs.Words.{Row, Text, all_of, first_of, one_of}
 use Rattle.torus.specs.declared.shape.Class.{Class}
 use Rattle.torus.specs.declared.shape.Class.TheVariants.{Request, Reply}
+use Rattle.command_line.specs.declared.pace.AskedPace.{AskedPace}
+use Rattle.command_line.specs.declared.pace.AskedPace.TheVariants.{InOrder, Turned, Fair}
 use Rattle.command_line.specs.declared.command.Job.{Job}
 use Rattle.command_line.specs.declared.command.Job.TheVariants.{Steps, Round, Run, Live, Route}
 use Rattle.command_line.specs.declared.command.Job.TheVariants.{Channels, Check}
@@ -37,7 +39,7 @@ class_word Reply = flag_text true
 -- log or report, of a report with the texts of its run, and of a log by its replies alone
 abbrev pub name_of : Job → Text
 name_of (Steps machine script steps) = codes "steps"
-name_of (Round machine script rounds clocked) = codes "round"
+name_of (Round machine script rounds pace) = codes "round"
 name_of (Run machine script workers turns) = codes "run"
 name_of (Live machine) = codes "live"
 name_of (Route machine src dst class) = codes "route"
@@ -53,7 +55,7 @@ name_of (Watch trace configurations) = codes "watch"
 name_of (Model log model order) = codes "model"
 name_of (RunModel log model order machine script) = codes "model"
 name_of (ValueModel log model order nodes) = codes "model"
-name_of (Schedule machine script rounds clocked) = codes "schedule"
+name_of (Schedule machine script rounds pace) = codes "schedule"
 name_of (Draw machine script seed steps) = codes "draw"
 name_of (Moves machine script steps) = codes "steps"
 
@@ -74,17 +76,29 @@ abbrev pub IsGiven : Text → Bool → List Row → Type 0
 IsGiven id true rows = one_of id rows ≡ Some (flag_text true)
 IsGiven id false rows = one_of id rows ≡ Some (flag_text true) → ⊥
 
+-- how rounds are made: in order, where nothing is said of clocked ones; clocked by turns, where the arbiter
+-- is `turn`; or clocked with a guard, where it is `oldest` or isn't given
+abbrev pub IsPace : AskedPace → List Row → Type 0
+IsPace InOrder rows = IsFlag (codes "clocked") false rows
+    × (first_of (codes "arbiter") rows ≡ None) × (number_in (codes "guard") rows ≡ None)
+IsPace Turned rows = IsFlag (codes "clocked") true rows
+    × (first_of (codes "arbiter") rows ≡ Some (codes "turn"))
+    × (number_in (codes "guard") rows ≡ None)
+IsPace (Fair guard) rows = IsFlag (codes "clocked") true rows
+    × IfSome (first_of (codes "arbiter") rows) (λ name. name ≡ codes "oldest")
+    × (number_in (codes "guard") rows ≡ guard)
+
 -- the values are those of the job: words as they are given, and the numbers that are written
 abbrev pub AreOfJob : Job → List Row → Type 0
 AreOfJob (Steps machine script steps) rows = (first_of (codes "MACHINE") rows ≡ Some machine.now)
     × (first_of (codes "SCRIPT") rows ≡ Some script.now)
     × (first_of (codes "STEPS") rows ≡ Some steps.now)
     × IsFlag (codes "moves") false rows
-AreOfJob (Round machine script rounds clocked) rows =
+AreOfJob (Round machine script rounds pace) rows =
     (first_of (codes "MACHINE") rows ≡ Some machine.now)
     × (first_of (codes "SCRIPT") rows ≡ Some script.now)
     × (number_in (codes "rounds") rows ≡ Some rounds)
-    × IsFlag (codes "clocked") clocked rows
+    × IsPace pace rows
 AreOfJob (Run machine script workers turns) rows = (first_of (codes "MACHINE") rows ≡ Some machine.now)
     × (first_of (codes "SCRIPT") rows ≡ Some script.now)
     × (number_in (codes "workers") rows ≡ Some workers)
@@ -133,11 +147,11 @@ AreOfJob (ValueModel log model order nodes) rows = (first_of (codes "LOG") rows 
     × (first_of (codes "model") rows ≡ Some model.now)
     × IsFlag (codes "order") order rows × (all_of (codes "texts") rows ≡ None)
     × IsFlag (codes "values") true rows × (nodes_in rows ≡ nodes)
-AreOfJob (Schedule machine script rounds clocked) rows =
+AreOfJob (Schedule machine script rounds pace) rows =
     (first_of (codes "MACHINE") rows ≡ Some machine.now)
     × (first_of (codes "SCRIPT") rows ≡ Some script.now)
     × (number_in (codes "rounds") rows ≡ Some rounds)
-    × IsFlag (codes "clocked") clocked rows
+    × IsPace pace rows
 AreOfJob (Draw machine script seed steps) rows = (first_of (codes "MACHINE") rows ≡ Some machine.now)
     × (first_of (codes "SCRIPT") rows ≡ Some script.now)
     × (number_in (codes "seed") rows ≡ Some seed) × (number_in (codes "steps") rows ≡ steps)
@@ -149,7 +163,7 @@ AreOfJob (Moves machine script steps) rows = (first_of (codes "MACHINE") rows �
 -- the numbers of a job are within their limits: 1 to 1000000 rounds, 1 to 16 workers, 1 to
 -- 1000000000 turns, a depth of 1 to 8, at least one configuration or node
 abbrev pub AreJobLimits : Job → Type 0
-AreJobLimits (Round machine script rounds clocked) = (1 ≤ rounds) × (rounds ≤ 1000000)
+AreJobLimits (Round machine script rounds pace) = (1 ≤ rounds) × (rounds ≤ 1000000)
 AreJobLimits (Run machine script workers turns) =
     ((1 ≤ workers) × (workers ≤ 16)) × ((1 ≤ turns) × (turns ≤ 1000000000))
 AreJobLimits (LockUp network depth) = (1 ≤ depth) × (depth ≤ 8)
@@ -159,7 +173,7 @@ AreJobLimits (Linearize trace configurations) = 1 ≤ configurations
 AreJobLimits (Report trace configurations) = 1 ≤ configurations
 AreJobLimits (Watch trace configurations) = 1 ≤ configurations
 AreJobLimits (ValueModel log model order nodes) = 1 ≤ nodes
-AreJobLimits (Schedule machine script rounds clocked) = (1 ≤ rounds) × (rounds ≤ 1000000)
+AreJobLimits (Schedule machine script rounds pace) = (1 ≤ rounds) × (rounds ≤ 1000000)
 AreJobLimits _ = Unit {0}
 
 -- a job of the subcommand of this name, with the values of these rows, within its limits

@@ -3,7 +3,8 @@ use Rattle.std.specs.Prelude.{◌++◌, codes, decimal, flat_map}
 use Rattle.clap.specs.Words.{Text}
 use Rattle.command_line.specs.declared.words.WordKind.{WordKind}
 use Rattle.command_line.specs.declared.words.WordKind.TheVariants.{Flag, Path, Number, Long}
-use Rattle.command_line.specs.declared.words.WordKind.TheVariants.{Arbiter, Model, RunTexts}
+use Rattle.command_line.specs.declared.words.WordKind.TheVariants.{Arbiter, MachineArbiter, Model}
+use Rattle.command_line.specs.declared.words.WordKind.TheVariants.{RunTexts}
 use Rattle.command_line.specs.Table.{NamedCommand, TakenWord, about_text, argument, commands}
 use Rattle.command_line.specs.Table.{common_words, free_option, needed_option, usual_option}
 
@@ -14,6 +15,7 @@ kind_text Path = codes "PATH"
 kind_text (Number least most) = decimal least ++ codes ".." ++ decimal most
 kind_text Long = codes "0..18446744073709551615"
 kind_text Arbiter = codes "rotating,turn"
+kind_text MachineArbiter = codes "oldest,turn"
 kind_text Model = codes "coherent,fenced,pso,tso,sc"
 kind_text RunTexts = codes "MACHINE,SCRIPT"
 

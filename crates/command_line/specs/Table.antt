@@ -3,7 +3,7 @@ use Rattle.std.specs.Prelude.{List, [], ◌∷◌, ◌++◌, codes, map}
 use Rattle.clap.specs.Words.{Text}
 use Rattle.command_line.specs.declared.words.WordKind.{WordKind}
 use Rattle.command_line.specs.declared.words.WordKind.TheVariants.{Flag, Path, Number, Long, Arbiter}
-use Rattle.command_line.specs.declared.words.WordKind.TheVariants.{Model, RunTexts}
+use Rattle.command_line.specs.declared.words.WordKind.TheVariants.{MachineArbiter, Model, RunTexts}
 use Rattle.command_line.specs.declared.words.CommandWord.{CommandWord}
 use Rattle.command_line.specs.declared.words.CommandWord.TheVariants.{Argument, Required, Optional}
 use Rattle.command_line.specs.declared.words.CommandWord.TheVariants.{Usual}
@@ -66,6 +66,17 @@ abbrev pub clocked_word : TakenWord
 clocked_word = free_option (codes "clocked") Flag
     (codes "Clocked rounds: each attempts what is enabled when it begins")
 
+-- the arbiter of a machine's clocked rounds
+abbrev pub machine_arbiter_word : TakenWord
+machine_arbiter_word = free_option (codes "arbiter") MachineArbiter
+    (codes "With --clocked: which head an output takes, oldest (by default) or turn")
+
+-- the guard of clocked rounds, a number of rounds
+abbrev pub guard_word : TakenWord
+guard_word = free_option (codes "guard") Long
+    (codes "With --clocked: none begins while an operation is out for more rounds than this, "
+    ++ codes "0 to 18446744073709551615")
+
 -- the file with the network
 abbrev pub network_word : TakenWord
 network_word = argument (codes "NETWORK") Path (codes "The file with the network")
@@ -96,7 +107,8 @@ abbrev pub round_command : NamedCommand
 round_command = record {
   name = codes "round";
   about = codes "Runs in rounds until every script is finished, and prints the report";
-  words = machine_word ∷ script_word ∷ rounds_word ∷ clocked_word ∷ [];
+  words = machine_word ∷ script_word ∷ rounds_word ∷ clocked_word ∷ machine_arbiter_word
+      ∷ guard_word ∷ [];
 }
 
 -- `run`
@@ -125,7 +137,8 @@ abbrev pub schedule_command : NamedCommand
 schedule_command = record {
   name = codes "schedule";
   about = codes "Runs in rounds until every script is finished, and prints the moves as steps";
-  words = machine_word ∷ script_word ∷ rounds_word ∷ clocked_word ∷ [];
+  words = machine_word ∷ script_word ∷ rounds_word ∷ clocked_word ∷ machine_arbiter_word
+      ∷ guard_word ∷ [];
 }
 
 -- `draw`

@@ -12,6 +12,7 @@ use crate::jobs::{
     round_job, route_job, run_job, schedule_job, simulate_job, steps_job, watch_job,
 };
 use crate::making::command;
+use crate::pace::AskedPace;
 use crate::refused::{NoJob, NoRequest};
 use crate::values::{flag_of, is_given};
 use clap::{ArgMatches, Error};
@@ -28,13 +29,13 @@ pub enum Job<'a> {
         script: &'a str,
         steps: &'a str,
     },
-    /// Run in rounds, clocked or in order, at most so many, until every script is finished, and print
-    /// the report.
+    /// Run in rounds of this pace, at most so many, until every script is finished, and print the
+    /// report.
     Round {
         machine: &'a str,
         script: &'a str,
         rounds: u32,
-        clocked: bool,
+        pace: AskedPace,
     },
     /// Run by workers in threads, so many, each with at most so many turns, and print the report.
     Run {
@@ -126,12 +127,12 @@ pub enum Job<'a> {
         order: bool,
         nodes: u32,
     },
-    /// Print the moves of rounds, clocked or in order, at most so many, until every script is finished.
+    /// Print the moves of rounds of this pace, at most so many, until every script is finished.
     Schedule {
         machine: &'a str,
         script: &'a str,
         rounds: u32,
-        clocked: bool,
+        pace: AskedPace,
     },
     /// Print a schedule that is drawn by this seed, of at most so many moves where there is a
     /// number, until every script is finished.
@@ -188,8 +189,8 @@ pub fn name_of(job: &Job) -> &'static str
 
 /// Reads the words of a command line, the program's own name among them.
 ///
-/// Errors: what the parser says of the words, help among it, or that memory ran out; or that options of
-/// `network` or `model` are misused.
+/// Errors: what the parser says of the words, help among it, or that memory ran out; or that options are
+/// misused.
 pub fn read_command<'a, S: AsStr>(alloc: Global, words: &'a [S]) -> Result<Job<'a>, NoRequest>
     ensures named { IfOk result (λ job. name_by (map S.text words.entry.now) ≡ Some (name_of job)) }
     ensures given { IfOk result (λ job. IfSome (rows_by (map S.text words.entry.now)) (AreOfJob job)) }

@@ -1,9 +1,10 @@
 //! The job of each subcommand, from what was given for its arguments.
 ghost use Rattle.std.specs.Prelude.{codes};
 ghost use Rattle.clap.specs.Words.{found_of, rows_of};
-ghost use Rattle.command_line.specs.Refused.{AnswersBy};
+ghost use Rattle.command_line.specs.Refused.{AnswersBy, AnswersPace};
 
 use crate::command::Job;
+use crate::pace::AskedPace;
 use crate::refused::Misuse;
 use crate::table::{MOST_DEPTH, MOST_ROUNDS, MOST_TURNS, MOST_WORKERS};
 use crate::values::{
@@ -36,15 +37,38 @@ pub(crate) fn steps_job<'a>(given: &ArgMatches<'a>) -> Answer<'a>
     }
 }
 
+/// How the rounds of `round` and `schedule` are made, or how the options on them are misused; `None`
+/// where a value is missing.
+fn pace_of(given: &ArgMatches<'_>) -> Option<Result<AskedPace, Misuse>>
+    ensures { AnswersPace (rows_of (found_of given.now)) result }
+{
+    let guard = long_number_if_given(given, "guard")?;
+    match (flag_of(given, "clocked")?, word(given, "arbiter"), guard) {
+        (false, None, None) => Some(Ok(AskedPace::InOrder)),
+        (false, _, _) => Some(Err(Misuse::ArbiterAlone)),
+        (true, None, guard) => Some(Ok(AskedPace::Fair(guard))),
+        (true, Some("oldest"), guard) => Some(Ok(AskedPace::Fair(guard))),
+        (true, Some("turn"), None) => Some(Ok(AskedPace::Turned)),
+        (true, Some("turn"), Some(_)) => Some(Err(Misuse::GuardByTurn)),
+        (true, Some(_), _) => Some(Err(Misuse::OtherArbiter)),
+    }
+}
+
 pub(crate) fn round_job<'a>(given: &ArgMatches<'a>) -> Answer<'a>
     ensures { AnswersBy (codes "round") (rows_of (found_of given.now)) result }
 {
-    Some(Ok(Job::Round {
-        machine: word(given, "MACHINE")?,
-        script: word(given, "SCRIPT")?,
-        rounds: number(given, "rounds", 1, MOST_ROUNDS)?,
-        clocked: flag_of(given, "clocked")?,
-    }))
+    let machine = word(given, "MACHINE")?;
+    let script = word(given, "SCRIPT")?;
+    let rounds = number(given, "rounds", 1, MOST_ROUNDS)?;
+    match pace_of(given)? {
+        Ok(pace) => Some(Ok(Job::Round {
+            machine,
+            script,
+            rounds,
+            pace,
+        })),
+        Err(misuse) => Some(Err(misuse)),
+    }
 }
 
 pub(crate) fn run_job<'a>(given: &ArgMatches<'a>) -> Answer<'a>
@@ -69,12 +93,18 @@ pub(crate) fn live_job<'a>(given: &ArgMatches<'a>) -> Answer<'a>
 pub(crate) fn schedule_job<'a>(given: &ArgMatches<'a>) -> Answer<'a>
     ensures { AnswersBy (codes "schedule") (rows_of (found_of given.now)) result }
 {
-    Some(Ok(Job::Schedule {
-        machine: word(given, "MACHINE")?,
-        script: word(given, "SCRIPT")?,
-        rounds: number(given, "rounds", 1, MOST_ROUNDS)?,
-        clocked: flag_of(given, "clocked")?,
-    }))
+    let machine = word(given, "MACHINE")?;
+    let script = word(given, "SCRIPT")?;
+    let rounds = number(given, "rounds", 1, MOST_ROUNDS)?;
+    match pace_of(given)? {
+        Ok(pace) => Some(Ok(Job::Schedule {
+            machine,
+            script,
+            rounds,
+            pace,
+        })),
+        Err(misuse) => Some(Err(misuse)),
+    }
 }
 
 pub(crate) fn draw_job<'a>(given: &ArgMatches<'a>) -> Answer<'a>

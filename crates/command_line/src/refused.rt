@@ -4,7 +4,7 @@ ghost use Rattle.command_line.specs.Refused.{misuse_text};
 
 use clap::Error;
 
-/// How the options of `network` or `model` are misused.
+/// How the options of `network`, `model`, `round` or `schedule` are misused.
 #[derive(Clone, Copy)]
 pub enum Misuse {
     /// A run and a replay are both asked for.
@@ -15,6 +15,12 @@ pub enum Misuse {
     TextsAndValues,
     /// A number of nodes is given where not replies alone count.
     NodesAlone,
+    /// An arbiter or a guard is given, and rounds are in order.
+    ArbiterAlone,
+    /// A guard is given, and the inputs of a router go first by turns.
+    GuardByTurn,
+    /// A machine has no such arbiter.
+    OtherArbiter,
 }
 
 /// Why the values of a subcommand name no job.
@@ -45,5 +51,9 @@ pub fn misuse_text(misuse: Misuse) -> &'static str
             "--depth goes with --run or --replay: a verdict is that of every depth",
         Misuse::TextsAndValues => "model takes --texts or --values, not both",
         Misuse::NodesAlone => "--nodes goes with --values: without it nothing is searched",
+        Misuse::ArbiterAlone =>
+            "--arbiter and --guard go with --clocked: rounds in order have no arbiter",
+        Misuse::GuardByTurn => "--guard goes with the arbiter oldest, not with turn",
+        Misuse::OtherArbiter => "--arbiter of a machine is oldest or turn",
     }
 }

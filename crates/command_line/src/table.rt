@@ -5,7 +5,7 @@ ghost use Rattle.command_line.specs.Printed.{program_text};
 ghost use Rattle.command_line.specs.Table.{commands, common_words, named_command, taken_word};
 
 use crate::words::CommandWord::{Argument, Optional, Required, Usual};
-use crate::words::WordKind::{Arbiter, Flag, Long, Model, Number, Path, RunTexts};
+use crate::words::WordKind::{Arbiter, Flag, Long, MachineArbiter, Model, Number, Path, RunTexts};
 use crate::words::{CommandRow, CommandWord, put_common, put_rows};
 use std::fmt;
 
@@ -39,6 +39,18 @@ const CLOCKED: CommandWord = Optional(
     "clocked",
     Flag,
     "Clocked rounds: each attempts what is enabled when it begins",
+);
+
+const ARBITER: CommandWord = Optional(
+    "arbiter",
+    MachineArbiter,
+    "With --clocked: which head an output takes, oldest (by default) or turn",
+);
+
+const GUARD: CommandWord = Optional(
+    "guard",
+    Long,
+    "With --clocked: none begins while an operation is out for more rounds than this, 0 to 18446744073709551615",
 );
 
 const NETWORK: CommandWord = Argument("NETWORK", Path, "The file with the network");
@@ -79,7 +91,7 @@ const ROWS: [CommandRow; 14] = [
     CommandRow {
         name: "round",
         about: "Runs in rounds until every script is finished, and prints the report",
-        words: &[MACHINE, SCRIPT, ROUNDS, CLOCKED],
+        words: &[MACHINE, SCRIPT, ROUNDS, CLOCKED, ARBITER, GUARD],
     },
     CommandRow {
         name: "run",
@@ -109,7 +121,7 @@ const ROWS: [CommandRow; 14] = [
     CommandRow {
         name: "schedule",
         about: "Runs in rounds until every script is finished, and prints the moves as steps",
-        words: &[MACHINE, SCRIPT, ROUNDS, CLOCKED],
+        words: &[MACHINE, SCRIPT, ROUNDS, CLOCKED, ARBITER, GUARD],
     },
     CommandRow {
         name: "draw",

@@ -18,8 +18,10 @@ pub enum WordKind {
     Number(u32, u32),
     /// Any number of 64 bits.
     Long,
-    /// The name of an arbiter.
+    /// The name of an arbiter of written-down networks.
     Arbiter,
+    /// The name of an arbiter of machines.
+    MachineArbiter,
     /// The name of a memory model.
     Model,
     /// Two names: the file with the machine of a run, and the one with its scripts.
@@ -61,6 +63,7 @@ impl fmt::Display for WordKind {
             WordKind::Number(least, most) => write!(f, "{least}..{most}"),
             WordKind::Long => f.write_str("0..18446744073709551615"),
             WordKind::Arbiter => f.write_str("rotating,turn"),
+            WordKind::MachineArbiter => f.write_str("oldest,turn"),
             WordKind::Model => f.write_str("coherent,fenced,pso,tso,sc"),
             WordKind::RunTexts => f.write_str("MACHINE,SCRIPT"),
         }

@@ -17,3 +17,5 @@ pub mod Drawing
 pub mod DrawnMoves
 pub mod DrawTold
 pub mod Turned
+pub mod Kept
+pub mod HeldBack

@@ -27,8 +27,10 @@ use Rattle.program_fault.specs.Done.{Output, TookAll, TookFront, Wrote}
 use Rattle.machine_core.specs.Run.{AskedRun}
 use Rattle.command_schedule.specs.Asked.{HasOpened}
 use Rattle.command_schedule.specs.Output.{headed}
-use Rattle.machine_core.specs.Fewest.{AreFewestFrom, after_rounds_from, round_behind, rounds_from}
-use Rattle.machine_core.proofs.LawsRounds.{round_more}
+use Rattle.fair_rounds.specs.declared.pacing.Pace.{Pace}
+use Rattle.fair_rounds.specs.declared.pacing.Pace.TheVariants.{InOrder, Turned, Fair}
+use Rattle.fair_rounds.specs.Fewest.{AreFewestPaced, after_paced, paced_round, paced_rounds}
+use Rattle.fair_rounds.proofs.Paced.{round_more}
 use Rattle.command_schedule.specs.Rounds.{HasPutRounds, HasPutSome, moves_of_rounds, round_moves, rounds_text}
 use Rattle.command_schedule.specs.Schedules.{TellsRun, IsRoundsText, IsMovesText}
 use Rattle.command_schedule.proofs.Outputs.{took_then, front_then, front_of_more}
@@ -39,28 +41,29 @@ with_end ls finished =
     flat_map-append line_text ls (End finished ∷ []) ∙ ap (λ (t : List ℕ). text_of ls ++ t) (append-nil (line_text (End finished)))
 
 -- the moves of rounds, one after the other, are the moves among the attempts of all
-one_round : (clocked : Bool) (l : Load) (k : ℕ)
-    → flat_map (λ moves. moves) (moves_of_rounds clocked l (k + 1))
-    ≡ flat_map (λ moves. moves) (moves_of_rounds clocked l k) ++ round_moves clocked l k
-one_round clocked l k =
-    ap (flat_map (λ moves. moves)) (map-range_with_len_more (round_moves clocked l) 0 k k (omega arith))
-    ∙ flat_map-append (λ moves. moves) (moves_of_rounds clocked l k) (round_moves clocked l k ∷ [])
-    ∙ ap (λ (xs : List Step). flat_map (λ moves. moves) (moves_of_rounds clocked l k) ++ xs) (append-nil (round_moves clocked l k))
+one_round : (pace : Pace) (l : Load) (k : ℕ)
+    → flat_map (λ moves. moves) (moves_of_rounds pace l (k + 1))
+    ≡ flat_map (λ moves. moves) (moves_of_rounds pace l k) ++ round_moves pace l k
+one_round pace l k =
+    ap (flat_map (λ moves. moves)) (map-range_with_len_more (round_moves pace l) 0 k k (omega arith))
+    ∙ flat_map-append (λ moves. moves) (moves_of_rounds pace l k) (round_moves pace l k ∷ [])
+    ∙ ap (λ (xs : List Step). flat_map (λ moves. moves) (moves_of_rounds pace l k) ++ xs) (append-nil (round_moves pace l k))
 
-all_rounds : (clocked : Bool) (l : Load) (k : ℕ) → IsAcceptedLoad l
-    → flat_map (λ moves. moves) (moves_of_rounds clocked l k) ≡ moves_of l (rounds_from clocked l k)
-all_rounds true l zero ok = refl
-all_rounds false l zero ok = refl
-all_rounds clocked l (suc k) ok =
+all_rounds : (pace : Pace) (l : Load) (k : ℕ) → IsAcceptedLoad l
+    → flat_map (λ moves. moves) (moves_of_rounds pace l k) ≡ moves_of l (paced_rounds pace l k)
+all_rounds InOrder l zero ok = refl
+all_rounds Turned l zero ok = refl
+all_rounds (Fair most) l zero ok = refl
+all_rounds pace l (suc k) ok =
     let one : k + 1 ≡ suc k = omega arith in
-    let now : Core = after_rounds_from clocked l k in
-    let after : IsAfter l now (rounds_from clocked l k) = stands_after l (rounds_from clocked l k) ok in
-    let next : flat_map (λ moves. moves) (moves_of_rounds clocked l (k + 1)) ≡ moves_of l (rounds_from clocked l (k + 1)) =
-    one_round clocked l k
-    ∙ ap (λ (xs : List Step). xs ++ round_moves clocked l k) (all_rounds clocked l k ok)
-    ∙ sym (machine_further l now (rounds_from clocked l k) (round_behind clocked now k) after)
-    ∙ ap (moves_of l) (round_more clocked l k now after) in
-    subst (λ (n : ℕ). flat_map (λ moves. moves) (moves_of_rounds clocked l n) ≡ moves_of l (rounds_from clocked l n)) one next
+    let now : Core = after_paced pace l k in
+    let after : IsAfter l now (paced_rounds pace l k) = stands_after l (paced_rounds pace l k) ok in
+    let next : flat_map (λ moves. moves) (moves_of_rounds pace l (k + 1)) ≡ moves_of l (paced_rounds pace l (k + 1)) =
+    one_round pace l k
+    ∙ ap (λ (xs : List Step). xs ++ round_moves pace l k) (all_rounds pace l k ok)
+    ∙ sym (machine_further l now (paced_rounds pace l k) (paced_round pace l now k) after)
+    ∙ ap (moves_of l) (round_more pace l k now after) in
+    subst (λ (n : ℕ). flat_map (λ moves. moves) (moves_of_rounds pace l n) ≡ moves_of l (paced_rounds pace l n)) one next
 
 -- of a machine that stands behind the steps
 pub tells : (l : Load) (c : Core) (steps : List Step) (finished : Bool) (text : List ℕ) → IsAfter l c steps → finished ≡ all_finished c.state
@@ -74,13 +77,13 @@ tells l c steps finished text after is again = record {
 }
 
 -- the text of rounds with the last line
-pub rounds_are : (clocked : Bool) (asked : Result Load LineFault) (most : ℕ) (start : Core) (loaded : HasLoaded asked start) (k : ℕ) (c : Core) (finished : Bool)
-    → most < 2 ^ 64 → AreFewestFrom clocked loaded.load most k → IsAfter loaded.load c (rounds_from clocked loaded.load k) → finished ≡ all_finished c.state
-    → IsRoundsText clocked asked most finished (rounds_text clocked loaded.load k ++ line_text (End finished))
-rounds_are clocked asked most start loaded k c finished small fewest after is =
+pub rounds_are : (pace : Pace) (asked : Result Load LineFault) (most : ℕ) (start : Core) (loaded : HasLoaded asked start) (k : ℕ) (c : Core) (finished : Bool)
+    → most < 2 ^ 64 → AreFewestPaced pace loaded.load most k → IsAfter loaded.load c (paced_rounds pace loaded.load k) → finished ≡ all_finished c.state
+    → IsRoundsText pace asked most finished (rounds_text pace loaded.load k ++ line_text (End finished))
+rounds_are pace asked most start loaded k c finished small fewest after is =
     let l : Load = loaded.load in
-    let whole : text_of (schedule_of (moves_of_rounds clocked l k) finished) ≡ rounds_text clocked l k ++ line_text (End finished) = with_end _ finished in
-    let count : length (moves_of_rounds clocked l k) ≡ k = length-map-range_with_len (round_moves clocked l) 0 k in
+    let whole : text_of (schedule_of (moves_of_rounds pace l k) finished) ≡ rounds_text pace l k ++ line_text (End finished) = with_end _ finished in
+    let count : length (moves_of_rounds pace l k) ≡ k = length-map-range_with_len (round_moves pace l) 0 k in
     let allowed : k ≤ most = fewest.allowed in
     record {
       load = l;
@@ -88,50 +91,50 @@ rounds_are clocked asked most start loaded k c finished small fewest after is =
       rounds = k;
       fewest = fewest;
       is = sym whole;
-      run = subst (TellsRun l (rounds_from clocked l k) finished) whole
-          (tells l c (rounds_from clocked l k) finished (text_of (schedule_of (moves_of_rounds clocked l k) finished)) after is
-          (λ machine same. rounds_again l machine (rounds_from clocked l k) (moves_of_rounds clocked l k) finished after.accepted same
-          (all_rounds clocked l k after.accepted) (omega (arith, count, allowed, small))));
+      run = subst (TellsRun l (paced_rounds pace l k) finished) whole
+          (tells l c (paced_rounds pace l k) finished (text_of (schedule_of (moves_of_rounds pace l k) finished)) after is
+          (λ machine same. rounds_again l machine (paced_rounds pace l k) (moves_of_rounds pace l k) finished after.accepted same
+          (all_rounds pace l k after.accepted) (omega (arith, count, allowed, small))));
     }
 
 -- a beginning of the rounds is one of the whole text
-pub rounds_front : (clocked : Bool) (asked : Result Load LineFault) (most : ℕ) (start : Core) (loaded : HasLoaded asked start) (old new : Output)
-    → most < 2 ^ 64 → HasPutSome clocked loaded.load most old new → (finished : Bool) × Wrote (IsRoundsText clocked asked most) TookFront old new finished
-rounds_front clocked asked most start loaded old new small some =
+pub rounds_front : (pace : Pace) (asked : Result Load LineFault) (most : ℕ) (start : Core) (loaded : HasLoaded asked start) (old new : Output)
+    → most < 2 ^ 64 → HasPutSome pace loaded.load most old new → (finished : Bool) × Wrote (IsRoundsText pace asked most) TookFront old new finished
+rounds_front pace asked most start loaded old new small some =
     let l : Load = loaded.load in
-    let c : Core = after_rounds_from clocked l some.rounds in
+    let c : Core = after_paced pace l some.rounds in
     let finished : Bool = all_finished c.state in (
       finished,
       (
-        rounds_text clocked l some.rounds ++ line_text (End finished),
-        rounds_are clocked asked most start loaded some.rounds c finished small some.fewest (stands_after l (rounds_from clocked l some.rounds) loaded.after.accepted) refl,
-        front_of_more old new (rounds_text clocked l some.rounds) (line_text (End finished)) some.took,
+        rounds_text pace l some.rounds ++ line_text (End finished),
+        rounds_are pace asked most start loaded some.rounds c finished small some.fewest (stands_after l (paced_rounds pace l some.rounds) loaded.after.accepted) refl,
+        front_of_more old new (rounds_text pace l some.rounds) (line_text (End finished)) some.took,
       ),
     )
 
 -- the rounds and the last line
-pub rounds_whole : (clocked : Bool) (asked : Result Load LineFault) (most : ℕ) (start : Core) (loaded : HasLoaded asked start) (c : Core) (finished : Bool) (old mid new : Output)
-    → most < 2 ^ 64 → (put : HasPutRounds clocked loaded.load most c old mid) → finished ≡ all_finished c.state
+pub rounds_whole : (pace : Pace) (asked : Result Load LineFault) (most : ℕ) (start : Core) (loaded : HasLoaded asked start) (c : Core) (finished : Bool) (old mid new : Output)
+    → most < 2 ^ 64 → (put : HasPutRounds pace loaded.load most c old mid) → finished ≡ all_finished c.state
     → TookAll mid new (line_text (End (all_finished c.state)))
-    → Wrote (IsRoundsText clocked asked most) TookAll old new finished
-rounds_whole clocked asked most start loaded c finished old mid new small put is took = (
-  rounds_text clocked loaded.load put.rounds ++ line_text (End finished),
-  rounds_are clocked asked most start loaded put.rounds c finished small put.fewest put.after is,
-  subst (λ (b : Bool). TookAll old new (rounds_text clocked loaded.load put.rounds ++ line_text (End b))) (sym is)
-      (took_then old mid new (rounds_text clocked loaded.load put.rounds) (line_text (End (all_finished c.state))) put.took took),
+    → Wrote (IsRoundsText pace asked most) TookAll old new finished
+rounds_whole pace asked most start loaded c finished old mid new small put is took = (
+  rounds_text pace loaded.load put.rounds ++ line_text (End finished),
+  rounds_are pace asked most start loaded put.rounds c finished small put.fewest put.after is,
+  subst (λ (b : Bool). TookAll old new (rounds_text pace loaded.load put.rounds ++ line_text (End b))) (sym is)
+      (took_then old mid new (rounds_text pace loaded.load put.rounds) (line_text (End (all_finished c.state))) put.took took),
 )
 
 -- the rounds and a beginning of the last line
-pub rounds_last : (clocked : Bool) (asked : Result Load LineFault) (most : ℕ) (start : Core) (loaded : HasLoaded asked start) (c : Core) (old mid new : Output)
-    → most < 2 ^ 64 → (put : HasPutRounds clocked loaded.load most c old mid)
+pub rounds_last : (pace : Pace) (asked : Result Load LineFault) (most : ℕ) (start : Core) (loaded : HasLoaded asked start) (c : Core) (old mid new : Output)
+    → most < 2 ^ 64 → (put : HasPutRounds pace loaded.load most c old mid)
     → TookFront mid new (line_text (End (all_finished c.state)))
-    → (finished : Bool) × Wrote (IsRoundsText clocked asked most) TookFront old new finished
-rounds_last clocked asked most start loaded c old mid new small put took = (
+    → (finished : Bool) × Wrote (IsRoundsText pace asked most) TookFront old new finished
+rounds_last pace asked most start loaded c old mid new small put took = (
   all_finished c.state,
   (
-    rounds_text clocked loaded.load put.rounds ++ line_text (End (all_finished c.state)),
-    rounds_are clocked asked most start loaded put.rounds c (all_finished c.state) small put.fewest put.after refl,
-    front_then old mid new (rounds_text clocked loaded.load put.rounds) (line_text (End (all_finished c.state))) put.took took,
+    rounds_text pace loaded.load put.rounds ++ line_text (End (all_finished c.state)),
+    rounds_are pace asked most start loaded put.rounds c (all_finished c.state) small put.fewest put.after refl,
+    front_then old mid new (rounds_text pace loaded.load put.rounds) (line_text (End (all_finished c.state))) put.took took,
   ),
 )
 

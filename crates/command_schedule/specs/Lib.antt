@@ -6,3 +6,4 @@ pub mod Rounds
 pub mod Turned
 pub mod Schedules
 pub mod Drawn
+pub mod Fair

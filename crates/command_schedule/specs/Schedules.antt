@@ -16,7 +16,8 @@ use Rattle.program_fault.specs.declared.fault.ProgramFault.{ProgramFault}
 use Rattle.program_fault.specs.Done.{Does, Output}
 use Rattle.program_fault.specs.Outcome.{IsTextsFault}
 use Rattle.machine_core.specs.Run.{AskedRun}
-use Rattle.machine_core.specs.Fewest.{AreFewestFrom, rounds_from}
+use Rattle.fair_rounds.specs.declared.pacing.Pace.{Pace}
+use Rattle.fair_rounds.specs.Fewest.{AreFewestPaced, paced_rounds}
 use Rattle.command_schedule.specs.Rounds.{moves_of_rounds}
 
 -- A text tells of a run of these steps from a load: the answer says whether every script is
@@ -29,21 +30,21 @@ pub record TellsRun (l : Load) (steps : List Step) (finished : Bool) (text : Lis
       → steps_of machine (lines text) ≡ Ok (moves_of l steps)
   pub same : core_after_load l (moves_of l steps) ≡ core_after_load l steps
 
--- a text is the schedule of the fewest rounds, clocked or in order, that finish every script, at most
--- so many: the moves of each round, in their order, behind its heading
-pub record IsRoundsText (clocked : Bool) (asked : Result Load LineFault) (most : ℕ)
+-- a text is the schedule of the fewest rounds of a pace that finish every script, at most so many: the
+-- moves of each round, in their order, behind its heading
+pub record IsRoundsText (pace : Pace) (asked : Result Load LineFault) (most : ℕ)
     (finished : Bool) (text : List ℕ) : Type 0 where
   pub load : Load
   pub read : asked ≡ Ok load
   pub rounds : ℕ
-  pub fewest : AreFewestFrom clocked load most rounds
-  pub is : text ≡ text_of (schedule_of (moves_of_rounds clocked load rounds) finished)
-  pub run : TellsRun load (rounds_from clocked load rounds) finished text
+  pub fewest : AreFewestPaced pace load most rounds
+  pub is : text ≡ text_of (schedule_of (moves_of_rounds pace load rounds) finished)
+  pub run : TellsRun load (paced_rounds pace load rounds) finished text
 
--- the schedule of the rounds, clocked or in order, was printed
-abbrev pub PrintsSchedule : Bool → Result Load LineFault → ℕ → Output → Output
+-- the schedule of the rounds of a pace was printed
+abbrev pub PrintsSchedule : Pace → Result Load LineFault → ℕ → Output → Output
     → Result Bool ProgramFault → Type 0
-PrintsSchedule clocked asked most = Does (IsRoundsText clocked asked most) (IsTextsFault asked)
+PrintsSchedule pace asked most = Does (IsRoundsText pace asked most) (IsTextsFault asked)
 
 -- a text has the moves among the steps that were asked for
 pub record IsMovesText (asked : Result AskedRun LineFault) (finished : Bool) (text : List ℕ) : Type 0

@@ -1,10 +1,11 @@
-ghost use Rattle.std.specs.Prelude.{◌≡◌, ◌≤◌, ◌<◌, ◌+◌, ◌^◌, [], true, Some, OnOk, length, take};
+ghost use Rattle.std.specs.Prelude.{◌≡◌, ◌≤◌, ◌<◌, ◌+◌, ◌^◌, [], Some, OnOk, length, take};
 ghost use Rattle.std.specs.Str.Lines.{lines};
 ghost use Rattle.one_order.specs.Load.{Load};
 ghost use Rattle.core_laws.specs.Machine.{IsAfter, core_after};
 ghost use Rattle.core_laws.specs.MachineMoves.{moves_from};
 ghost use Rattle.machine_core.specs.Loading.{load_by};
 ghost use Rattle.machine_core.specs.Clocked.{clocked_round};
+ghost use Rattle.fair_rounds.specs.declared.pacing.Pace.TheVariants.{Turned};
 ghost use Rattle.program_fault.specs.Done.{output};
 ghost use Rattle.command_schedule.specs.Drawn.{enabled_now};
 ghost use Rattle.command_schedule.specs.Line.{text_of};
@@ -34,7 +35,7 @@ pub fn clocked_schedule_text<A: Allocator + Copy, W: Out>(
     rounds: u64,
     out: &mut W,
 ) -> Result<bool, ProgramFault>
-    ensures { PrintsSchedule true (load_by (lines machine.now) (lines scripts.now)) rounds
+    ensures { PrintsSchedule Turned (load_by (lines machine.now) (lines scripts.now)) rounds
         (output (W.taken out.old) (W.failures out.old))
         (output (W.taken out.new) (W.failures out.new)) result }
 {
@@ -58,7 +59,7 @@ fn put_clocked_rounds<A: Allocator, W: Out>(
     requires turned { AreTurned machine.old.shape turned.now }
     requires room { HasChoiceRoom machine.old.shape room.old }
     ensures { (l : Load) → IsAfter l machine.old []
-        → PutsRounds true l rounds machine.new (output (W.taken out.old) (W.failures out.old))
+        → PutsRounds Turned l rounds machine.new (output (W.taken out.old) (W.failures out.old))
         (output (W.taken out.new) (W.failures out.new)) result }
 {
     for before in 0..rounds {

@@ -1,9 +1,10 @@
-ghost use Rattle.std.specs.Prelude.{◌≡◌, IfErr, IfOk, [], false};
+ghost use Rattle.std.specs.Prelude.{◌≡◌, IfErr, IfOk, []};
 ghost use Rattle.std.specs.Str.Lines.{lines};
 ghost use Rattle.one_order.specs.Load.{Load};
 ghost use Rattle.core_laws.specs.Core.{round};
 ghost use Rattle.machine_core.specs.Loading.{HasLoaded, load_by};
 ghost use Rattle.core_laws.specs.Machine.{IsAfter};
+ghost use Rattle.fair_rounds.specs.declared.pacing.Pace.TheVariants.{InOrder};
 ghost use Rattle.program_fault.specs.Done.{output};
 ghost use Rattle.program_fault.specs.Outcome.{IsReadFault};
 ghost use Rattle.command_schedule.specs.Rounds.{PutsRounds};
@@ -31,7 +32,7 @@ pub fn schedule_text<A: Allocator + Copy, W: Out>(
     rounds: u64,
     out: &mut W,
 ) -> Result<bool, ProgramFault>
-    ensures { PrintsSchedule false (load_by (lines machine.now) (lines scripts.now)) rounds
+    ensures { PrintsSchedule InOrder (load_by (lines machine.now) (lines scripts.now)) rounds
         (output (W.taken out.old) (W.failures out.old))
         (output (W.taken out.new) (W.failures out.new)) result }
 {
@@ -64,7 +65,7 @@ fn put_rounds<A: Allocator, W: Out>(
 ) -> Result<(), OutputFailed>
     requires { attempts.now ≡ round machine.old.shape }
     ensures { (l : Load) → IsAfter l machine.old []
-        → PutsRounds false l rounds machine.new (output (W.taken out.old) (W.failures out.old))
+        → PutsRounds InOrder l rounds machine.new (output (W.taken out.old) (W.failures out.old))
         (output (W.taken out.new) (W.failures out.new)) result }
 {
     for before in 0..rounds {

@@ -4,6 +4,8 @@
 
 mod clocked;
 pub mod drawn;
+mod fair;
+mod fair_list;
 pub mod in_rounds;
 pub mod line;
 pub mod line_laws;
@@ -16,6 +18,7 @@ mod turned_list;
 
 pub use clocked::clocked_schedule_text;
 pub use drawn::draw_text;
+pub use fair::{FairEnd, fair_schedule_text};
 pub use in_rounds::schedule_text;
 pub use line::ScheduleLine;
 pub use moves::moves_text;

@@ -39,7 +39,7 @@ fn put_move<W: Out>(out: &mut W, heading: Option<u64>, step: Step) -> Result<(),
 }
 
 /// Attempts a step, and puts it where it moved. Answers the heading that is still to put.
-fn put_attempt<A: Allocator, W: Out>(
+pub(crate) fn put_attempt<A: Allocator, W: Out>(
     machine: &mut Machine<A>,
     step: Step,
     heading: Option<u64>,

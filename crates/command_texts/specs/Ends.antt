@@ -6,13 +6,14 @@ use Rattle.one_order.specs.Load.{Load}
 use Rattle.core_laws.specs.Machine.{Core}
 use Rattle.report_lines.specs.Line.{text_of}
 use Rattle.machine_report.specs.Report.{machine_report}
+use Rattle.fair_rounds.specs.declared.pacing.Pace.{Pace}
 use Rattle.command_texts.specs.Rounds.{HasMadeRounds}
 
--- a machine has made the fewest rounds, clocked or in order, that finish every script, at most so
--- many, from what was asked for
-abbrev pub HasEndedRounds : Bool → Result Load LineFault → ℕ → Core → Type 0
-HasEndedRounds clocked asked most c =
-    (load : Load) × (asked ≡ Ok load) × HasMadeRounds clocked load most c
+-- a machine has made the fewest rounds of a pace that finish every script, at most so many, from what was
+-- asked for
+abbrev pub HasEndedRounds : Pace → Result Load LineFault → ℕ → Core → Type 0
+HasEndedRounds pace asked most c =
+    (load : Load) × (asked ≡ Ok load) × HasMadeRounds pace load most c
 
 -- a text is the report of the machine that a run reached, and this machine was shown
 pub record ShowsReached (reached saw : Core → Type 0) (finished : Bool) (text : List ℕ) : Type 0 where

@@ -1,15 +1,15 @@
-ghost use Rattle.std.specs.Prelude.{◌≡◌, Bool, IfErr, IfOk, [], false};
+ghost use Rattle.std.specs.Prelude.{◌≡◌, Bool, IfErr, IfOk, []};
 ghost use Rattle.std.specs.Str.Lines.{lines};
 ghost use Rattle.one_order.specs.Load.{Load};
-ghost use Rattle.core_laws.specs.Machine.{IsAfter, RunsOn};
+ghost use Rattle.core_laws.specs.Machine.{IsAfter};
 ghost use Rattle.machine_core.specs.Loading.{HasLoaded, load_by};
-ghost use Rattle.machine_core.specs.Fewest.{round_behind};
+ghost use Rattle.fair_rounds.specs.declared.pacing.Pace.TheVariants.{InOrder};
 ghost use Rattle.program_fault.specs.Done.{Does, output};
 ghost use Rattle.program_fault.specs.Outcome.{IsReadFault, IsTextsFault};
 ghost use Rattle.command_texts.specs.Ends.{HasEndedRounds, ShowsReached};
 ghost use Rattle.command_texts.specs.Rounds.{HasMadeRounds, PrintsRounds};
 ghost use Rattle.command_texts.specs.Calls.{Hears};
-ghost use Rattle.command_texts.specs.Telling.{AreRoundsCalls, HearsSome, TellsRounds, answered_by, round_calls};
+ghost use Rattle.command_texts.specs.Telling.{HearsPaced, TellsRounds, answered_by, round_calls};
 
 use crate::ProgramFault;
 use crate::ending::Ending;
@@ -17,6 +17,7 @@ use crate::steps::{moves_since, print_run};
 use core_laws::machine_laws::{
     moves_are_counted, reached_machines_report_well, steps_decide_the_machine,
 };
+use fair_rounds::{Pace, Pacer};
 use machine_core::{Machine, load};
 use report_lines::Out;
 use std::alloc::Allocator;
@@ -38,9 +39,10 @@ pub trait Progress {
     fn made(&mut self, rounds: u64, answered: u64)
         ensures { Hears (heard self.old) (heard self.new) (Made rounds answered ∷ []) };
 
-    /// The run has ended, of so many moves, and the report is written next.
-    fn ended(&mut self, moves: u64)
-        ensures { Hears (heard self.old) (heard self.new) (Ended moves ∷ []) };
+    /// The run has ended, of so many moves, and the report is written next. In so many of its rounds a guard
+    /// held operations back.
+    fn ended(&mut self, moves: u64, held: u64)
+        ensures { Hears (heard self.old) (heard self.new) (Ended moves held ∷ []) };
 }
 
 /// Watches nothing.
@@ -54,7 +56,7 @@ impl Progress for Silent {
 
     fn made(&mut self, _rounds: u64, _answered: u64) {}
 
-    fn ended(&mut self, _moves: u64) {}
+    fn ended(&mut self, _moves: u64, _held: u64) {}
 }
 
 /// Runs the machine of a text, whose processors follow the scripts of a text, in rounds: until every
@@ -70,7 +72,7 @@ pub fn round_text<A: Allocator + Copy, W: Out>(
     rounds: u64,
     out: &mut W,
 ) -> Result<bool, ProgramFault>
-    ensures { PrintsRounds false (load_by (lines machine.now) (lines scripts.now)) rounds
+    ensures { PrintsRounds InOrder (load_by (lines machine.now) (lines scripts.now)) rounds
         (output (W.taken out.old) (W.failures out.old))
         (output (W.taken out.new) (W.failures out.new)) result }
 {
@@ -79,19 +81,18 @@ pub fn round_text<A: Allocator + Copy, W: Out>(
         machine,
         scripts,
         rounds,
-        false,
+        Pace::InOrder,
         out,
         &mut Silent,
         &mut Silent,
     )
 }
 
-/// Does what `round_text` does, and reports to `progress` how far the run is. Where `clocked` is true, the
-/// rounds are clocked, with the turns from 0 on. After each round it asks `progress` whether that is
-/// wanted, and if so reports how many rounds are made and how many operations are answered. Behind the
-/// last round it reports the end, with how many moves all rounds made. A fault of the texts, and memory
-/// refused for the machine, come before it reports anything. `ending` is shown the machine whose report
-/// is printed.
+/// Does what `round_text` does, in rounds of a pace, and reports to `progress` how far the run is. After
+/// each round it asks `progress` whether that is wanted, and if so reports how many rounds are made and
+/// how many operations are answered. Behind the last round it reports the end, with how many moves all
+/// rounds made, and in how many a guard held operations back. A fault of the texts, and memory refused for
+/// the machine, come before it reports anything. `ending` is shown the machine whose report is printed.
 ///
 /// Errors: as `round_text`.
 pub fn round_text_with<A: Allocator + Copy, W: Out, P: Progress, E: Ending>(
@@ -99,19 +100,19 @@ pub fn round_text_with<A: Allocator + Copy, W: Out, P: Progress, E: Ending>(
     machine: &[u8],
     scripts: &[u8],
     rounds: u64,
-    clocked: bool,
+    pace: Pace,
     out: &mut W,
     progress: &mut P,
     ending: &mut E,
 ) -> Result<bool, ProgramFault>
-    ensures prints { PrintsRounds clocked (load_by (lines machine.now) (lines scripts.now)) rounds
+    ensures prints { PrintsRounds pace (load_by (lines machine.now) (lines scripts.now)) rounds
         (output (W.taken out.old) (W.failures out.old))
         (output (W.taken out.new) (W.failures out.new)) result }
-    ensures told { TellsRounds clocked (load_by (lines machine.now) (lines scripts.now)) rounds
+    ensures told { TellsRounds pace (load_by (lines machine.now) (lines scripts.now)) rounds
         (P.heard progress.old) (P.heard progress.new) result }
     ensures ends { Does
         (ShowsReached
-        (HasEndedRounds clocked (load_by (lines machine.now) (lines scripts.now)) rounds)
+        (HasEndedRounds pace (load_by (lines machine.now) (lines scripts.now)) rounds)
         (E.saw ending.new))
         (IsTextsFault (load_by (lines machine.now) (lines scripts.now)))
         (output (W.taken out.old) (W.failures out.old))
@@ -119,9 +120,9 @@ pub fn round_text_with<A: Allocator + Copy, W: Out, P: Progress, E: Ending>(
 {
     let mut machine = loaded(alloc, machine, scripts)?;
     let most = machine.moves_left();
-    make_rounds(&mut machine, rounds, clocked, progress);
+    let held = make_rounds(&mut machine, rounds, pace, progress);
     moves_are_counted();
-    progress.ended(moves_since(most, &machine));
+    progress.ended(moves_since(most, &machine), held);
     ending.shown(&machine);
     steps_decide_the_machine();
     print_run(alloc, &machine, out)
@@ -141,39 +142,29 @@ pub fn loaded<A: Allocator + Copy>(
     Ok(load(alloc, machine, scripts)?)
 }
 
-/// Makes rounds, clocked or in order, until every script is finished, and at most so many, and tells
-/// `progress` of them.
+/// Makes rounds of a pace until every script is finished, and at most so many, and tells `progress` of
+/// them. Answers in how many a guard held operations back.
 fn make_rounds<A: Allocator, P: Progress>(
     machine: &mut Machine<A>,
     rounds: u64,
-    clocked: bool,
+    pace: Pace,
     progress: &mut P,
-)
+) -> u64
     ensures made { (l : Load) → IsAfter l machine.old []
-        → HasMadeRounds clocked l rounds machine.new }
+        → HasMadeRounds pace l rounds machine.new }
     ensures told { (l : Load) → IsAfter l machine.old []
-        → HearsSome (AreRoundsCalls clocked l rounds) (P.heard progress.old)
-        (P.heard progress.new) }
+        → HearsPaced pace l rounds result (P.heard progress.old) (P.heard progress.new) }
 {
     steps_decide_the_machine();
+    let mut pacer = Pacer::new(pace, machine);
     for before in 0..rounds {
         if machine.finished() {
-            return;
+            return pacer.guard.held_rounds();
         }
-        make_round(machine, clocked, before);
+        pacer.round(machine, before);
         tell_round(machine, before + 1, progress);
     }
-}
-
-/// Makes the round behind so many, clocked or in order.
-fn make_round<A: Allocator>(machine: &mut Machine<A>, clocked: bool, before: u64)
-    ensures { RunsOn machine.old machine.new (round_behind clocked machine.old before) }
-{
-    if clocked {
-        machine.clocked_round(before);
-    } else {
-        machine.round();
-    }
+    pacer.guard.held_rounds()
 }
 
 /// Tells `progress` of the last of so many rounds. Operations are counted only where it wants to

@@ -14,6 +14,7 @@ pub use channel_number::channel_count;
 pub use channels::{channels_text, put_numbers};
 pub use check::check_text;
 pub use ending::Ending;
+pub use fair_rounds::Pace;
 pub use in_rounds::{Progress, Silent, round_text, round_text_with};
 pub use program_fault::{ProgramFault, fault_text, finished, status_of};
 pub use route::route_text;

@@ -70,7 +70,7 @@ pub fn steps_text_with<A: Allocator + Copy, W: Out, P: Progress, E: Ending>(
         (output (W.taken out.new) (W.failures out.new)) result }
 {
     let (machine, moves) = ran(alloc, machine, scripts, steps)?;
-    progress.ended(moves);
+    progress.ended(moves, 0);
     ending.shown(&machine);
     print_run(alloc, &machine, out)
 }

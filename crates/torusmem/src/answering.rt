@@ -3,9 +3,11 @@ ghost use Rattle.command_line.specs.Job.{AreJobLimits};
 
 use crate::running::by_workers;
 use command_jobs::Ended;
-use command_line::Job;
+use command_line::{AskedPace, Job};
 use command_run::Ending;
-use command_schedule::{clocked_schedule_text, draw_text, moves_text, schedule_text};
+use command_schedule::{
+    clocked_schedule_text, draw_text, fair_schedule_text, moves_text, schedule_text,
+};
 use command_verdicts::{
     Decided, Judged, Modelled, judged_models_text, judged_order_text, judged_report_text,
     lock_up_text, network_text, replay_network_text, simulate_text, texts_models_text, values_text,
@@ -95,7 +97,7 @@ pub(crate) fn answer<R: Eprint + Clock + AllocGlobal + Threads + Wait + Sync, W:
             let (workers, turns) = (workers as usize, u64::from(turns));
             by_workers(rt, texts, workers, turns, is_seen, out, ending)
         }
-        _ => moved(scheduled(alloc, job, texts, out)),
+        _ => scheduled(alloc, job, texts, out),
     }
 }
 
@@ -137,6 +139,7 @@ fn moved(finished: Result<bool, ProgramFault>) -> Result<Outcome, ProgramFault> 
     Ok(Outcome::Ran(Ended {
         finished,
         course: None,
+        held: 0,
     }))
 }
 
@@ -146,23 +149,44 @@ fn scheduled<W: Out>(
     job: &Job,
     texts: &Texts,
     out: &mut W,
-) -> Result<bool, ProgramFault> {
+) -> Result<Outcome, ProgramFault> {
     let (machine, script) = (texts.first.as_slice(), texts.second.as_slice());
     match *job {
-        Job::Schedule {
-            rounds,
-            clocked,
-            ..
-        } => {
-            let rounds = u64::from(rounds);
-            if clocked {
-                clocked_schedule_text(alloc, machine, script, rounds, out)
-            } else {
-                schedule_text(alloc, machine, script, rounds, out)
-            }
+        Job::Schedule { rounds, pace, .. } => in_rounds(
+            alloc,
+            machine,
+            script,
+            u64::from(rounds),
+            pace,
+            out,
+        ),
+        Job::Draw { seed, steps, .. } => {
+            moved(draw_text(alloc, machine, script, seed, steps, out))
         }
-        Job::Draw { seed, steps, .. } => draw_text(alloc, machine, script, seed, steps, out),
-        Job::Moves { .. } => moves_text(alloc, machine, script, &texts.third, out),
-        _ => Ok(true),
+        Job::Moves { .. } => moved(moves_text(alloc, machine, script, &texts.third, out)),
+        _ => moved(Ok(true)),
+    }
+}
+
+/// Prints the moves of a run in rounds of a pace, at most so many.
+fn in_rounds<W: Out>(
+    alloc: Global,
+    machine: &[u8],
+    script: &[u8],
+    rounds: u64,
+    pace: AskedPace,
+    out: &mut W,
+) -> Result<Outcome, ProgramFault> {
+    match pace {
+        AskedPace::InOrder => moved(schedule_text(alloc, machine, script, rounds, out)),
+        AskedPace::Turned => moved(clocked_schedule_text(alloc, machine, script, rounds, out)),
+        AskedPace::Fair(most) => {
+            let end = fair_schedule_text(alloc, machine, script, rounds, most, out)?;
+            Ok(Outcome::Ran(Ended {
+                finished: end.finished,
+                course: None,
+                held: end.held,
+            }))
+        }
     }
 }

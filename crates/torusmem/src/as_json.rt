@@ -113,7 +113,7 @@ fn gathered<R: Eprint + Clock + AllocGlobal + Threads + Wait + Sync>(
 ) -> Result<Outcome, ProgramFault>
     requires { AreJobLimits job.now }
 {
-    let mut end = RunEnd::new(rt.alloc(), false, &texts.first, &texts.second);
+    let mut end = RunEnd::new(rt.alloc(), &texts.first, &texts.second);
     let mut judging = Judging::begin(rt, &mut *text, job, texts, is_seen);
     let outcome = answer(
         rt,

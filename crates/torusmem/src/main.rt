@@ -170,7 +170,7 @@ fn printed<R: Input + Print + Eprint + Clock + AllocGlobal + Threads + Wait + Sy
         return Ok(Outcome::Talked);
     }
     let is_told = request.explain || is_seen;
-    let mut end = RunEnd::new(rt.alloc(), is_told, &texts.first, &texts.second);
+    let mut end = RunEnd::new(rt.alloc(), &texts.first, &texts.second);
     let mut writer = writer(rt)?;
     let mut judging = Judging::begin(rt, &mut writer, &request.job, texts, is_seen);
     let mut out = Piped::new(&mut judging);
@@ -179,7 +179,7 @@ fn printed<R: Input + Print + Eprint + Clock + AllocGlobal + Threads + Wait + Sy
     let outcome = outcome?;
     flushed(&mut writer)?;
     if let Outcome::Ran(ended) = outcome {
-        tell_end_of(rt, &request.job, &end, ended);
+        tell_end_of(rt, &request.job, &end, ended, is_told);
     }
     Ok(outcome)
 }

@@ -45,5 +45,6 @@ pub(crate) fn by_workers<
     Ok(Outcome::Ran(Ended {
         finished,
         course: Some(Course::Turns(turns)),
+        held: 0,
     }))
 }

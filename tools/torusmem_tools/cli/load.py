@@ -1,6 +1,7 @@
 """Counts what a schedule, or traffic on a network, brings over each channel, and how long each operation or packet takes.
 
     tools/load machine.txt script.txt
+    tools/load machine.txt script.txt --by-tile
     tools/load machine.txt script.txt --json > load.json
     tools/load machine.txt script.txt --svg > load.svg
     tools/load machine.txt script.txt --histogram > times.svg
@@ -18,6 +19,9 @@ service, and from there to its answer, and the hops of its request. A percentile
 of a hundred don't exceed. The numbers are those of the run that `torusmem steps` makes of the schedule; where the
 text has no lines `# round N`, each move counts as a round. Of the processors that come off worst and best stand how many of
 their operations are answered, their share of all that are, and their longest wait.
+
+Of a run that the tool makes itself in clocked rounds the bound stands there too, which no wait exceeds by a proved law. With
+--by-tile each processor has a line.
 
 With --network the counts are those of a report on packets through a written network (docs/FORMATS.md, Traffic text). Of a
 channel: the flits that leave it, and the rounds for which one waited behind it. Of a packet that is delivered: the rounds for
@@ -39,7 +43,7 @@ from torusmem_tools.draw import channel_load, network_load, paper, torus_layout
 from torusmem_tools.draw.distribution import drawn_all
 from torusmem_tools.draw.histogram import summary_of
 from torusmem_tools.draw.paper import Paper
-from torusmem_tools.model import cycles, replay, schedule_runs
+from torusmem_tools.model import clocked_rounds, cycles, replay, schedule_runs
 from torusmem_tools.model.network import parse_network
 from torusmem_tools.model.network_words import text_of
 from torusmem_tools.texts import traffic_report
@@ -107,8 +111,8 @@ def times_of(rows: list[dict[str, Any]]) -> dict[str, Any]:
     return {it: summary_of(made[it]) for it in (*TIMES, "hops")}
 
 
-def figures(texts: replay.Texts, top: int, cycle: int) -> dict[str, Any]:
-    """All that is counted; times are cycles of so many rounds."""
+def figures(texts: replay.Texts, top: int, cycle: int, is_fair: bool) -> dict[str, Any]:
+    """All that is counted; times are cycles of so many rounds. Of fair rounds there is a bound of all waits."""
     machine = replay.last(texts)
     if cycle != 1 and texts.schedule.unit() != "round":
         raise command.WrongWords("--cycle is of no use where the schedule has no rounds (--help says more)")
@@ -120,6 +124,7 @@ def figures(texts: replay.Texts, top: int, cycle: int) -> dict[str, Any]:
     for name, key in (("kinds", "kind"), ("dimensions", "dimension"), ("directions", "direction")):
         made[name] = summed(rows, key)
     made.update(classes=summed(rows, "class"), bits=summed(rows, "bit"), channels=rows, runs=operations)
+    made["bound"] = cycles.cycle_of(clocked_rounds.bound(texts.case), cycle) if is_fair else None
     return {**made, "processors": by_processor(operations, cycles.cycle_of(machine.rounds, cycle))}
 
 
@@ -131,7 +136,20 @@ def time_rows(made: dict[str, Any], names: Sequence[str]) -> list[list[str]]:
     return [[named(name), *(shown(key, it) for key in it)] for name, it in found]
 
 
-def table(made: dict[str, Any]) -> str:
+def waits(made: dict[str, Any], by_tile: bool) -> list[str]:
+    """What becomes of the operations of the processors, and the bound of their waits, where there is one."""
+    rows, bound = made["processors"], made["bound"]
+    if not rows:
+        return []
+    lines = aligned(network_load.shares(rows, "processor", "answered"))
+    if by_tile:
+        heads = ["processor", "operations", "answered", "share", "longest wait"]
+        cells = [[str(it["processor"]), str(it["operations"]), str(it["answered"]), f"{it['share']:.4f}", str(it["longest_wait"])] for it in rows]
+        lines = aligned([heads + ["bound"], *(it + [str(bound)] for it in cells)] if bound else [heads, *cells])
+    return ["", *lines, *([f"no wait exceeds {bound} {made['time']}s"] if bound else [])]
+
+
+def table(made: dict[str, Any], by_tile: bool) -> str:
     """What is counted, as text."""
     shape, how = " x ".join(map(str, made["radices"])), "finished" if made["finished"] else "not finished"
     span = f"{made['rounds']} rounds" if made["unit"] == "round" else "no rounds"
@@ -140,7 +158,7 @@ def table(made: dict[str, Any]) -> str:
     for head, names in ((heads[0], TIMES), ("hops", ("hops",))):
         rows = time_rows(made, names)
         lines += ["", *aligned([[head, *heads[1:]], *rows])] if rows else []
-    lines += ["", *aligned(network_load.shares(made["processors"], "processor", "answered"))] if made["processors"] else []
+    lines += waits(made, by_tile)
     for name in ("kinds", "dimensions", "directions", "classes", "bits"):
         if made[name]:
             columns = list(made[name][0])
@@ -181,6 +199,7 @@ def words() -> command.Parser:
     shown.add_argument("--svg", action="store_true", help="draw the torus, its channels in the colours of their loads")
     shown.add_argument("--histogram", action="store_true", help="draw how many operations took how long")
     shown.add_argument("--distribution", action="store_true", help="draw which share of the operations took longer than a time, for heavy tails")
+    shown.add_argument("--by-tile", action="store_true", help="of a machine: a line for each processor, with its longest wait")
     most = command.whole(0, 65536)
     paper.add_word(parser, "with --svg, --histogram or --distribution: ")
     cycles.add_word(parser)
@@ -200,13 +219,15 @@ def work() -> str:
     if given.only and not (given.svg and given.network):
         raise command.WrongWords("--only is of use with --network and --svg alone (--help says more)")
     schedule_runs.refuse_network_words(given)
+    if given.network is not None and given.by_tile:
+        raise command.WrongWords("--by-tile is of no use with --network (--help says more)")
     top = 10 if given.top is None else given.top
     if given.network is not None:
         return of_network(given, top)
     texts = schedule_runs.read(given)
-    made = figures(texts, top, given.cycle)
+    made = figures(texts, top, given.cycle, given.schedule is None and not given.rounds_in_order)
     if given.json:
         return json.dumps(made, indent=2) + "\n"
     if given.histogram or given.distribution:
         return drawn_times(made, given.width, given.distribution)
-    return channel_load.picture(made, replay.Machine(texts.case).shape, given.width, TOOL) if given.svg else table(made)
+    return channel_load.picture(made, replay.Machine(texts.case).shape, given.width, TOOL) if given.svg else table(made, given.by_tile)

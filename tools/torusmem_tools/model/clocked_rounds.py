@@ -1,15 +1,34 @@
 """Clocked rounds of a machine in plain Python: each choice that is enabled when a round begins is attempted once.
 
-Of a router the puts begin at the input whose turn it is: the number of rounds before, modulo that of the inputs.
+An arbiter orders the puts of a router. By `oldest` the flits that no head leads come first, and then the heads by the issues
+of their operations; by `turn` puts begin at the input whose turn it is: the number of rounds before, modulo that of the
+inputs. A guard holds the processors back while an operation is out for long.
 `tools/schedule --clocked` prints these moves, and nothing where one of them is none in `torusmem steps`.
 """
 from __future__ import annotations
 
-from typing import Iterator, Tuple
+from typing import Callable, Iterator, List, Tuple
 
-from torusmem_tools.model import replay
+from torusmem_tools.model import campaign_cases, replay
 
 Attempt = Tuple[int, str, int]
+# The inputs of a router that have a flit, in the order of its puts in the round behind so many.
+Arbiter = Callable[[replay.Router, int], List[int]]
+# Moves for each tag of each tile; as many rounds a guard waits that isn't given.
+GUARD = 241
+
+
+def oldest(at: replay.Router, before: int) -> list[int]:
+    """The operation that was issued first goes first."""
+    return sorted(sorted(at.latches), key=lambda port: 0 if at.latches[port].number else at.latches[port].operation.events[0])
+
+
+def turn(at: replay.Router, before: int) -> list[int]:
+    """The puts begin at the input whose turn it is."""
+    return sorted(at.latches, key=lambda port: ((port - before) % at.shape.ports))
+
+
+ARBITERS: dict[str, Arbiter] = {"oldest": oldest, "turn": turn}
 
 
 def of_processor(machine: replay.Machine, at: replay.Processor, begins: replay.Begins) -> Iterator[str]:
@@ -32,12 +51,10 @@ def can_put(at: replay.Router, port: int) -> bool:
     return output is not None and at.outputs[output].credits > 0
 
 
-def of_router(at: replay.Router, first: int) -> Iterator[tuple[str, int]]:
-    """The choices of a router that are enabled, where its puts begin at an input."""
+def of_router(at: replay.Router, puts: list[int]) -> Iterator[tuple[str, int]]:
+    """The choices of a router that are enabled, where its puts are attempted in this order."""
     yield from (("take", port) for port, it in enumerate(at.inputs) if it.flits and port not in at.latches)
-    held = sorted(at.latches)
-    turned = [it for it in held if it >= first] + [it for it in held if it < first]
-    yield from (("put", port) for port in turned if can_put(at, port))
+    yield from (("put", port) for port in puts if can_put(at, port))
     yield from (("credit", port) for port, it in enumerate(at.outputs) if it.returned)
 
 
@@ -53,14 +70,13 @@ def of_bank(at: replay.Bank) -> Iterator[str]:
         yield "credit"
 
 
-def enabled(machine: replay.Machine, turn: int, begins: replay.Begins) -> list[Attempt]:
-    """The attempts that are enabled now, in the order of a round at a turn."""
+def enabled(machine: replay.Machine, before: int, begins: replay.Begins, arbiter: Arbiter) -> list[Attempt]:
+    """The attempts that are enabled now, in the order of the round behind so many."""
     made: list[Attempt] = []
-    first = turn % machine.shape.ports
     for tile in range(machine.shape.tiles):
-        agent = 3 * tile
+        agent, router = 3 * tile, machine.routers[tile]
         made += [(agent, choice, 0) for choice in of_processor(machine, machine.processors[tile], begins)]
-        made += [(agent + 1, choice, port) for choice, port in of_router(machine.routers[tile], first)]
+        made += [(agent + 1, choice, port) for choice, port in of_router(router, arbiter(router, before))]
         made += [(agent + 2, choice, 0) for choice in of_bank(machine.banks[tile])]
     return made
 
@@ -71,6 +87,41 @@ def line(attempt: Attempt) -> str:
     return f"{agent} {choice} {port}" if agent % 3 == 1 else f"{agent} {choice}"
 
 
-def moves(machine: replay.Machine, number: int, begins: replay.Begins) -> list[str]:
-    """Makes the clocked round of this number, from 1 on, and answers the lines of its moves."""
-    return [line(it) for it in enabled(machine, number - 1, begins) if machine.step(*it, number)]
+class Clocked:
+    """Makes clocked rounds by an arbiter. Where an operation has been out for more rounds than a guard allows, a round begins
+    none; without a guard each may."""
+
+    def __init__(self, arbiter: Arbiter, guard: int | None = None) -> None:
+        self.arbiter, self.guard = arbiter, guard
+        # in how many rounds none began
+        self.held = 0
+
+    def is_held(self, machine: replay.Machine, number: int) -> bool:
+        """Whether the guard holds back what would begin in the round of this number."""
+        if self.guard is None:
+            return False
+        out = (it for at in machine.processors for it in at.tags if it is not None)
+        return any(it.issued + self.guard + 1 < number for it in out)
+
+    def moves(self, machine: replay.Machine, number: int, begins: replay.Begins) -> list[str]:
+        """Makes the round of this number, from 1 on, and answers the lines of its moves."""
+        is_held = self.is_held(machine, number)
+        self.held += is_held
+        made = enabled(machine, number - 1, (lambda at: False) if is_held else begins, self.arbiter)
+        return [line(it) for it in made if machine.step(*it, number)]
+
+
+def guard_of(case: campaign_cases.Case) -> int:
+    """The guard of a machine, where none is given."""
+    return GUARD * case.tiles() * case.tags
+
+
+def bound(case: campaign_cases.Case, guard: int | None = None) -> int:
+    """No operation is out for more rounds than these (`no_operation_waits_forever` of the crate fair_rounds)."""
+    most = guard_of(case)
+    return (most if guard is None else guard) + most + 2 * case.tiles() + 1
+
+
+def fair(case: campaign_cases.Case, guard: int | None = None) -> Clocked:
+    """Rounds in which the oldest operation goes first, with this guard, or with that of the machine."""
+    return Clocked(oldest, guard_of(case) if guard is None else guard)

@@ -105,7 +105,7 @@ def made(point: Point, case: campaign_cases.Case, asks: list[list[int]]) -> tupl
     """The machine after the run, and its moves: until all that is measured is answered, at most all cycles. What is asked for
     in a cycle is ready in its first round."""
     machine, lines = replay.Machine(case), []
-    rounds = clocked_rounds.moves if point.is_clocked else replay.in_order(machine.shape)
+    rounds = clocked_rounds.fair(case).moves if point.is_clocked else replay.in_order(machine.shape)
     due = [sum(it <= point.warm_up + point.window for it in of_one) for of_one in asks]
     for number in range(1, point.cycles() * point.cycle + 1):
         now = cycles.cycle_of(number, point.cycle)

@@ -37,10 +37,10 @@ def refuse_network_words(given: argparse.Namespace) -> None:
     command.refuse_twice(given.network, given.machine)
 
 
-def in_rounds(case: campaign_cases.Case, most: int, is_clocked: bool) -> str:
-    """The schedule of a run in rounds, clocked or in order, at most so many."""
+def in_rounds(case: campaign_cases.Case, most: int, clocked: clocked_rounds.Clocked | None) -> str:
+    """The schedule of a run in clocked rounds, or else in order, at most so many."""
     machine = replay.Machine(case)
-    rounds = clocked_rounds.moves if is_clocked else replay.in_order(machine.shape)
+    rounds = clocked.moves if clocked else replay.in_order(machine.shape)
     return "".join(f"{it}\n" for it in replay.scheduled(machine, most, rounds))
 
 
@@ -65,7 +65,9 @@ def read(given: argparse.Namespace) -> replay.Texts:
         if given.schedule is None:
             with command.temporary_file(b"") as none:
                 command.torusmem_on(texts, "steps", *texts, none, fine=(0, 3))
-            steps = in_rounds(replay.case_of(machine, script), MOST_ROUNDS, not given.rounds_in_order).encode("ascii")
+            case = replay.case_of(machine, script)
+            clocked = None if given.rounds_in_order else clocked_rounds.fair(case)
+            steps = in_rounds(case, MOST_ROUNDS, clocked).encode("ascii")
         with command.temporary_file(steps) as third:
             texts[third] = given.schedule or "the schedule"
             printed = command.torusmem_on(texts, "steps", *texts, fine=(0, 3))

@@ -1,7 +1,8 @@
-use Rattle.std.proofs.Common.{[], true}
+use Rattle.std.proofs.Common.{[]}
 use Rattle.one_order.specs.Load.{Load}
 use Rattle.core_laws.specs.Machine.{IsAfter}
 use Rattle.program_fault.specs.Done.{output}
+use Rattle.fair_rounds.specs.declared.pacing.Pace.TheVariants.{Turned}
 use Rattle.command_schedule.specs.Turned.{AreTurned, HasChoiceRoom}
 use Rattle.command_schedule.proofs.InRounds.{HasPut}
 use Rattle.command_schedule.proofs.clocked.put_clocked_rounds.Given as goal
@@ -10,7 +11,7 @@ use Rattle.command_schedule.proofs.clocked.put_clocked_rounds.Given as goal
 abbrev pub invariant-loop-before : goal.invariant-loop-before
 invariant-loop-before g l = record {
   put : (load : Load) → IsAfter load l.fn.machine []
-      → HasPut true load l.before l.machine (output (g.W.Out.taken l.fn.out) (g.W.Out.failures l.fn.out))
+      → HasPut Turned load l.before l.machine (output (g.W.Out.taken l.fn.out) (g.W.Out.failures l.fn.out))
       (output (g.W.Out.taken l.out) (g.W.Out.failures l.out));
   turned : AreTurned l.machine.shape l.turned;
   room : HasChoiceRoom l.machine.shape l.room;
