@@ -7,7 +7,7 @@ use std::alloc::{AllocError, Allocator};
 use trace_laws::{Call, Event};
 
 /// The operation that an event issues, if it issues one.
-pub(crate) fn call_at(events: &[Event], i: usize) -> Option<Call> {
+pub fn call_at(events: &[Event], i: usize) -> Option<Call> {
     if i >= events.len() {
         return None;
     }
@@ -18,12 +18,12 @@ pub(crate) fn call_at(events: &[Event], i: usize) -> Option<Call> {
 }
 
 /// The number at a place, if there is one.
-pub(crate) fn number_at(numbers: &[Option<usize>], place: usize) -> Option<usize> {
+pub fn number_at(numbers: &[Option<usize>], place: usize) -> Option<usize> {
     numbers.get(place).copied().unwrap_or(None)
 }
 
 /// Writes a number at a place, if there is the place.
-pub(crate) fn set_number(numbers: &mut [Option<usize>], place: usize, number: Option<usize>) {
+pub fn set_number(numbers: &mut [Option<usize>], place: usize, number: Option<usize>) {
     if place < numbers.len() {
         numbers[place] = number;
     }
@@ -60,7 +60,7 @@ impl<A: Allocator> Issues<A> {
 }
 
 /// Of each event that issues an operation the one that answers it, and the other way round.
-pub(crate) fn partners_of<A: Allocator + Copy>(
+pub fn partners_of<A: Allocator + Copy>(
     alloc: A,
     events: &[Event],
 ) -> Result<Vec<Option<usize>, A>, AllocError> {
@@ -78,7 +78,7 @@ pub(crate) fn partners_of<A: Allocator + Copy>(
 }
 
 /// The reply to the operation that event i issues, if it is answered.
-pub(crate) fn reply_at(events: &[Event], partners: &[Option<usize>], i: usize) -> Option<Reply> {
+pub fn reply_at(events: &[Event], partners: &[Option<usize>], i: usize) -> Option<Reply> {
     let k = number_at(partners, i)?;
     if k >= events.len() {
         return None;
@@ -90,7 +90,7 @@ pub(crate) fn reply_at(events: &[Event], partners: &[Option<usize>], i: usize) -
 }
 
 /// The word that an operation is known to find.
-pub(crate) fn found_by(reply: Option<Reply>) -> Option<u64> {
+pub fn found_by(reply: Option<Reply>) -> Option<u64> {
     match reply {
         Some(Reply::Old(word)) => Some(word),
         _ => None,
@@ -98,7 +98,7 @@ pub(crate) fn found_by(reply: Option<Reply>) -> Option<u64> {
 }
 
 /// The other word that an operation is known to leave, or that it leaves if it does anything.
-pub(crate) fn left_by(op: Op, reply: Option<Reply>) -> Option<u64> {
+pub fn left_by(op: Op, reply: Option<Reply>) -> Option<u64> {
     if let Some(Reply::Old(word)) = reply {
         let (new, _) = apply(op, word);
         return if new == word { None } else { Some(new) };

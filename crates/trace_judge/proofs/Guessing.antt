@@ -1,5 +1,5 @@
 -- A likely trace grows event by event, and what explains it explains the trace.
-use Rattle.std.proofs.Common.{◌≡◌, ⊎_elim, ℕ, ◌+◌, List, [], ◌∷◌, ◌++◌, length, Option, Some, None, Vec, MatchOption, refl, sym, subst, slice_get, take, add-one}
+use Rattle.std.proofs.Common.{◌≡◌, ⊎_elim, ℕ, ◌+◌, arith, List, [], ◌∷◌, ◌++◌, length, Option, Some, None, Vec, MatchOption, refl, sym, subst, slice_get, take, add-one}
 use Rattle.packet.specs.declared.kinds.Reply.{Reply}
 use Rattle.trace_laws.specs.declared.event.Call.{Call}
 use Rattle.trace_laws.specs.declared.event.Event.{Event}
@@ -10,6 +10,7 @@ use Rattle.trace_laws.specs.Unanswered.{IssuesUnanswered, IsResponse, IsWithout}
 use Rattle.trace_laws.proofs.Lists.{take_push}
 use Rattle.trace_laws.proofs.Unanswered.{to_long, to_fewer_answers}
 use Rattle.trace_laws.proofs.Without.{without_kept, without_left}
+use Rattle.trace_judge.specs.Verdicts.{IsGoodUntil}
 use Rattle.trace_judge.specs.Guesses.{IsLikely, IsKeptOrLeft, HasGuessedAnswer}
 
 likely_kept : (trace old new : List Event) (k : ℕ) (event : Event) → slice_get trace k ≡ Some event
@@ -78,3 +79,17 @@ likely_found opening trace likely seen None t is same found = tt
 likely_found opening trace likely seen (Some order) t is same found =
     likely_explains opening trace likely order.items t is
     (subst (λ (es : List Event). IsOrder opening es order.items) same found)
+
+-- where no order explains a trace there is an event, and nothing before it is linearizable
+pub good_from_none : (opening : List ℕ) (trace : List Event) → (IsLinearizable opening trace → ⊥)
+    → IsGoodUntil opening trace 0
+good_from_none opening [] none = absurd (none ([], silent_order opening [] [] refl (λ i id reply h. cc)))
+good_from_none opening (event ∷ rest) none = (omega arith, ([], silent_order opening [] [] refl (λ i id reply h. cc)))
+
+-- a search of a trace that no order explains ended at an event, up to which one does
+pub good_where_none : {A : Type 0} (opening : List ℕ) (trace : List Event) (found : Option (Vec Call A)) (event : ℕ)
+    → (IsLinearizable opening trace → ⊥)
+    → MatchOption found (IsLinearizable opening trace → ⊥) (λ order. IsOrder opening trace order.items)
+    → (found ≡ None → IsGoodUntil opening trace event) → IsGoodUntil opening trace event
+good_where_none opening trace None event none decided good = good refl
+good_where_none opening trace (Some order) event none decided good = absurd (none (order.items, decided))

@@ -1,15 +1,25 @@
 -- What a verdict says.
-use Rattle.std.specs.Prelude.{◌<◌, ◌+◌, ℕ, List, length, take}
+use Rattle.std.specs.Prelude.{◌≡◌, ◌<◌, ◌+◌, ℕ, true, List, MatchOption, length, take}
 use Rattle.trace_laws.specs.declared.event.Event.{Event}
 use Rattle.trace_laws.specs.Orders.{IsOrder, IsLinearizable}
+use Rattle.trace_judge.specs.declared.zoned.Zoned.{Zoned}
 use Rattle.trace_judge.specs.declared.judge.Verdict.{Verdict}
 use Rattle.trace_judge.specs.declared.judge.Verdict.TheVariants.{Linearizable, No}
+
+-- the first event up to which no order explains the trace: what comes before it has one
+abbrev pub IsFirstBadEvent : List ℕ → List Event → ℕ → Type 0
+IsFirstBadEvent opening trace event = (event < length trace) × IsLinearizable opening (take event trace)
+    × (IsLinearizable opening (take (event + 1) trace) → ⊥)
 
 -- an order that explains the trace; or the first event up to which none does
 abbrev pub TellsTraceVerdict : {A : Type 0} → List ℕ → List Event → Verdict A → Type 0
 TellsTraceVerdict opening trace (Linearizable order) = IsOrder opening trace order.items
-TellsTraceVerdict opening trace (No event) = (event < length trace) × IsLinearizable opening (take event trace)
-    × (IsLinearizable opening (take (event + 1) trace) → ⊥)
+TellsTraceVerdict opening trace (No event) = IsFirstBadEvent opening trace event
+
+-- where zones are in conflict no order explains the trace; and an order that they give does
+abbrev pub TellsZoned : {A : Type 0} → List ℕ → List Event → Zoned A → Type 0
+TellsZoned opening trace zoned = (zoned.conflict ≡ true → IsLinearizable opening trace → ⊥)
+    × MatchOption zoned.order (Unit {0}) (λ order. IsOrder opening trace order.items)
 
 -- what comes before this event is linearizable
 abbrev pub IsGoodUntil : List ℕ → List Event → ℕ → Type 0

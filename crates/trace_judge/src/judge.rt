@@ -4,21 +4,16 @@ ghost use Rattle.std.specs.Prelude.{◌≡◌, ◌<◌, ◌+◌, ℕ, List, true
 ghost use Rattle.std.specs.Prelude.{Some, None};
 ghost use Rattle.trace_laws.specs.Traces.{IsTrace};
 ghost use Rattle.trace_laws.specs.Orders.{IsOrder, IsLinearizable};
-ghost use Rattle.trace_laws.specs.Searches.{IsTrail, order_of};
-ghost use Rattle.trace_judge.specs.Searched.{HasSearched};
-ghost use Rattle.trace_judge.specs.Stops.{IsBeginning, IsUndecided, TellsMany};
-ghost use Rattle.trace_judge.specs.Verdicts.{IsGoodUntil, TellsTraceVerdict};
-ghost use Rattle.trace_judge.specs.Marks.{AreNodes, IsBelow, AreMarked, ArePicked};
-ghost use Rattle.trace_judge.specs.Sets.{lists_of};
+ghost use Rattle.trace_judge.specs.Stops.{IsUndecided, TellsMany};
+ghost use Rattle.trace_judge.specs.Verdicts.{IsFirstBadEvent, IsGoodUntil, TellsTraceVerdict};
 
-use crate::likely::{are_all_answered, is_silent, likely, try_guess};
-use crate::nodes::no_marks;
-use crate::search::{Search, start};
-use crate::stuck::{answer_from, between};
-use crate::trace::is_trace;
+use crate::explain::{Ways, explain, explain_beginning};
+use crate::order::{Ended, find_order};
+use crate::stuck::between;
 use crate::undecided::Undecided;
+use crate::zoned::before_conflict;
 use std::alloc::{AllocError, Allocator};
-use trace_laws::{Call, Event, Node};
+use trace_laws::{Call, Event};
 
 /// What a trace is judged to be.
 #[derive(Drop)]
@@ -30,209 +25,18 @@ pub enum Verdict<A: Allocator> {
     No { event: usize },
 }
 
-/// The event at which a search ended, since a word had no branch left; and a guess of the first event up
-/// to which no order explains the trace.
-#[derive(Clone, Copy, Default)]
-struct Ended {
-    event: usize,
-    guess: usize,
-}
-
-/// Goes through the events, as long as each word has a branch, and notes the event that left none.
-fn run<A: Allocator + Copy>(
+/// The beginning to look at first where a trace has no order.
+fn first_guess<A: Allocator + Copy>(
     alloc: A,
     opening: &[u64],
     events: &[Event],
-    whole: &[Event],
-    bound: usize,
-    ended: &mut Ended,
-) -> Result<Option<Search<A>>, Undecided>
-    requires trace { IsTrace (length opening.now) events.now }
-    requires beginning { IsBeginning events.now whole.now }
-    ensures undecided { IfErr result (IsUndecided whole.now) }
-    ensures full { IfErr result (TellsMany opening.now whole.now bound) }
-    ensures ended { IfOk result (λ found. found ≡ None
-        → IsGoodUntil opening.now events.now ended.new.event) }
-    ensures decided { IfOk result (λ found. MatchOption found
-        (IsLinearizable opening.now events.now → ⊥)
-        (λ search. HasSearched opening.now events.now whole.now (length events.now) search)) }
-{
-    let mut search = start(alloc, opening, events, whole)?;
-    for k in 0..events.len() {
-        if !search.step(alloc, opening, events, whole, k, bound)? {
-            *ended = Ended {
-                event: k,
-                guess: answer_from(events, k, search.stuck),
-            };
-            return Ok(None);
-        }
+    ended: Ended,
+) -> Result<usize, AllocError> {
+    if ended.zoned {
+        before_conflict(alloc, opening, events)
+    } else {
+        Ok(ended.guess.max(ended.event.saturating_add(1)))
     }
-    Ok(Some(search))
-}
-
-/// Marks the nodes on the way back from one.
-fn mark(marks: &mut [bool], nodes: &[Node], last: Option<usize>)
-    requires sized { length marks.old ≡ length nodes.now }
-    requires back { AreNodes nodes.now }
-    requires below { IsBelow nodes.now last }
-    ensures { (trail : List ℕ) × IsTrail nodes.now last trail
-        × AreMarked marks.old trail marks.new }
-{
-    let mut next = last;
-    while let Some(i) = next {
-        marks[i] = true;
-        next = nodes[i].before;
-    }
-}
-
-/// Marks the nodes on the way to the first branch of each word.
-fn mark_all<A: Allocator + Copy>(
-    alloc: A,
-    search: &Search<A>,
-    opening: &[u64],
-    events: &[Event],
-    whole: &[Event],
-) -> Result<Vec<bool, A>, AllocError>
-    requires { HasSearched opening.now events.now whole.now (length events.now) search.now }
-    ensures { IfOk result (λ v. ArePicked (length opening.now) (lists_of search.now.words.items)
-        search.now.nodes.items v.items) }
-{
-    let mut marks = no_marks(alloc, search.nodes.len())?;
-    for word in 0..search.words.len() {
-        let branches = &search.words[word];
-        mark(&mut marks, &search.nodes, branches[0].trail);
-    }
-    Ok(marks)
-}
-
-/// The operations of the marked nodes.
-fn collect<A: Allocator + Copy>(
-    alloc: A,
-    nodes: &[Node],
-    marks: &[bool],
-) -> Result<Vec<Call, A>, AllocError>
-    requires { length marks.now ≡ length nodes.now }
-    ensures { IfOk result (λ v. v.items ≡ order_of nodes.now marks.now) }
-{
-    let mut order = Vec::new(alloc);
-    for i in 0..nodes.len() {
-        if marks[i] {
-            order.push(nodes[i].call)?;
-        }
-    }
-    Ok(order)
-}
-
-/// An order that explains the trace, if there is one; else the event at which the search ended is noted.
-fn find_order<A: Allocator + Copy>(
-    alloc: A,
-    opening: &[u64],
-    events: &[Event],
-    whole: &[Event],
-    bound: usize,
-    ended: &mut Ended,
-) -> Result<Option<Vec<Call, A>>, Undecided>
-    requires trace { IsTrace (length opening.now) events.now }
-    requires beginning { IsBeginning events.now whole.now }
-    ensures undecided { IfErr result (IsUndecided whole.now) }
-    ensures full { IfErr result (TellsMany opening.now whole.now bound) }
-    ensures ended { IfOk result (λ found. found ≡ None
-        → IsGoodUntil opening.now events.now ended.new.event) }
-    ensures decided { IfOk result (λ found. MatchOption found
-        (IsLinearizable opening.now events.now → ⊥)
-        (λ order. IsOrder opening.now events.now order.items)) }
-{
-    let Some(search) = run(alloc, opening, events, whole, bound, ended)? else {
-        return Ok(None);
-    };
-    let marks = mark_all(alloc, &search, opening, events, whole)?;
-    let order = collect(alloc, &search.nodes, &marks)?;
-    Ok(Some(order))
-}
-
-/// How many configurations of a word a likely trace may have at once.
-const LIKELY: usize = 10_000;
-
-/// An order that explains the trace, if a likely one has an order.
-fn try_likely<A: Allocator + Copy>(
-    alloc: A,
-    opening: &[u64],
-    events: &[Event],
-    unclear: bool,
-    bound: usize,
-) -> Result<Option<Vec<Call, A>>, AllocError>
-    requires { IsTrace (length opening.now) events.now }
-    ensures { IfOk result (λ found. MatchOption found (Unit {0})
-        (λ order. IsOrder opening.now events.now order.items)) }
-{
-    let other = likely(alloc, opening, events, unclear)?;
-    if !is_trace(opening.len(), &other) {
-        return Ok(None);
-    }
-    let mut ended = Ended::default();
-    let found = find_order(
-        alloc,
-        opening,
-        &other,
-        &other,
-        bound.min(LIKELY),
-        &mut ended,
-    );
-    match found {
-        Ok(order) => Ok(order),
-        Err(_) => Ok(None),
-    }
-}
-
-/// An order that explains the trace: none of its operations, if nothing is answered; or one that is guessed; or one
-/// of a likely trace, if operations are never answered and that has one.
-fn likely_order<A: Allocator + Copy>(
-    alloc: A,
-    opening: &[u64],
-    events: &[Event],
-    bound: usize,
-) -> Result<Option<Vec<Call, A>>, AllocError>
-    requires { IsTrace (length opening.now) events.now }
-    ensures { IfOk result (λ found. MatchOption found (Unit {0})
-        (λ order. IsOrder opening.now events.now order.items)) }
-{
-    if is_silent(events) {
-        return Ok(Some(Vec::new(alloc)));
-    }
-    if let Some(order) = try_guess(alloc, opening, events, bound)? {
-        return Ok(Some(order));
-    }
-    if are_all_answered(events) {
-        return Ok(None);
-    }
-    if let Some(order) = try_likely(alloc, opening, events, false, bound)? {
-        return Ok(Some(order));
-    }
-    try_likely(alloc, opening, events, true, bound)
-}
-
-/// An order that explains the trace, if there is one, found with or without a guess; else the event at which
-/// the search ended is noted.
-fn explain<A: Allocator + Copy>(
-    alloc: A,
-    opening: &[u64],
-    events: &[Event],
-    bound: usize,
-    ended: &mut Ended,
-) -> Result<Option<Vec<Call, A>>, Undecided>
-    requires { IsTrace (length opening.now) events.now }
-    ensures undecided { IfErr result (IsUndecided events.now) }
-    ensures full { IfErr result (TellsMany opening.now events.now bound) }
-    ensures ended { IfOk result (λ found. found ≡ None
-        → IsGoodUntil opening.now events.now ended.new.event) }
-    ensures decided { IfOk result (λ found. MatchOption found
-        (IsLinearizable opening.now events.now → ⊥)
-        (λ order. IsOrder opening.now events.now order.items)) }
-{
-    if let Some(order) = likely_order(alloc, opening, events, bound)? {
-        return Ok(Some(order));
-    }
-    find_order(alloc, opening, events, events, bound, ended)
 }
 
 /// An order that explains the trace, if there is one, found with at most so many configurations of a
@@ -256,6 +60,104 @@ pub fn decide<A: Allocator + Copy>(
     explain(alloc, opening, events, bound, &mut ended)
 }
 
+/// How many orders of beginnings are guessed in vain.
+const MOST_IN_VAIN: u32 = 2;
+
+/// The first event up to which no order explains a trace that has none. A beginning that ends before the event at
+/// which a search ended has one.
+///
+/// Errors: as those of `judge`.
+fn first_bad<A: Allocator + Copy>(
+    alloc: A,
+    opening: &[u64],
+    events: &[Event],
+    bound: usize,
+    ended: Ended,
+) -> Result<usize, Undecided>
+    requires trace { IsTrace (length opening.now) events.now }
+    requires none { IsLinearizable opening.now events.now → ⊥ }
+    requires good { IsGoodUntil opening.now events.now ended.event }
+    ensures unjudged { IfErr result (IsUndecided events.now) }
+    ensures full { IfErr result (TellsMany opening.now events.now bound) }
+    ensures first { IfOk result (IsFirstBadEvent opening.now events.now) }
+{
+    // Most often the first bad event is the one at which the search ended, or the one that is guessed: look there, and
+    // from there in growing steps.
+    let mut good = ended.event;
+    let mut bad = events.len();
+    let mut guess = first_guess(alloc, opening, events, ended)?;
+    let mut step = 1usize;
+    let mut ways = Ways {
+        by_zones: ended.zoned,
+        guesses: MOST_IN_VAIN,
+    };
+    while good + 1 < bad {
+        let middle = between(good, bad, guess);
+        let beginning = &events[..middle];
+        if explain_beginning(alloc, opening, beginning, events, bound, &mut ways)?.is_some() {
+            good = middle;
+            guess = good.saturating_add(step);
+            step = step.saturating_mul(2);
+        } else {
+            bad = middle;
+            guess = good.saturating_add(1);
+            step = 1;
+        }
+    }
+    Ok(good)
+}
+
+/// The first event up to which no order explains a trace that has none, by the search alone.
+///
+/// Errors: as those of `judge`.
+fn first_bad_by_search<A: Allocator + Copy>(
+    alloc: A,
+    opening: &[u64],
+    events: &[Event],
+    bound: usize,
+) -> Result<usize, Undecided>
+    requires trace { IsTrace (length opening.now) events.now }
+    requires none { IsLinearizable opening.now events.now → ⊥ }
+    ensures unjudged { IfErr result (IsUndecided events.now) }
+    ensures full { IfErr result (TellsMany opening.now events.now bound) }
+    ensures first { IfOk result (IsFirstBadEvent opening.now events.now) }
+{
+    let mut ended = Ended::default();
+    let _none = find_order(alloc, opening, events, events, bound, &mut ended)?;
+    first_bad(alloc, opening, events, bound, ended)
+}
+
+/// The first bad event, as `first_bad` finds it; or by the search alone, where zones are in conflict and a beginning isn't
+/// decided with them.
+///
+/// Errors: as those of `judge`.
+fn first_bad_either_way<A: Allocator + Copy>(
+    alloc: A,
+    opening: &[u64],
+    events: &[Event],
+    bound: usize,
+    ended: Ended,
+) -> Result<usize, Undecided>
+    requires trace { IsTrace (length opening.now) events.now }
+    requires none { IsLinearizable opening.now events.now → ⊥ }
+    requires good { IsGoodUntil opening.now events.now ended.event }
+    ensures unjudged { IfErr result (IsUndecided events.now) }
+    ensures full { IfErr result (TellsMany opening.now events.now bound) }
+    ensures first { IfOk result (IsFirstBadEvent opening.now events.now) }
+{
+    match first_bad(alloc, opening, events, bound, ended) {
+        Ok(event) => Ok(event),
+        Err(Undecided::Memory) => Err(Undecided::Memory),
+        Err(open) => {
+            if ended.zoned {
+                first_bad_by_search(alloc, opening, events, bound)
+            } else {
+                Err(open)
+            }
+        }
+    }
+}
+
 /// Judges a trace over a memory that opens with these words, with at most so many configurations
 /// of a word at once: an order that explains it, or the first event up to which none does.
 /// An `Err` says why the trace, or a beginning of it, isn't decided.
@@ -274,24 +176,6 @@ pub fn judge<A: Allocator + Copy>(
     if let Some(order) = explain(alloc, opening, events, bound, &mut ended)? {
         return Ok(Verdict::Linearizable(order));
     }
-    // What comes before the event at which the search ended has an order. Most often the first bad event
-    // is this one, or the one that is guessed: look there, and from there in growing steps.
-    let mut good = ended.event;
-    let mut bad = events.len();
-    let mut guess = ended.guess.max(good.saturating_add(1));
-    let mut step = 1usize;
-    while good + 1 < bad {
-        let middle = between(good, bad, guess);
-        let mut other = Ended::default();
-        if find_order(alloc, opening, &events[..middle], events, bound, &mut other)?.is_some() {
-            good = middle;
-            guess = good.saturating_add(step);
-            step = step.saturating_mul(2);
-        } else {
-            bad = middle;
-            guess = good.saturating_add(1);
-            step = 1;
-        }
-    }
-    Ok(Verdict::No { event: good })
+    let event = first_bad_either_way(alloc, opening, events, bound, ended)?;
+    Ok(Verdict::No { event })
 }

@@ -137,8 +137,8 @@ pub fn likely<A: Allocator + Copy>(
     Ok(other)
 }
 
-/// With fewer configurations of a word no order is guessed.
-const GUESSED: usize = 1024;
+/// With fewer configurations of a word no order is guessed, and no zones are looked at.
+pub(crate) const GUESSED: usize = 1024;
 
 /// An order that explains the trace, if one is guessed.
 pub fn try_guess<A: Allocator + Copy>(

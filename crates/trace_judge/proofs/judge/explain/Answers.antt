@@ -1,5 +1,0 @@
-use Rattle.trace_judge.proofs.Boundary.{whole_beginning}
-use Rattle.trace_judge.proofs.judge.explain.Goals as goal
-
-pub find_order-requires-clause-beginning : goal.find_order-requires-clause-beginning
-find_order-requires-clause-beginning g c = whole_beginning c.args.events.now

@@ -1,0 +1,7 @@
+use Rattle.trace_judge.proofs.Guessing.{good_where_none}
+use Rattle.trace_judge.proofs.judge.first_bad_by_search.Goals as goal
+
+pub first_bad-requires-clause-good : goal.first_bad-requires-clause-good
+first_bad-requires-clause-good g c =
+    good_where_none c.args.opening.now c.args.events.now c.in_ok-_none._none _ c.requires.none
+    c.in_ok-_none.ensures.decided c.in_ok-_none.ensures.ended
