@@ -11,6 +11,7 @@ from __future__ import annotations
 import argparse
 import functools
 import importlib
+import itertools
 import mmap
 import os
 import shutil
@@ -266,6 +267,11 @@ def explain_refusal(path: str, *words: str) -> list[str]:
         raise Refusal(f"cannot run {program}: {fault.strerror or fault}") from None
     lines = asked.stderr.decode("utf-8", "replace").split("\n")
     return [it[len(path) + 1 :] for it in lines if it.startswith(f"{path}:")]
+
+
+def explain_answer(path: str, *words: str) -> list[str]:
+    """Why the trace of a text has no order: the line on its first bad answer, and one for each operation that is open there."""
+    return list(itertools.takewhile(lambda it: it[:1].isdigit(), explain_refusal(path, "linearize", *words)))
 
 
 def last_line(lines: Iterable[bytes]) -> str:

@@ -17,7 +17,7 @@ use program_fault::{
     Kind, Names, ProgramFault, Texts, explain, explain_by, is_of_texts, named, told,
 };
 use sentences::scripts_sentence;
-use trace_why::{no_order_sentence, trace_sentence};
+use trace_why::{conflict_sentence, no_order_sentence, trace_sentence};
 
 /// The line of a fault at which routers begin to choose, where a text is refused for that alone: another
 /// reader takes the line.
@@ -259,5 +259,6 @@ pub fn explain_no_order<R: Eprint + AllocGlobal>(
             rt,
             no_order_sentence(rt.alloc(), named(name, trace), line, bound),
         );
+        let _ = told(rt, conflict_sentence(rt.alloc(), named(name, trace), line));
     }
 }

@@ -3,7 +3,7 @@
 use program_fault::{ProgramFault, explain_by, is_of_texts, named, told};
 use std::alloc::Global;
 use trace_table::{TableTrace, read_table, table_sentence};
-use trace_why::{NoOrderSentence, no_order_sentence};
+use trace_why::{ConflictSentence, NoOrderSentence, conflict_sentence, no_order_sentence};
 
 /// Says why a table has the fault that the command answers, where that can be found.
 pub(crate) fn explain_table<R: Eprint + AllocGlobal>(
@@ -54,6 +54,22 @@ fn sentence_in_table<'a>(
     sentence
 }
 
+/// A certificate of a trace text, with the lines of its table.
+fn conflict_in_table<'a>(
+    trace: &TableTrace<Global>,
+    line: u64,
+    mut sentence: ConflictSentence<'a, Global>,
+) -> ConflictSentence<'a, Global> {
+    sentence.line = line;
+    for operation in sentence.cited.iter_mut() {
+        operation.issue.line = trace.table_line(operation.issue.line);
+        if let Some(answer) = &mut operation.answer {
+            answer.line = trace.table_line(answer.line);
+        }
+    }
+    sentence
+}
+
 /// Says why no order explains the trace text of a table from the answer of a line of the table on.
 fn explain_no_order_of_text<'a, R: Eprint + AllocGlobal>(
     rt: &R,
@@ -66,6 +82,9 @@ fn explain_no_order_of_text<'a, R: Eprint + AllocGlobal>(
         let text = named(name, &trace.text);
         if let Some(sentence) = no_order_sentence(rt.alloc(), text, last, bound) {
             let _ = told(rt, Some(sentence_in_table(trace, line, sentence)));
+        }
+        if let Some(sentence) = conflict_sentence(rt.alloc(), text, last) {
+            let _ = told(rt, Some(conflict_in_table(trace, line, sentence)));
         }
     }
 }

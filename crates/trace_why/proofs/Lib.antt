@@ -5,3 +5,4 @@ pub mod Growing
 pub mod Bad
 pub mod Telling
 pub mod Trying
+pub mod Certifying

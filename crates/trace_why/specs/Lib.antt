@@ -1,5 +1,6 @@
 pub mod Before
 pub mod Calls
+pub mod Certified
 pub mod Refused
 pub mod Told
 pub mod Values

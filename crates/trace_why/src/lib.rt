@@ -5,6 +5,8 @@
 mod answers;
 pub mod before;
 pub mod calls;
+pub mod certified;
+mod citing;
 pub mod laws;
 mod open;
 mod printed;
@@ -18,6 +20,7 @@ mod wording;
 
 pub use before::earlier_line;
 pub use calls::CallAt;
+pub use certified::{ConflictSentence, conflict_sentence};
 pub use printed::ReplyWord;
 pub use refused::{TraceSentence, trace_sentence};
 pub use sentence::{IssueLine, NoOrderSentence, no_order_sentence};

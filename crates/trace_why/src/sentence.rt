@@ -68,7 +68,7 @@ fn is_of_line(lines: &[u64], event: usize, line: u64) -> bool
 }
 
 /// The first event of a line.
-fn event_at(lines: &[u64], line: u64) -> Option<usize>
+pub(crate) fn event_at(lines: &[u64], line: u64) -> Option<usize>
     ensures { MatchOption result
         ((k : ℕ) → slice_get lines.now k ≡ Some line → ⊥)
         (λ k. slice_get lines.now k ≡ Some line) }
@@ -82,7 +82,7 @@ fn event_at(lines: &[u64], line: u64) -> Option<usize>
 }
 
 /// How the text of a trace issues an operation.
-fn line_of<A: Allocator>(trace: &TraceText<A>, call: CallAt) -> IssueLine
+pub(crate) fn line_of<A: Allocator>(trace: &TraceText<A>, call: CallAt) -> IssueLine
     requires { TraceIssuesAt trace.now.events call.event call.call }
     ensures { IsLineOf trace.now call result }
 {

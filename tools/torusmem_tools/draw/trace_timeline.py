@@ -112,7 +112,9 @@ def judge_trace(text: bytes, name: str) -> Trace:
         except command.Refusal as why:
             said = str(why)
         is_judged = order != "" or bool(re.match("(not linearizable|undecided) at line [0-9]+", said))
-        if said.startswith("not linearizable") or not is_judged:
+        if said.startswith("not linearizable"):
+            reasons = command.explain_answer(path)
+        elif not is_judged:
             reasons = command.explain_refusal(path, "linearize")
     if not is_judged:
         raise command.name_refusal(command.Refusal(said), name, reasons)

@@ -56,7 +56,7 @@ class Judge:
                 found = NO.fullmatch(str(refused))
                 if not found:
                     raise
-            reasons = command.explain_refusal(name, "linearize", *self.options) if wants_reasons and found[1][0] == "n" else []
+            reasons = command.explain_answer(name, *self.options) if wants_reasons and found[1][0] == "n" else []
         event = trace.event_of(int(found[2]))
         assert event is not None
         return Answer([], event, found[1] == "undecided", found[3], reasons), trace
