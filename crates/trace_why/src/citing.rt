@@ -104,10 +104,14 @@ impl<'a, A: Allocator> ConflictSentence<'a, A> {
         if let Before::Atomic { event } = before {
             let from = issue_of(&self.cited, event).line;
             let span = span_of(&self.cited, behind, behind);
+            let told = match span.first {
+                Some(first) => first.line,
+                None => span.last.line,
+            };
             return write!(
                 f,
-                "line {} changed word {} from {} to {}, which was there before: {} was told and {} behind it, {}",
-                from, self.address, one, other, other, one, span
+                "line {} changed word {} from {} to {}, but {} was there by line {}, and {} behind it, at line {}",
+                from, self.address, one, other, other, told, one, span.last.line
             );
         }
         write!(
