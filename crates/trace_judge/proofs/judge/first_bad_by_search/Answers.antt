@@ -1,5 +1,9 @@
+use Rattle.trace_judge.proofs.Boundary.{whole_beginning}
 use Rattle.trace_judge.proofs.Guessing.{good_where_none}
 use Rattle.trace_judge.proofs.judge.first_bad_by_search.Goals as goal
+
+pub find_order-requires-clause-beginning : goal.find_order-requires-clause-beginning
+find_order-requires-clause-beginning g c = whole_beginning c.args.events.now
 
 pub first_bad-requires-clause-good : goal.first_bad-requires-clause-good
 first_bad-requires-clause-good g c =
