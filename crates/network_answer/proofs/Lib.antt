@@ -1,3 +1,4 @@
 pub mod Jams
 pub mod Counted
 mod Mapped
+mod OneFlit

@@ -1,8 +1,12 @@
 -- The judgement of a text whose routers choose.
-use Rattle.std.specs.Prelude.{List, Bool, ◌+◌}
+use Rattle.std.specs.Prelude.{List, Bool, true, false, ◌+◌}
 use Rattle.network_adaptive.specs.Choosing.{ChoiceTable, choosing_of}
 use Rattle.network_adaptive.specs.Shape.{AreMarksOf, IsJudgedNet}
 use Rattle.network_adaptive.specs.declared.accepting.JudgedNet.{JudgedNet}
+use Rattle.network_adaptive.specs.declared.accepting.JudgedNet.TheVariants.{WrongPair, WrongChoice}
+use Rattle.network_adaptive.specs.declared.accepting.JudgedNet.TheVariants.{Judged}
+use Rattle.network_adaptive.specs.declared.verdict.Verdict.{Verdict}
+use Rattle.network_adaptive.specs.declared.verdict.Verdict.TheVariants.{Rising, NoEscape, Cycle}
 use Rattle.network_text.specs.Choosing.{ChoosingText}
 use Rattle.network_text.specs.ChoiceLists.{choice_list, AreEscapesOf}
 
@@ -22,3 +26,14 @@ pub record IsChoosingJudgement {A : Type 0} (t : ChoosingText) (judged : JudgedN
   pub marks : List Bool
   pub marked : AreMarks t marks
   pub holds : IsJudgedNet (choice_table t marks) t.fixed.replies judged
+
+-- whether there are numbers that rise
+abbrev pub verdict_rises : {A : Type 0} → Verdict A → Bool
+verdict_rises (Rising numbers travel) = true
+verdict_rises (NoEscape f) = false
+verdict_rises (Cycle edges) = false
+
+abbrev pub judgement_rises : {A : Type 0} → JudgedNet A → Bool
+judgement_rises (WrongPair r) = false
+judgement_rises (WrongChoice c) = false
+judgement_rises (Judged v) = verdict_rises v

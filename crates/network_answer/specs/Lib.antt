@@ -1,4 +1,5 @@
 pub mod Answer
 pub mod Judging
+pub mod OneFlit
 pub mod Routing
 pub mod Causes

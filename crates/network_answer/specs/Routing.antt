@@ -28,7 +28,8 @@ use Rattle.network_adaptive.specs.declared.verdict.Verdict.{Verdict}
 use Rattle.network_adaptive.specs.declared.verdict.Verdict.TheVariants.{Rising, NoEscape, Cycle}
 use Rattle.network_adaptive.specs.Between.{dependency_at}
 use Rattle.network_text.specs.Choosing.{ChoosingText}
-use Rattle.network_answer.specs.Judging.{IsChoosingJudgement}
+use Rattle.network_answer.specs.Judging.{IsChoosingJudgement, judgement_rises}
+use Rattle.network_answer.specs.OneFlit.{StandsBehind}
 use Rattle.network_text.specs.Routing.{Routing, Fixed, Chosen, routing_of}
 
 -- why a channel is no choice
@@ -94,22 +95,13 @@ judgement_text r (WrongPair p) = no_route_line p
 judgement_text r (WrongChoice c) = no_choice_line c
 judgement_text r (Judged v) = choosing_verdict_text r v
 
--- whether there are numbers that rise
-abbrev pub verdict_rises : {A : Type 0} → Verdict A → Bool
-verdict_rises (Rising numbers travel) = true
-verdict_rises (NoEscape f) = false
-verdict_rises (Cycle edges) = false
-
-abbrev pub judgement_rises : {A : Type 0} → JudgedNet A → Bool
-judgement_rises (WrongPair r) = false
-judgement_rises (WrongChoice c) = false
-judgement_rises (Judged v) = verdict_rises v
-
--- what is judged of a network whose routers choose, and whether its numbers rise
+-- what is judged of a network whose routers choose, what stands behind it, and whether its numbers rise
 pub record TellsJudged {A : Type 0} (t : ChoosingText) (a : Answer A) : Type 0 where
   pub judged : JudgedNet A
   pub holds : IsChoosingJudgement t judged
-  pub text : a.text.items ≡ judgement_text t.fixed judged
+  pub behind : List ℕ
+  pub stands : StandsBehind t judged behind
+  pub text : a.text.items ≡ judgement_text t.fixed judged ++ behind
   pub rising : a.rising ≡ judgement_rises judged
 
 -- what is said of such a network with these pairs

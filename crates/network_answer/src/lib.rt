@@ -8,6 +8,7 @@ pub mod causes;
 pub mod jam;
 pub mod judgement;
 pub mod judging;
+pub mod one_flit;
 pub mod routing;
 pub mod verdict;
 

@@ -5,13 +5,11 @@ ghost use Rattle.std.specs.Str.Lines.{lines};
 ghost use Rattle.network_text.specs.ChoosingRead.{choosing_text_of, IsChoosingRead};
 ghost use Rattle.network_answer.specs.Routing.{AnswersRouting, TellsChoosing, TellsRouting};
 ghost use Rattle.network_text.specs.Routing.{routing_of_all};
-ghost use Rattle.network_answer.specs.Routing.{judgement_rises, verdict_rises};
 
 use crate::answer::{Answer, answered, no_pair};
 use crate::judgement::judgement_text;
-use crate::judging::judged_of;
-use network_adaptive::Verdict;
-use network_adaptive::accepting::JudgedNet;
+use crate::judging::{judged_by, judgement_rises};
+use crate::one_flit::behind_text;
 use network_text::choosing::{Choosing, Routers};
 use network_text::choosing_text::read_text_or_why;
 use network_text::network::network_read;
@@ -24,28 +22,6 @@ const MEMORY: LineFault = LineFault {
     fault: Fault::Memory,
     line: 0,
 };
-
-/// Whether a verdict has numbers.
-fn verdict_rises<A: Allocator>(verdict: &Verdict<A>) -> bool
-    ensures { result ≡ verdict_rises verdict.now }
-{
-    match verdict {
-        Verdict::Rising(_, _) => true,
-        Verdict::NoEscape(_) => false,
-        Verdict::Cycle(_) => false,
-    }
-}
-
-/// Whether there are numbers that rise.
-fn judgement_rises<A: Allocator>(judged: &JudgedNet<A>) -> bool
-    ensures { result ≡ judgement_rises judged.now }
-{
-    match judged {
-        JudgedNet::WrongPair(_) => false,
-        JudgedNet::WrongChoice(_) => false,
-        JudgedNet::Judged(verdict) => verdict_rises(verdict),
-    }
-}
 
 /// Judges a network whose routers choose, and makes the text of what is judged: that it has no
 /// source-destination pair, or else what is judged of it.
@@ -62,8 +38,10 @@ fn answered_choosing<A: Allocator + Copy>(
     if network.fixed.joins.is_empty() {
         return no_pair(alloc);
     }
-    let judged = judged_of(alloc, network)?;
-    let text = judgement_text(alloc, &network.fixed, &judged)?;
+    let choices = network.choices(alloc)?;
+    let judged = judged_by(alloc, network, &choices)?;
+    let mut text = judgement_text(alloc, &network.fixed, &judged)?;
+    text.extend_from_slice(&behind_text(alloc, network, &choices, &judged)?)?;
     Ok(Answer {
         text,
         rising: judgement_rises(&judged),

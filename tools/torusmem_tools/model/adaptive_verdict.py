@@ -6,6 +6,7 @@ from typing import List, Optional, Tuple
 
 from torusmem_tools.command import Refusal
 from torusmem_tools.model.adaptive_walk import Edge, AdaptiveVerdict, Walk, duato_verdict
+from torusmem_tools.model.dead_sets import dead_lines, fault_of_dead_lines
 from torusmem_tools.model.deadlock import label_of
 from torusmem_tools.model.network import Network, number_of
 
@@ -34,11 +35,16 @@ def found_in(net: Network, text: str, path: str) -> AdaptiveVerdict:
     said = [it for it in lines if it in ("rising", "cycle", "no pair") or it.startswith(("no route ", "no choice ", "no escape "))]
     if said != [kind]:
         raise Refusal(f"{path}: the network's verdict is `{kind}`, and not `{' '.join(said)}`")
+    last = "may lock up" if kind == "cycle" else kind
+    behind = lines[lines.index(last) + 1:] if last in lines else []
+    wrong = fault_of_dead_lines(net, walked.dead, behind) if behind else ""
+    if wrong:
+        raise Refusal(f"{path}: {wrong}")
     if kind == "cycle":
-        turns = turns_of([it.split() or [""] for it in lines if it not in ("cycle", "may lock up")], net)
+        turns = turns_of([it.split() or [""] for it in lines[:len(lines) - len(behind)] if it not in ("cycle", last)], net)
         if not turns:
             raise Refusal(f"{path}: it has no cycle of this network")
-        return AdaptiveVerdict(kind, turns=turns)
+        return AdaptiveVerdict(kind, turns=turns, dead=walked.dead)
     found = {}
     for words in (it.split() for it in lines):
         if words[:1] == ["number"] and len(words) == 3 and min(map(number_of, words[1:])) >= 0:
@@ -63,4 +69,4 @@ def sentences(net: Network, found: AdaptiveVerdict) -> str:
         over = ", ".join(f"{it}{label_of(net, it)}" for it in edge.over)
         goes = f" can go on over {over}, which {'are' if edge.over[1:] else 'is'} no escape{'s' if edge.over[1:] else ''}, and" if over else ""
         lines.append(f"packets to {edge.to}{label_of(net, edge.to)} that hold channel {x}{label_of(net, x)}{goes} wait for channel {there}")
-    return "\n".join(lines + ["may lock up"] * (found.kind == "cycle")) + "\n"
+    return "\n".join([*lines, *["may lock up"] * (found.kind == "cycle"), *dead_lines(found.dead)]) + "\n"

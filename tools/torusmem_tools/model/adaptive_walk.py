@@ -8,6 +8,7 @@ from __future__ import annotations
 from collections import deque
 from typing import Callable, Dict, Iterable, List, NamedTuple, Optional, Set, Tuple
 
+from torusmem_tools.model.dead_sets import dead_lines, greatest_dead_set
 from torusmem_tools.model.network import Network, numbers
 
 
@@ -20,18 +21,20 @@ class Edge(NamedTuple):
 
 class AdaptiveVerdict(NamedTuple):
     """What is judged: the verdict's line; of `rising` numbers, and how far packets can go; of a cycle its edges, each with
-    the channel that it leads from and that to which it leads."""
+    the channel that it leads from and that to which it leads; of a cycle or a missing escape the greatest dead set."""
 
     kind: str
     numbers: List[int] = []
     travel: str = ""
     turns: List[Tuple[int, Edge, int]] = []
+    dead: Optional[List[int]] = None
 
     def text(self) -> str:
         """The lines of `torusmem network`, but for the numbers."""
         if self.kind == "rising":
             return f"{self.travel}\nrising\n"
-        lines = [self.kind, *(line_of(x, edge, y) for x, edge, y in self.turns), *["may lock up"] * (self.kind == "cycle")]
+        lines = [self.kind, *(line_of(x, edge, y) for x, edge, y in self.turns), *["may lock up"] * (self.kind == "cycle"),
+                 *dead_lines(self.dead)]
         return "\n".join(lines) + "\n"
 
 
@@ -162,13 +165,14 @@ def duato_verdict(net: Network, walks: Callable[[Network], Walk] = Walk) -> Adap
     walk = walks(net)
     wrong = walk.bare()
     if wrong is not None:
-        return AdaptiveVerdict(wrong)
+        return AdaptiveVerdict(wrong, dead=greatest_dead_set(net))
     edges = walk.edges()
     rank = numbers(net, {edge: "" for edge in edges})
     if rank is not None:
         return AdaptiveVerdict("rising", rank, walk.travel())
     around = shortest_cycle(edges)
-    return AdaptiveVerdict("cycle", turns=[(x, edges[x, y], y) for x, y in zip(around, around[1:] + around[:1])])
+    turns = [(x, edges[x, y], y) for x, y in zip(around, around[1:] + around[:1])]
+    return AdaptiveVerdict("cycle", turns=turns, dead=greatest_dead_set(net))
 
 
 def shortest_cycle(edges: Dict[Tuple[int, int], Edge]) -> List[int]:

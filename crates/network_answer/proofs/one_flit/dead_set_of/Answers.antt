@@ -1,0 +1,22 @@
+use Rattle.std.proofs.Common.{◌+◌, ◌*◌, ◌≤◌, [], length, sym, ◌∙◌, ap, subst, arith}
+use Rattle.std.specs.List.{count_by}
+use Rattle.network_judge.specs.Table.{ejects}
+use Rattle.network_text.specs.Reading.{reading_of}
+use Rattle.network_text.specs.ChoosingRead.{choosing_text_of}
+use Rattle.network_text.proofs.Refused.{moved}
+use Rattle.network_answer.proofs.Counted.{choices_length}
+use Rattle.network_adaptive.specs.Choosing.{choosing_of, table}
+use Rattle.network_answer.proofs.one_flit.dead_set_of.Goals as goal
+
+pub greatest_dead_set-requires-clause-room : goal.greatest_dead_set-requires-clause-room
+greatest_dead_set-requires-clause-room g c =
+    let n = c.args.network.now in
+    let size = ap length c.requires.choices ∙ choices_length (choosing_text_of n) in
+    subst (λ k. count_by ejects k * (length k * (n.layers + 1)) ≤ length c.args.choices.now) (sym c.deref.ensures.value) (omega (arith, size))
+
+pub greatest_dead_set-requires-clause-replies : goal.greatest_dead_set-requires-clause-replies
+greatest_dead_set-requires-clause-replies g c =
+    let n = c.args.network.now in
+    moved (reading_of n.fixed).table
+    (table (choosing_of c.deref.result.now c.deref-2.result.now (n.layers + 1) c.args.choices.now []))
+    n.fixed.replies.items c.deref-3.result.now c.deref.ensures.value c.deref-3.ensures.value c.requires.read.fixed.replies

@@ -1,0 +1,118 @@
+//! What stands behind the text of a judgement, where routers choose and no numbers rise along the escapes:
+//! that packets of one flit never deadlock, or the greatest dead set.
+
+ghost use Rattle.std.specs.Prelude.{◌≡◌, ◌++◌, ◌<◌, [], true, length, IfOk, OnOk};
+ghost use Rattle.network_judge.specs.Marks.{is_marked_at};
+ghost use Rattle.network_text.specs.ChoiceLists.{choice_list};
+ghost use Rattle.network_text.specs.ChoosingRead.{choosing_text_of, IsChoosingRead};
+ghost use Rattle.network_text.specs.Lines.{first_lines};
+ghost use Rattle.network_answer.specs.Judging.{IsChoosingJudgement};
+ghost use Rattle.network_answer.specs.OneFlit.{dead_line, dead_set_text, StandsBehind};
+ghost use Rattle.network_answer.specs.OneFlit.{IsFoundOf, ArePairsOfEnds, lacks_numbers};
+
+use crate::judging::verdict_rises;
+use crate::verdict::{put_number, put_numbers};
+use dead_sets::{DeadSet, greatest_dead_set};
+use network_adaptive::accepting::JudgedNet;
+use network_text::choosing::Choosing;
+use std::alloc::{AllocError, Allocator};
+
+/// Adds the line of a channel, if its flag is up.
+fn put_dead<A: Allocator>(out: &mut Vec<u8, A>, flags: &[bool], x: usize) -> Result<(), AllocError>
+    requires { x < length flags.now }
+    ensures { OnOk result (out.new.items ≡ out.old.items ++ dead_line flags.now x) }
+{
+    if !flags[x] {
+        return Ok(());
+    }
+    put_number(out, "dead ", x)?;
+    out.extend_from_slice(b"\n")
+}
+
+/// Adds the line of each channel of a dead set.
+fn put_dead_channels<A: Allocator>(out: &mut Vec<u8, A>, flags: &[bool]) -> Result<(), AllocError>
+    ensures { OnOk result
+        (out.new.items ≡ out.old.items ++ first_lines (dead_line flags.now) (length flags.now)) }
+{
+    for x in 0..flags.len() {
+        put_dead(out, flags, x)?;
+    }
+    Ok(())
+}
+
+/// The text of what is found of dead sets.
+///
+/// Errors: out of memory.
+fn dead_set_text<A: Allocator + Copy>(
+    alloc: A,
+    found: &DeadSet<A>,
+) -> Result<Vec<u8, A>, AllocError>
+    ensures { IfOk result (λ text. text.items ≡ dead_set_text found.now) }
+{
+    let mut text = Vec::new(alloc);
+    match found {
+        DeadSet::Empty(numbers) => {
+            put_numbers(&mut text, numbers)?;
+            text.extend_from_slice(b"never locks up with packets of one flit\n")?;
+        }
+        DeadSet::Greatest(flags) => put_dead_channels(&mut text, flags)?,
+    }
+    Ok(text)
+}
+
+/// What is found of the dead sets of the network of a text, by its choices as they are judged.
+///
+/// Errors: out of memory.
+fn dead_set_of<A: Allocator + Copy>(
+    alloc: A,
+    network: &Choosing<A>,
+    choices: &[u32],
+) -> Result<DeadSet<A>, AllocError>
+    requires read { IsChoosingRead network.now }
+    requires choices { choices.now ≡ choice_list (choosing_text_of network.now) }
+    requires pairs { ArePairsOfEnds (choosing_text_of network.now) }
+    ensures { IfOk result (IsFoundOf (choosing_text_of network.now)) }
+{
+    let fixed = &network.fixed;
+    greatest_dead_set(
+        alloc,
+        &fixed.kinds,
+        &fixed.joins,
+        &fixed.replies,
+        network.layers + 1,
+        choices,
+    )
+}
+
+/// Whether no numbers rise along the escapes of a network, which is judged.
+fn lacks_numbers<A: Allocator>(judged: &JudgedNet<A>) -> bool
+    ensures { result ≡ lacks_numbers judged.now }
+{
+    match judged {
+        JudgedNet::WrongPair(_) => false,
+        JudgedNet::WrongChoice(_) => false,
+        JudgedNet::Judged(verdict) => !verdict_rises(verdict),
+    }
+}
+
+/// The text that stands behind that of a judgement, by the choices as they are judged.
+///
+/// Errors: out of memory.
+pub(crate) fn behind_text<A: Allocator + Copy>(
+    alloc: A,
+    network: &Choosing<A>,
+    choices: &[u32],
+    judged: &JudgedNet<A>,
+) -> Result<Vec<u8, A>, AllocError>
+    requires read { IsChoosingRead network.now }
+    requires choices { choices.now ≡ choice_list (choosing_text_of network.now) }
+    requires judged { IsChoosingJudgement (choosing_text_of network.now) judged.now }
+    ensures { IfOk result
+        (λ text. StandsBehind (choosing_text_of network.now) judged.now text.items) }
+{
+    if !lacks_numbers(judged) {
+        return Ok(Vec::new(alloc));
+    }
+    let found = dead_set_of(alloc, network, choices)?;
+    dead_set_text(alloc, &found)
+}

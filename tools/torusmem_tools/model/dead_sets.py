@@ -1,0 +1,73 @@
+"""Dead sets of networks whose routers choose: in each of their channels packets wait for others of them alone, whatever they
+could choose (Duato, IEEE TPDS 4(12), 1993, and 6(10), 1995). Where there is none but the empty one, choices rise, and packets
+of one flit never deadlock. Nothing here is proved."""
+from __future__ import annotations
+
+from typing import Dict, Iterator, List, Optional, Set, Tuple
+
+from torusmem_tools.model.network import Network
+
+NEVER = "never locks up with packets of one flit"
+# A channel in which packets wait, and the channels by which they can leave it.
+Case = Tuple[int, Set[int]]
+
+
+def cases(net: Network) -> Iterator[Case]:
+    """Where packets wait: on each way to an ejection channel for what they could choose, and at its end for each channel on
+    which they are answered."""
+    answers: Dict[int, List[int]] = {}
+    for x, y in net.replies:
+        answers.setdefault(x, []).append(y)
+    for j in sorted({j for _, j in net.joins}):
+        seen, more = set(), [i for i, to in net.joins if to == j]
+        while more:
+            x = more.pop()
+            if x in seen:
+                continue
+            seen.add(x)
+            if net.kinds[x] == "eject":
+                yield from ((x, {y}) for y in answers.get(x, []))
+                continue
+            yield x, set(net.after(x, j))
+            more.extend(net.after(x, j))
+
+
+def greatest_dead_set(net: Network) -> List[int]:
+    """The channels of the greatest dead set: what is left once each case is struck out that can leave to a channel of none."""
+    left = [0] * len(net.kinds)
+    waiting: Dict[int, List[int]] = {}
+    found = list(cases(net))
+    for k, (x, ways) in enumerate(found):
+        left[x] += 1
+        for y in ways:
+            waiting.setdefault(y, []).append(k)
+    free = [x for x, count in enumerate(left) if count == 0]
+    struck: Set[int] = set()
+    while free:
+        for k in waiting.get(free.pop(), []):
+            if k not in struck:
+                struck.add(k)
+                x = found[k][0]
+                left[x] -= 1
+                if left[x] == 0:
+                    free.append(x)
+    return [x for x, count in enumerate(left) if count]
+
+
+def dead_lines(dead: Optional[List[int]]) -> List[str]:
+    """What `torusmem network` says of dead sets, but for numbers; nothing where it doesn't look for them."""
+    return [] if dead is None else [f"dead {x}" for x in dead] or [NEVER]
+
+
+def fault_of_dead_lines(net: Network, dead: Optional[List[int]], lines: List[str]) -> str:
+    """What is wrong with the lines that stand behind a verdict; nothing if all is right."""
+    numbers = [it.split() for it in lines if it.startswith("number ")]
+    if [it for it in lines if not it.startswith("number ")] != dead_lines(dead):
+        return f"behind the verdict stands {lines[:3]}, and not {dead_lines(dead)[:3]}"
+    if dead != []:
+        return "numbers stand behind the verdict" if numbers else ""
+    rank = [int(it[2]) for it in numbers]
+    if [it[1] for it in numbers] != [str(x) for x in range(len(net.kinds))] or lines[-1:] != [NEVER]:
+        return "the numbers behind the verdict aren't those of all channels"
+    falls = [x for x, ways in cases(net) if not any(rank[x] < rank[y] for y in ways)]
+    return f"no choice behind channel {falls[0]} rises" if falls else ""
