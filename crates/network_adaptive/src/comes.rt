@@ -1,7 +1,7 @@
 //! Where packets come, and what they wait for.
 
 ghost use Rattle.std.specs.Prelude.{◌≡◌, ◌+◌, ◌*◌, ◌<◌, ◌≤◌, ◌⊎◌, ℕ, Bool, true, false, []};
-ghost use Rattle.std.specs.Prelude.{length, IfOk, MatchOption};
+ghost use Rattle.std.specs.Prelude.{length, IfOk, OnOk, MatchOption};
 ghost use Rattle.network_judge.specs.Table.{table_of, joins_of};
 ghost use Rattle.network_adaptive.specs.Spread.{choice_step, AreFlagsOf};
 ghost use Rattle.network_adaptive.specs.Flags.{HasBegun, AreDown, AreComes, AreBehind, IsEscape};
@@ -63,6 +63,108 @@ pub fn comes_to<A: Allocator + Copy>(
     Ok(seen)
 }
 
+/// Raises the flags of the channels that packets come to from a channel, it counted, by choices that
+/// aren't marked. They are listed.
+///
+/// Errors: out of memory.
+fn raise_behind<A: Allocator>(
+    kinds: &[Kind],
+    choices: &[u32],
+    base: usize,
+    ways: usize,
+    marks: &[bool],
+    x: usize,
+    flags: &mut [bool],
+    list: &mut Vec<usize, A>,
+) -> Result<(), AllocError>
+    requires room { base + length kinds.now * ways ≤ length choices.now }
+    requires shut { length marks.now ≡ length kinds.now }
+    requires x { x < length kinds.now }
+    requires size { length flags.old ≡ length kinds.now }
+    requires down { AreDown flags.old }
+    requires none { list.old.items ≡ [] }
+    ensures flags { OnOk result (AreBehind kinds.now
+        (choice_step kinds.now choices.now base ways marks.now) x flags.new) }
+    ensures list { OnOk result (AreFlagsOf flags.new list.new.items) }
+{
+    flags[x] = true;
+    list.push(x)?;
+    spread(kinds, choices, base, ways, marks, flags, list)
+}
+
+/// Lowers the flags that are listed.
+fn lower_listed(flags: &mut [bool], list: &[usize])
+    requires { AreFlagsOf flags.old list.now }
+    ensures size { length flags.new ≡ length flags.old }
+    ensures down { AreDown flags.new }
+{
+    for k in 0..list.len() {
+        let x = list[k];
+        flags[x] = false;
+    }
+}
+
+/// No flag is up.
+///
+/// Errors: out of memory.
+pub(crate) fn reach_of_none<A: Allocator + Copy>(
+    alloc: A,
+    count: usize,
+) -> Result<Reach<A>, AllocError>
+    ensures size { IfOk result (λ r. length r.flags.items ≡ count) }
+    ensures down { IfOk result (λ r. AreDown r.flags.items) }
+{
+    let flags = vec![in alloc; false; count]?;
+    Ok(Reach {
+        flags,
+        list: Vec::new(alloc),
+    })
+}
+
+/// Finds the channels that packets come to from a channel, it counted, by choices that aren't marked, where no
+/// flag is up.
+///
+/// Errors: out of memory.
+pub(crate) fn reach_from<A: Allocator>(
+    kinds: &[Kind],
+    choices: &[u32],
+    base: usize,
+    ways: usize,
+    marks: &[bool],
+    x: usize,
+    reach: &mut Reach<A>,
+) -> Result<(), AllocError>
+    requires room { base + length kinds.now * ways ≤ length choices.now }
+    requires shut { length marks.now ≡ length kinds.now }
+    requires x { x < length kinds.now }
+    requires size { length reach.old.flags.items ≡ length kinds.now }
+    requires down { AreDown reach.old.flags.items }
+    ensures flags { OnOk result (AreBehind kinds.now
+        (choice_step kinds.now choices.now base ways marks.now) x reach.new.flags.items) }
+    ensures list { OnOk result (AreFlagsOf reach.new.flags.items reach.new.list.items) }
+{
+    reach.list.clear();
+    raise_behind(
+        kinds,
+        choices,
+        base,
+        ways,
+        marks,
+        x,
+        &mut reach.flags,
+        &mut reach.list,
+    )
+}
+
+/// Lowers the flags that are up.
+pub(crate) fn reach_none<A: Allocator>(reach: &mut Reach<A>)
+    requires { AreFlagsOf reach.old.flags.items reach.old.list.items }
+    ensures size { length reach.new.flags.items ≡ length reach.old.flags.items }
+    ensures down { AreDown reach.new.flags.items }
+{
+    lower_listed(&mut reach.flags, &reach.list)
+}
+
 /// The channels that packets come to from a channel, it counted, by choices that aren't marked.
 ///
 /// Errors: out of memory.
@@ -83,10 +185,8 @@ pub fn behind<A: Allocator + Copy>(
     ensures list { IfOk result (λ r. AreFlagsOf r.flags.items r.list.items) }
 {
     let mut flags = vec![in alloc; false; kinds.len()]?;
-    flags[x] = true;
     let mut list = Vec::new(alloc);
-    list.push(x)?;
-    spread(kinds, choices, base, ways, marks, &mut flags, &mut list)?;
+    raise_behind(kinds, choices, base, ways, marks, x, &mut flags, &mut list)?;
     Ok(Reach { flags, list })
 }
 

@@ -7,7 +7,7 @@ ghost use Rattle.network_judge.specs.declared.table.Kind.TheVariants.{Ejection};
 ghost use Rattle.network_judge.specs.Marks.{is_marked_at};
 ghost use Rattle.network_adaptive.specs.Flags.{HasPut, IsAwaited, IsWait, escapes_to, AreWaits};
 
-use crate::comes::{behind, comes_to, first_bare};
+use crate::comes::{comes_to, first_bare, reach_from, reach_none, reach_of_none};
 use crate::edges::{distinct, thinned};
 use crate::spread::{base_of, goes_on};
 use crate::verdict::NoEscape;
@@ -107,6 +107,7 @@ fn rows_of<A: Allocator + Copy>(
     ensures { OnOk result (HasPut (IsWait kinds.now choices.now base ways marks.now
         (λ x. is_marked_at seen.now x ≡ true)) edges.old.items edges.new.items) }
 {
+    let mut reach = reach_of_none(alloc, kinds.len())?;
     for e in 0..kinds.len() {
         if !seen[e] {
             continue;
@@ -114,8 +115,9 @@ fn rows_of<A: Allocator + Copy>(
         if !marks[e] {
             continue;
         }
-        let held = behind(alloc, kinds, choices, base, ways, marks, e)?;
-        row_of(kinds, choices, base, ways, marks, &held.list, e, edges)?;
+        reach_from(kinds, choices, base, ways, marks, e, &mut reach)?;
+        row_of(kinds, choices, base, ways, marks, &reach.list, e, edges)?;
+        reach_none(&mut reach);
     }
     Ok(())
 }
