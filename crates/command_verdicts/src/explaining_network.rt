@@ -44,7 +44,7 @@ fn say_choosing<R: Eprint + AllocGlobal>(
 /// Says why the verdict on a network is as it is, by the names that its text has: who waits for whom in a
 /// cycle, behind which channel packets have no escape, and from which line on routers choose.
 pub fn explain_verdict<R: Eprint + AllocGlobal>(rt: &R, name: &str, text: &[u8]) {
-    let Ok(network) = read_text_or_why(rt.alloc(), text, Routers::AnyChoices) else {
+    let Ok(mut network) = read_text_or_why(rt.alloc(), text, Routers::AnyChoices) else {
         return;
     };
     if network.fixed.joins.is_empty() {
@@ -62,7 +62,7 @@ pub fn explain_verdict<R: Eprint + AllocGlobal>(rt: &R, name: &str, text: &[u8])
         explain_fixed(rt, names, network)
     } else {
         say_choosing(rt, name, text, &network);
-        explain_chosen(rt, names, &network)
+        explain_chosen(rt, names, &mut network)
     };
 }
 
@@ -90,10 +90,10 @@ fn explain_fixed<R: Eprint + AllocGlobal>(
 fn explain_chosen<R: Eprint + AllocGlobal>(
     rt: &R,
     text: &[u8],
-    network: &Choosing<Global>,
+    network: &mut Choosing<Global>,
 ) -> Result<(), AllocError>
-    requires read { IsChoosingRead network.now }
-    requires begun { network.now.fixed.begun ≡ true }
+    requires read { IsChoosingRead network.old }
+    requires begun { network.old.fixed.begun ≡ true }
 {
     let judged = judged_of(rt.alloc(), network)?;
     let causes = judged_causes(rt.alloc(), &network.fixed, &judged)?;

@@ -1,6 +1,6 @@
 -- What is written of a network whose routers choose, and what is answered to a network text (this
 -- project's own format).
-use Rattle.std.specs.Prelude.{◌≡◌, ◌⊎◌, ℕ, ◌==◌, if◌then◌else◌, Bool, true, false}
+use Rattle.std.specs.Prelude.{◌≡◌, ◌⊎◌, ℕ, ◌+◌, ◌==◌, if◌then◌else◌, Bool, true, false}
 use Rattle.std.specs.Prelude.{List, [], ◌∷◌, ◌++◌}
 use Rattle.std.specs.Prelude.{length, slice_index}
 use Rattle.std.specs.Prelude.{Result, Ok, Err, Option, Some, None, codes, decimal}
@@ -28,6 +28,7 @@ use Rattle.network_adaptive.specs.declared.verdict.Verdict.{Verdict}
 use Rattle.network_adaptive.specs.declared.verdict.Verdict.TheVariants.{Rising, NoEscape, Cycle}
 use Rattle.network_adaptive.specs.Between.{dependency_at}
 use Rattle.network_text.specs.Choosing.{ChoosingText}
+use Rattle.network_text.specs.ChoiceLists.{choice_list}
 use Rattle.network_answer.specs.Judging.{IsChoosingJudgement, judgement_rises}
 use Rattle.network_answer.specs.OneFlit.{StandsBehind}
 use Rattle.network_text.specs.Routing.{Routing, Fixed, Chosen, routing_of}
@@ -100,7 +101,8 @@ pub record TellsJudged {A : Type 0} (t : ChoosingText) (a : Answer A) : Type 0 w
   pub judged : JudgedNet A
   pub holds : IsChoosingJudgement t judged
   pub behind : List ℕ
-  pub stands : StandsBehind t judged behind
+  pub stands : StandsBehind t.fixed.table.kinds t.fixed.table.joins t.fixed.replies (t.layers + 1)
+      (choice_list t) judged behind
   pub text : a.text.items ≡ judgement_text t.fixed judged ++ behind
   pub rising : a.rising ≡ judgement_rises judged
 

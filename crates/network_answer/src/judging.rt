@@ -1,6 +1,6 @@
 //! The judgement of a network whose routers choose, by its lists.
 
-ghost use Rattle.std.specs.Prelude.{◌≡◌, true, IfOk};
+ghost use Rattle.std.specs.Prelude.{◌≡◌, true, IfOk, OnOk};
 ghost use Rattle.network_text.specs.ChoosingRead.{choosing_text_of, IsChoosingRead};
 ghost use Rattle.network_text.specs.ChoiceLists.{choice_list};
 ghost use Rattle.network_answer.specs.Judging.{IsChoosingJudgement, judgement_rises, verdict_rises};
@@ -10,45 +10,60 @@ use network_adaptive::accepting::{JudgedNet, judge_lists, marks_of};
 use network_text::choosing::Choosing;
 use std::alloc::{AllocError, Allocator};
 
-/// Judges the network of a text by its choices, listed as they are judged.
+/// What is judged of a network, and its choices, listed as they are judged.
+#[derive(Drop)]
+pub(crate) struct Judgement<A: Allocator> {
+    pub(crate) judged: JudgedNet<A>,
+    pub(crate) choices: Vec<u32, A>,
+}
+
+/// Judges the network of a text. It gives up its further choices, which then stand in the list that is
+/// judged.
 ///
 /// Errors: out of memory.
-pub(crate) fn judged_by<A: Allocator + Copy>(
+pub(crate) fn judgement_of<A: Allocator + Copy>(
     alloc: A,
-    network: &Choosing<A>,
-    choices: &[u32],
-) -> Result<JudgedNet<A>, AllocError>
-    requires read { IsChoosingRead network.now }
-    requires choices { choices.now ≡ choice_list (choosing_text_of network.now) }
-    ensures { IfOk result (IsChoosingJudgement (choosing_text_of network.now)) }
+    network: &mut Choosing<A>,
+) -> Result<Judgement<A>, AllocError>
+    requires read { IsChoosingRead network.old }
+    requires begun { network.old.fixed.begun ≡ true }
+    ensures judged { IfOk result
+        (λ it. IsChoosingJudgement (choosing_text_of network.old) it.judged) }
+    ensures choices { IfOk result
+        (λ it. it.choices.items ≡ choice_list (choosing_text_of network.old)) }
+    ensures fixed { OnOk result (network.new.fixed ≡ network.old.fixed) }
 {
-    let fixed = &network.fixed;
+    let ways = network.layers + 1;
     let flags = network.escape_flags(alloc)?;
-    let marks = marks_of(alloc, &fixed.kinds, &flags)?;
-    judge_lists(
+    let marks = marks_of(alloc, &network.fixed.kinds, &flags)?;
+    let choices = network.choices(alloc)?;
+    network.further = Vec::new(alloc);
+    let fixed = &network.fixed;
+    let judged = judge_lists(
         alloc,
         &fixed.kinds,
         &fixed.joins,
         &fixed.replies,
-        network.layers + 1,
-        choices,
+        ways,
+        &choices,
         &marks,
-    )
+    )?;
+    Ok(Judgement { judged, choices })
 }
 
-/// Judges the network of a text.
+/// Judges the network of a text. It gives up its further choices.
 ///
 /// Errors: out of memory.
 pub fn judged_of<A: Allocator + Copy>(
     alloc: A,
-    network: &Choosing<A>,
+    network: &mut Choosing<A>,
 ) -> Result<JudgedNet<A>, AllocError>
-    requires read { IsChoosingRead network.now }
-    requires begun { network.now.fixed.begun ≡ true }
-    ensures { IfOk result (IsChoosingJudgement (choosing_text_of network.now)) }
+    requires read { IsChoosingRead network.old }
+    requires begun { network.old.fixed.begun ≡ true }
+    ensures judged { IfOk result (IsChoosingJudgement (choosing_text_of network.old)) }
+    ensures fixed { OnOk result (network.new.fixed ≡ network.old.fixed) }
 {
-    let choices = network.choices(alloc)?;
-    judged_by(alloc, network, &choices)
+    Ok(judgement_of(alloc, network)?.judged)
 }
 
 /// Whether a verdict has numbers.

@@ -1,20 +1,19 @@
 //! What stands behind the text of a judgement, where routers choose and no numbers rise along the escapes:
 //! that packets of one flit never deadlock, or the greatest dead set.
 
-ghost use Rattle.std.specs.Prelude.{◌≡◌, ◌++◌, ◌<◌, [], true, length, IfOk, OnOk};
-ghost use Rattle.network_judge.specs.Marks.{is_marked_at};
-ghost use Rattle.network_text.specs.ChoiceLists.{choice_list};
-ghost use Rattle.network_text.specs.ChoosingRead.{choosing_text_of, IsChoosingRead};
+ghost use Rattle.std.specs.Prelude.{◌≡◌, ◌++◌, ◌<◌, Bool, List, length, IfOk, OnOk};
+ghost use Rattle.network_adaptive.specs.Choosing.{choosing_of};
+ghost use Rattle.network_adaptive.specs.Shape.{IsJudgedNet};
 ghost use Rattle.network_text.specs.Lines.{first_lines};
-ghost use Rattle.network_answer.specs.Judging.{IsChoosingJudgement};
-ghost use Rattle.network_answer.specs.OneFlit.{dead_line, dead_set_text, StandsBehind};
-ghost use Rattle.network_answer.specs.OneFlit.{IsFoundOf, ArePairsOfEnds, lacks_numbers};
+ghost use Rattle.network_text.specs.Reading.{IsRead};
+ghost use Rattle.network_answer.specs.OneFlit.{dead_line, dead_set_text, lacks_numbers};
+ghost use Rattle.network_answer.specs.OneFlit.{StandsBehind};
 
 use crate::judging::verdict_rises;
 use crate::verdict::{put_number, put_numbers};
 use dead_sets::{DeadSet, greatest_dead_set};
 use network_adaptive::accepting::JudgedNet;
-use network_text::choosing::Choosing;
+use network_text::reading::Reading;
 use std::alloc::{AllocError, Allocator};
 
 /// Adds the line of a channel, if its flag is up.
@@ -60,30 +59,6 @@ fn dead_set_text<A: Allocator + Copy>(
     Ok(text)
 }
 
-/// What is found of the dead sets of the network of a text, by its choices as they are judged.
-///
-/// Errors: out of memory.
-fn dead_set_of<A: Allocator + Copy>(
-    alloc: A,
-    network: &Choosing<A>,
-    choices: &[u32],
-) -> Result<DeadSet<A>, AllocError>
-    requires read { IsChoosingRead network.now }
-    requires choices { choices.now ≡ choice_list (choosing_text_of network.now) }
-    requires pairs { ArePairsOfEnds (choosing_text_of network.now) }
-    ensures { IfOk result (IsFoundOf (choosing_text_of network.now)) }
-{
-    let fixed = &network.fixed;
-    greatest_dead_set(
-        alloc,
-        &fixed.kinds,
-        &fixed.joins,
-        &fixed.replies,
-        network.layers + 1,
-        choices,
-    )
-}
-
 /// Whether no numbers rise along the escapes of a network, which is judged.
 fn lacks_numbers<A: Allocator>(judged: &JudgedNet<A>) -> bool
     ensures { result ≡ lacks_numbers judged.now }
@@ -100,19 +75,22 @@ fn lacks_numbers<A: Allocator>(judged: &JudgedNet<A>) -> bool
 /// Errors: out of memory.
 pub(crate) fn behind_text<A: Allocator + Copy>(
     alloc: A,
-    network: &Choosing<A>,
+    fixed: &Reading<A>,
+    ways: usize,
     choices: &[u32],
     judged: &JudgedNet<A>,
 ) -> Result<Vec<u8, A>, AllocError>
-    requires read { IsChoosingRead network.now }
-    requires choices { choices.now ≡ choice_list (choosing_text_of network.now) }
-    requires judged { IsChoosingJudgement (choosing_text_of network.now) judged.now }
-    ensures { IfOk result
-        (λ text. StandsBehind (choosing_text_of network.now) judged.now text.items) }
+    requires read { IsRead fixed.now }
+    requires judged { (marks : List Bool) × IsJudgedNet
+        (choosing_of fixed.now.kinds.items fixed.now.joins.items ways choices.now marks)
+        fixed.now.replies.items judged.now }
+    ensures { IfOk result (λ text. StandsBehind fixed.now.kinds.items fixed.now.joins.items
+        fixed.now.replies.items ways choices.now judged.now text.items) }
 {
     if !lacks_numbers(judged) {
         return Ok(Vec::new(alloc));
     }
-    let found = dead_set_of(alloc, network, choices)?;
+    let kinds = &fixed.kinds;
+    let found = greatest_dead_set(alloc, kinds, &fixed.joins, &fixed.replies, ways, choices)?;
     dead_set_text(alloc, &found)
 }

@@ -8,7 +8,7 @@ ghost use Rattle.network_text.specs.Routing.{routing_of_all};
 
 use crate::answer::{Answer, answered, no_pair};
 use crate::judgement::judgement_text;
-use crate::judging::{judged_by, judgement_rises};
+use crate::judging::{judgement_of, judgement_rises};
 use crate::one_flit::behind_text;
 use network_text::choosing::{Choosing, Routers};
 use network_text::choosing_text::read_text_or_why;
@@ -29,22 +29,23 @@ const MEMORY: LineFault = LineFault {
 /// Errors: out of memory.
 fn answered_choosing<A: Allocator + Copy>(
     alloc: A,
-    network: &Choosing<A>,
+    network: &mut Choosing<A>,
 ) -> Result<Answer<A>, AllocError>
-    requires read { IsChoosingRead network.now }
-    requires begun { network.now.fixed.begun ≡ true }
-    ensures { IfOk result (TellsChoosing (choosing_text_of network.now)) }
+    requires read { IsChoosingRead network.old }
+    requires begun { network.old.fixed.begun ≡ true }
+    ensures { IfOk result (TellsChoosing (choosing_text_of network.old)) }
 {
     if network.fixed.joins.is_empty() {
         return no_pair(alloc);
     }
-    let choices = network.choices(alloc)?;
-    let judged = judged_by(alloc, network, &choices)?;
-    let mut text = judgement_text(alloc, &network.fixed, &judged)?;
-    text.extend_from_slice(&behind_text(alloc, network, &choices, &judged)?)?;
+    let ways = network.layers + 1;
+    let it = judgement_of(alloc, network)?;
+    let fixed = &network.fixed;
+    let mut text = judgement_text(alloc, fixed, &it.judged)?;
+    text.extend_from_slice(&behind_text(alloc, fixed, ways, &it.choices, &it.judged)?)?;
     Ok(Answer {
         text,
-        rising: judgement_rises(&judged),
+        rising: judgement_rises(&it.judged),
     })
 }
 
@@ -59,10 +60,11 @@ fn answered_routing<A: Allocator + Copy>(
     requires begun { network.fixed.begun ≡ true }
     ensures { IfOk result (TellsRouting (routing_of_all (choosing_text_of network))) }
 {
+    let mut network = network;
     if network.is_fixed() {
         return answered(alloc, &network_read(network));
     }
-    answered_choosing(alloc, &network)
+    answered_choosing(alloc, &mut network)
 }
 
 /// Reads a network text, judges the network and answers with the text of what is judged: as
