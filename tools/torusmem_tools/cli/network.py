@@ -51,7 +51,9 @@
                with escapes, it prints the verdict of `torusmem network` but for the numbers, and maybe another cycle. The
                status is 0 for `rising`, else 1, as there; a text that is refused there for anything else is refused here, too. `--explain`: of a
                cycle which channels are full in the end, of which packets, and which channel these wait for; where routers
-               choose, over which channels packets can go on ahead of that, and of `rising` over how many a packet goes at most
+               choose, over which channels packets can go on ahead of that, and of `rising` over how many a packet goes at most.
+               `--find-escapes`: prints lines `escape` with which the text, without its own, is `rising`; where none are found,
+               that, with status 1. --tries says how many sets of escapes it looks at, 2,000 if not given
   run FILE     a run that deadlocks, where routers don't choose: from the empty network on, packets of one flit. A line a move:
                `send FROM TO LENGTH`, `more X` (the next flit of a sender's packet), `take X` (into the latch behind
                channel X), `put X` (from that latch on), `accept X`, `credit X`
@@ -110,6 +112,7 @@ from torusmem_tools.model import router_rules, traffic_draw
 from torusmem_tools.model.adaptive_verdict import sentences
 from torusmem_tools.model.adaptive_walk import duato_verdict
 from torusmem_tools.model.deadlock import run_of
+from torusmem_tools.model.escape_search import TRIES, escapes_said
 from torusmem_tools.model.network import Network, channel_dependencies, parse_network
 from torusmem_tools.model.network_verdict import Verdict, explain, verdict_of, verdict_read
 from torusmem_tools.model.network_words import network_of, text_of
@@ -159,6 +162,15 @@ def walk_adaptive(net: Network, path: str, is_explained: bool) -> str:
     return ""
 
 
+def escapes_of(net: Network, tries: int) -> str:
+    """The lines `escape` that are found. Where none are, this says so itself, and ends with status 1."""
+    said, are_found = escapes_said(net, tries)
+    if are_found:
+        return said
+    command.put(TOOL, said)
+    command.leave(TOOL, 1)
+
+
 def deadlock_run(net: Network, path: str, depth: int) -> str:
     """The run of a network that deadlocks."""
     alone(net)
@@ -184,7 +196,8 @@ GENERATORS = ("mesh", "ring", "torus", "tree", "hypercube", "hyperx", "fat-tree"
 USES = {**{it: ("traffic",) for it in (*traffic_draw.DRAWN, "length", "from_csv")}, "mixed": ("mesh",), "adaptive": ("mesh", "torus", "hypercube", "hyperx"), **{it.replace("-", "_"): ("mesh",) for it in TURNS},
         "dateline": ("ring", "torus"), "plain": ("torus",), "vcs": GENERATORS,
         "ordered": ("from-garnet",), "set": ("from-garnet",), "classes": GENERATORS, "shared": GENERATORS,
-        "svg": (*GENERATORS, "walk"), "names": GENERATORS, "explain": ("walk", "simulate"), **{it: ("simulate",) for it in router_rules.OPTIONS},
+        "svg": (*GENERATORS, "walk"), "names": GENERATORS, "explain": ("walk", "simulate"), "find_escapes": ("walk",), "tries": ("walk",),
+        **{it: ("simulate",) for it in router_rules.OPTIONS},
         "verdict": (*GENERATORS, "walk", "run"), "depth": ("run", "replay", "simulate"), "arbiter": ("simulate",), "moves": ("replay", "simulate")}
 
 
@@ -209,6 +222,8 @@ def asked() -> Namespace:
     words.add_argument("--svg", action="store_true", help="draw it")
     paper.add_word(words, "of --svg: ")
     words.add_argument("--explain", action="store_true", help="of walk, and of simulate where it is locked: who holds what, and waits for what")
+    words.add_argument("--find-escapes", action="store_true", help="of walk: lines `escape` with which it is rising")
+    words.add_argument("--tries", type=command.whole(1, 10**6), metavar="N", help=f"of --find-escapes: how many sets of escapes at most, {TRIES} by default")
     words.add_argument("--verdict", metavar="FILE", help="what `torusmem network` printed of it")
     words.add_argument("--depth", type=command.whole(1, 8), help="how many flits a channel holds: 1, or up to 8")
     router_rules.add_words(words, "of simulate: ")
@@ -231,6 +246,10 @@ def check_together(given: Namespace) -> None:
         raise command.WrongWords(f"--{'explain' if given.explain else 'names'} is of no use with --svg (--help says more)")
     if given.width and not given.svg:
         raise command.WrongWords("--width is of use with --svg alone (--help says more)")
+    if given.find_escapes and (given.svg or given.explain or given.verdict):
+        raise command.WrongWords(f"--{'svg' if given.svg else 'explain' if given.explain else 'verdict'} is of no use with --find-escapes (--help says more)")
+    if given.tries and not given.find_escapes:
+        raise command.WrongWords("--tries is of use with --find-escapes alone (--help says more)")
     if given.shared and not given.classes:
         raise command.WrongWords("--shared is of use with --classes alone (--help says more)")
     if given.verdict and given.what in GENERATORS and not given.svg:
@@ -264,6 +283,8 @@ def work() -> str:
         words = net, given.depth or 1, text_of(given.moves), given.moves
         shown = replay_moves(*words) if given.what == "replay" else simulated(*words, router_rules.rules_of(given), given.explain)
         return "\n".join(shown) + "\n"
+    if given.find_escapes:
+        return escapes_of(net, given.tries or TRIES)
     if given.what == "run":
         return deadlock_run(net, given.verdict, given.depth or 1)
     return draw_network(net, given.verdict, given.width) if given.svg else walk(net, given.verdict, given.explain)

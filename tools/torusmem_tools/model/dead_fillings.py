@@ -1,0 +1,142 @@
+"""Dead sets of networks whose routers choose, and fillings, for packets of one flit. Nothing here is proved.
+
+A dead set: channels, for each a destination whose packets come to it and whose choices there are all in the set; of an
+ejection channel, one on which its receiver answers is. Where no channel is in one, packets of one flit never deadlock. A
+filling: an order of a dead set's channels, and for each a way over channels that aren't filled yet; then they do."""
+from __future__ import annotations
+
+from typing import Dict, Iterable, List, NamedTuple, Optional, Set, Tuple
+
+from torusmem_tools.model.adaptive_walk import Walk
+from torusmem_tools.model.network import Network
+from torusmem_tools.model.wormhole import Move
+
+
+class Fill(NamedTuple):
+    """A channel that packets to an ejection channel fill, and the channels that they come over, the injection channel first."""
+
+    at: int
+    to: int
+    way: Tuple[int, ...]
+
+
+class DeadSets:
+    """The dead sets of a network: where packets come, and what they could choose there."""
+
+    def __init__(self, net: Network) -> None:
+        self.net, self.walk = net, Walk(net)
+        self.marks = net.escaping()
+        self.goals: Dict[int, List[int]] = {x: [] for x in range(len(net.kinds))}
+        for j in sorted(self.walk.starts):
+            for x in self.walk.comes(j):
+                self.goals[x].append(j)
+        self.answers: Dict[int, List[int]] = {}
+        for x, y in net.replies:
+            self.answers.setdefault(x, []).append(y)
+
+    def stays(self, x: int, j: int, inside: Set[int]) -> bool:
+        """Whether packets to an ejection channel that wait in a channel wait for channels of a set alone."""
+        if self.net.kinds[x] == "eject":
+            return any(y in inside for y in self.answers.get(x, ()))
+        return all(y in inside for y in self.walk.after(x, j))
+
+    def greatest(self, inside: Optional[Iterable[int]] = None) -> Set[int]:
+        """The greatest dead set, or the greatest inside a set."""
+        left = set(self.goals if inside is None else inside)
+        while True:
+            out = {x for x in left if not any(self.stays(x, j, left) for j in self.goals[x])}
+            if not out:
+                return left
+            left -= out
+
+    def filled(self, dead: Set[int]) -> List[Fill]:
+        """An order of filling of all these channels, the first to be filled first; empty where this finds none."""
+        left, found = set(dead), []
+        while left:
+            new = next((it for it in self.able(dead, left)), None)
+            if new is None:
+                return []
+            left.remove(new.at)
+            found.append(new)
+        return found[::-1]
+
+    def able(self, dead: Set[int], left: Set[int]) -> Iterable[Fill]:
+        """The channels of those that are left that packets come to over channels that aren't, and stay in."""
+        for j, starts in sorted(self.walk.starts.items()):
+            before: Dict[int, Optional[int]] = {x: None for x in sorted(starts)}
+            queue = list(before)
+            while queue:
+                x = queue.pop(0)
+                if x in left:
+                    if self.stays(x, j, dead):
+                        yield Fill(x, j, self.way(before, x))
+                    continue
+                for y in self.walk.after(x, j):
+                    if y not in before:
+                        before[y] = x
+                        queue.append(y)
+
+    def way(self, before: Dict[int, Optional[int]], x: int) -> Tuple[int, ...]:
+        """The channels from a sender to a channel, it not counted."""
+        way: List[int] = []
+        last = before[x]
+        while last is not None:
+            way.append(last)
+            last = before[last]
+        return tuple(way[::-1])
+
+    def filling(self) -> List[Fill]:
+        """A filling of channels of the greatest dead set, from which none can be left out; empty where this finds none."""
+        dead = self.greatest()
+        while dead:
+            best = self.filled(dead)
+            if best:
+                break
+            dead = self.greatest(dead - {self.stuck(dead)})
+        else:
+            return []
+        for x in sorted(dead):
+            fewer = self.greatest({it.at for it in best} - {x})
+            shorter = self.filled(fewer) if fewer and x in {it.at for it in best} else []
+            best = shorter or best
+        return best
+
+    def stuck(self, dead: Set[int]) -> int:
+        """The first channel that stays when those are taken that can be."""
+        left = set(dead)
+        while True:
+            new = next((it for it in self.able(dead, left)), None)
+            if new is None:
+                return min(left)
+            left.remove(new.at)
+
+    def is_dead(self, fills: List[Fill]) -> bool:
+        """Whether these can be filled in turn, and all packets wait then: by the definition, once more."""
+        filled: Set[int] = set()
+        for it in fills:
+            route = (*it.way, it.at)
+            goes = all(y in self.walk.after(x, it.to) for x, y in zip(route, route[1:]))
+            if not (goes and (route[0], it.to) in self.net.joins and len({*route}) == len(route) and not filled & {*route}):
+                return False
+            filled.add(it.at)
+        return bool(fills) and all(self.stays(it.at, it.to, filled) for it in fills)
+
+    def room(self, fill: Fill, depth: int) -> int:
+        """How many packets fill a channel: one where they enter it by a choice that is no escape; and none goes on from an
+        ejection channel to a latch."""
+        if fill.way and fill.at not in self.marks:
+            return 1
+        return depth if self.net.kinds[fill.at] == "eject" else depth + 1
+
+    def moves(self, fills: List[Fill], depth: int) -> List[Move]:
+        """The run by which these fill, the first of them first. A `put` names the channel that it takes."""
+        found: List[Move] = []
+        for it in fills:
+            route = (*it.way, it.at)
+            for packet in range(self.room(it, depth)):
+                found.append(("send", route[0], it.to, 1))
+                for x, y in zip(route, route[1:]):
+                    found += [("take", x), ("credit", x), ("put", x, y)]
+                if packet == 0 and self.net.kinds[it.at] != "eject":
+                    found += [("take", it.at), ("credit", it.at)]
+        return found
