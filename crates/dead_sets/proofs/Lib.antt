@@ -5,3 +5,6 @@ pub mod Looking
 pub mod Adding
 pub mod Gathered
 pub mod Out
+pub mod Coming
+pub mod FilledTold
+pub mod Waiting

@@ -2,3 +2,4 @@ pub mod Cases
 pub mod Peeling
 pub mod Numbers
 pub mod Greatest
+pub mod FillingFlags

@@ -62,7 +62,7 @@ fn numbers_of<A: Allocator + Copy>(
 }
 
 /// The first place whose flag is up.
-fn first_up(flags: &[bool]) -> Option<usize>
+pub(crate) fn first_up(flags: &[bool]) -> Option<usize>
     ensures { MatchOption result ((x : ℕ) → x < length flags.now → is_marked_at flags.now x ≡ false)
         (λ x. is_marked_at flags.now x ≡ true) }
 {
