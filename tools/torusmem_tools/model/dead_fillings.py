@@ -8,6 +8,7 @@ from __future__ import annotations
 from typing import Dict, Iterable, List, NamedTuple, Optional, Set, Tuple
 
 from torusmem_tools.model.adaptive_walk import Walk
+from torusmem_tools.model.dead_sets import cases, left_of
 from torusmem_tools.model.network import Network
 from torusmem_tools.model.wormhole import Move
 
@@ -24,7 +25,7 @@ class DeadSets:
     """The dead sets of a network: where packets come, and what they could choose there."""
 
     def __init__(self, net: Network) -> None:
-        self.net, self.walk = net, Walk(net)
+        self.net, self.walk, self.cases = net, Walk(net), list(cases(net))
         self.marks = net.escaping()
         self.goals: Dict[int, List[int]] = {x: [] for x in range(len(net.kinds))}
         for j in sorted(self.walk.starts):
@@ -42,12 +43,8 @@ class DeadSets:
 
     def greatest(self, inside: Optional[Iterable[int]] = None) -> Set[int]:
         """The greatest dead set, or the greatest inside a set."""
-        left = set(self.goals if inside is None else inside)
-        while True:
-            out = {x for x in left if not any(self.stays(x, j, left) for j in self.goals[x])}
-            if not out:
-                return left
-            left -= out
+        allowed = set(self.goals if inside is None else inside)
+        return set(left_of(len(self.net.kinds), [it for it in self.cases if it[0] in allowed]))
 
     def filled(self, dead: Set[int]) -> List[Fill]:
         """An order of filling of all these channels, the first to be filled first; empty where this finds none."""

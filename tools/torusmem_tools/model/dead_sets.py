@@ -32,16 +32,15 @@ def cases(net: Network) -> Iterator[Case]:
             more.extend(net.after(x, j))
 
 
-def greatest_dead_set(net: Network) -> List[int]:
-    """The channels of the greatest dead set: what is left once each case is struck out that can leave to a channel of none."""
-    left = [0] * len(net.kinds)
+def left_of(count: int, found: List[Case]) -> List[int]:
+    """The channels, of so many, that are left once each of these cases is struck out that can leave to a channel of none."""
+    left = [0] * count
     waiting: Dict[int, List[int]] = {}
-    found = list(cases(net))
     for k, (x, ways) in enumerate(found):
         left[x] += 1
         for y in ways:
             waiting.setdefault(y, []).append(k)
-    free = [x for x, count in enumerate(left) if count == 0]
+    free = [x for x, cases_left in enumerate(left) if cases_left == 0]
     struck: Set[int] = set()
     while free:
         for k in waiting.get(free.pop(), []):
@@ -51,7 +50,12 @@ def greatest_dead_set(net: Network) -> List[int]:
                 left[x] -= 1
                 if left[x] == 0:
                     free.append(x)
-    return [x for x, count in enumerate(left) if count]
+    return [x for x, cases_left in enumerate(left) if cases_left]
+
+
+def greatest_dead_set(net: Network) -> List[int]:
+    """The channels of the greatest dead set."""
+    return left_of(len(net.kinds), list(cases(net)))
 
 
 def dead_lines(dead: Optional[List[int]]) -> List[str]:
