@@ -41,8 +41,8 @@
    says so, with file and line, and aborts. */
 #ifndef TORUSMEM_H
 #define TORUSMEM_H
-#define TORUSMEM_VERSION "0.2.0"
-#define TORUSMEM_VERSION_NUMBER 2000 /* 1000000 times the first number, 1000 times the second, and the third */
+#define TORUSMEM_VERSION "0.3.0"
+#define TORUSMEM_VERSION_NUMBER 3000 /* 1000000 times the first number, 1000 times the second, and the third */
 #include <stdbool.h>
 #include <stddef.h>
 #include <stdint.h>

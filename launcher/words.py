@@ -13,7 +13,7 @@ from typing import NoReturn
 
 import commands
 
-VERSION = "torusmem 0.2.0\n"
+VERSION = "torusmem 0.3.0\n"
 # Of an option the limits of its number, or WORD for any word, WORDS for two; None for a flag.
 WORD, WORDS = (0, -1), (0, -2)
 

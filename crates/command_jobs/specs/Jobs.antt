@@ -67,7 +67,7 @@ AnswersJob _ texts old new result = Unit {0}
 
 -- the version of the program was printed
 abbrev pub PrintsVersion : {A : Type 0} → Output → Output → Result A ProgramFault → Type 0
-PrintsVersion = Does (λ done text. text ≡ codes "torusmem 0.2.0\n") (λ fault. ⊥)
+PrintsVersion = Does (λ done text. text ≡ codes "torusmem 0.3.0\n") (λ fault. ⊥)
 
 -- the table of the commands was printed
 abbrev pub PrintsCommands : {A : Type 0} → Output → Output → Result A ProgramFault → Type 0

@@ -17,7 +17,7 @@ pub fn version_text<W: Out>(out: &mut W) -> Result<(), ProgramFault>
     ensures { PrintsVersion (output (W.taken out.old) (W.failures out.old))
         (output (W.taken out.new) (W.failures out.new)) result }
 {
-    put_all(out, b"torusmem 0.2.0\n")?;
+    put_all(out, b"torusmem 0.3.0\n")?;
     Ok(())
 }
 

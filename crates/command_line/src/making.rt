@@ -95,7 +95,7 @@ fn top<'a>(alloc: Global) -> Command<'a>
 {
     Command::new(alloc, "torusmem")
         .about(ABOUT)
-        .version("0.2.0")
+        .version("0.3.0")
         .subcommand_required(true)
 }
 

@@ -38,7 +38,7 @@ from ._records import Answer, Channel, Choice, Entry, FENCE, Happened, Kind, Lin
 from ._records import Steps
 from ._watch import Watch
 
-__version__ = "0.2.0"
+__version__ = "0.3.0"
 __all__ = [
     "Answer",
     "Answered",

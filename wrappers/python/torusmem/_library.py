@@ -8,7 +8,7 @@ import sys
 from ctypes import POINTER, Structure, c_bool, c_char_p, c_size_t, c_uint32, c_uint64, c_void_p
 from typing import Any, Iterator, List, Optional
 
-SONAME = "libtorusmem.so.0.2"
+SONAME = "libtorusmem.so.0.3"
 # The number of calls, codes and limits that the header has.
 OK, FAULT_MEMORY, BAD_REPORT, EMPTY, FULL, NONE, SHORT, NO_ROUTE, CYCLE = 0, 12, 15, 16, 17, 18, 19, 20, 21
 NOT_LINEARIZABLE, TOO_MANY, TOO_OPEN = 22, 23, 24
