@@ -21,8 +21,12 @@ use Rattle.dead_sets.specs.Greatest.{IsDeadSetOf}
 use Rattle.dead_sets.specs.declared.greatest.DeadSet.{DeadSet}
 use Rattle.dead_sets.specs.declared.greatest.DeadSet.TheVariants.{Empty, Greatest}
 use Rattle.network_text.specs.declared.reading.Reading as reading
+use Rattle.network_text.specs.declared.choosing.Choosing as choosing
+use Rattle.network_text.specs.ChoiceLists.{choice_list}
+use Rattle.network_text.specs.ChoosingRead.{choosing_text_of}
 use Rattle.network_text.specs.Choosing.{ChoosingText}
 use Rattle.network_answer.specs.declared.answer.Answer.{Answer}
+use Rattle.network_answer.specs.Judging.{IsChoosingJudgement}
 use Rattle.network_answer.specs.Routing.{TellsJudged, TellsChoosingOf}
 use Rattle.network_answer.specs.OneFlit.{dead_set_text, PromisesOfDeadSets, lacks_numbers, IsBehindText, StandsBehind}
 
@@ -89,6 +93,17 @@ pub behind_moved : {A : Type 0} (new old : reading.Reading A) (ways : ℕ) (choi
 behind_moved new old ways choices listed judged text same is stands =
     subst (λ (c : List ℕ). StandsBehind old.kinds.items old.joins.items old.replies.items ways c judged text) is
     (subst (λ f. StandsBehind f.kinds.items f.joins.items f.replies.items ways choices judged text) same stands)
+
+-- what is judged of a text is judged of the same lists
+pub judged_moved : {A : Type 0} (n : choosing.Choosing A) (new : reading.Reading A) (choices : List ℕ) (judged : JudgedNet A) → new ≡ n.fixed
+    → choices ≡ choice_list (choosing_text_of n) → IsChoosingJudgement (choosing_text_of n) judged
+    → (marks : List Bool) × IsJudgedNet (choosing_of new.kinds.items new.joins.items (n.layers + 1) choices marks) new.replies.items judged
+judged_moved n new choices judged same is holds = (
+  holds.marks,
+  subst (λ (c : List ℕ). IsJudgedNet (choosing_of new.kinds.items new.joins.items (n.layers + 1) c holds.marks) new.replies.items judged)
+      (sym is) (subst (λ f. IsJudgedNet (choosing_of f.kinds.items f.joins.items (n.layers + 1) (choice_list (choosing_text_of n)) holds.marks)
+      f.replies.items judged) (sym same) holds.holds),
+)
 
 -- what is judged is told of a network that has pairs
 pub told_of_pairs : {A : Type 0} (joins : List Join) (t : ChoosingText) (a : Answer A) → 0 < length joins → TellsJudged t a

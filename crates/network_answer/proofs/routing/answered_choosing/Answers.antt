@@ -1,9 +1,37 @@
-use Rattle.std.proofs.Common.{◌<◌, ◌++◌, length, sym, subst, ap, ◌∙◌, arith}
+use Rattle.std.proofs.Common.{◌+◌, ◌<◌, ◌++◌, length, sym, subst, ap, ◌∙◌, arith}
 use Rattle.std.proofs.lemmas.Bool.Decides.{nat_tests}
-use Rattle.network_text.specs.Reading.{IsRead}
+use Rattle.network_text.specs.Reading.{IsRead, reading_of}
+use Rattle.network_text.specs.ChoiceLists.{choice_list}
 use Rattle.network_text.specs.ChoosingRead.{choosing_text_of}
-use Rattle.network_answer.proofs.OneFlit.{told_of_pairs, behind_moved}
+use Rattle.network_answer.specs.Routing.{judgement_text}
+use Rattle.network_answer.proofs.OneFlit.{told_of_pairs, behind_moved, judged_moved}
 use Rattle.network_answer.proofs.routing.answered_choosing.Goals as goal
 
 pub judgement_text-requires : goal.judgement_text-requires
 judgement_text-requires g c = subst (λ r. IsRead {A = g.row.A.Denot} r) (sym c.in_ok-it.ensures.fixed) c.requires.read.fixed
+
+pub behind_text-requires-clause-read : goal.behind_text-requires-clause-read
+behind_text-requires-clause-read g c = subst (λ r. IsRead {A = g.row.A.Denot} r) (sym c.in_ok-it.ensures.fixed) c.requires.read.fixed
+
+pub behind_text-requires-clause-judged : goal.behind_text-requires-clause-judged
+behind_text-requires-clause-judged g c =
+    judged_moved c.args.network.now c.judgement_of.new.network.fixed c.deref.result.now c.in_ok-it.it.judged c.in_ok-it.ensures.fixed
+    (c.deref.ensures.value ∙ c.in_ok-it.ensures.choices) c.in_ok-it.ensures.judged
+
+pub returns : goal.returns
+returns g c =
+    let n = c.args.network.now in
+    let t = choosing_text_of n in
+    let judged = c.in_ok-it.it.judged in
+    let behind = c.in_ok-behind_text.field-0.items in
+    let some : 0 < length t.fixed.table.joins = grind (arith, nat_tests, c.if-is_empty.ensures, n.fixed.joins.ok) in
+    told_of_pairs t.fixed.table.joins t _ some (record {
+      judged = judged;
+      holds = c.in_ok-it.ensures.judged;
+      behind = behind;
+      stands = behind_moved c.judgement_of.new.network.fixed n.fixed (n.layers + 1) c.deref.result.now (choice_list t) judged behind
+          c.in_ok-it.ensures.fixed (c.deref.ensures.value ∙ c.in_ok-it.ensures.choices) c.in_ok-behind_text.ensures;
+      text = c.in_ok-extend_from_slice.ensures.items ∙ (ap (λ s. c.in_ok-text.text.items ++ s) c.deref-2.ensures.value
+          ∙ ap (λ s. s ++ behind) (c.in_ok-text.ensures ∙ ap (λ f. judgement_text (reading_of f) judged) c.in_ok-it.ensures.fixed));
+      rising = c.judgement_rises.ensures;
+    })
