@@ -1,11 +1,11 @@
 -- One attempt more, or one that is held back, and the attempts that are left.
-use Rattle.std.proofs.Common.{◌≡◌, ◌+◌, List, ◌∷◌, Some, drop, get_or, refl, sym, ap, subst, ◌∙◌}
+use Rattle.std.proofs.Common.{◌≡◌, ◌+◌, List, ◌∷◌, Some, drop, get_or, sym, ap, ◌∙◌}
 use Rattle.std.proofs.lemmas.List.{at_drop_all, at_drop_more}
 use Rattle.std.proofs.lemmas.Result.{err_from_is_err_and}
 use Rattle.torus.specs.declared.step.Step.{Step}
 use Rattle.core_laws.specs.Machine.{Core, core_next}
 use Rattle.machine_core.specs.Guarded.{held_back}
-use Rattle.command_schedule.proofs.Attempts.{HasPut, put_front, put_more, start_put, all_put, all_led}
+use Rattle.command_schedule.proofs.Attempts.{left_as, put_front, put_more, start_put, all_put, all_led}
 use Rattle.command_schedule.proofs.HeldBack.{one_skipped, one_made, none_left}
 use Rattle.command_schedule.proofs.fair.put_guarded.Goals as goal
 
@@ -15,7 +15,7 @@ loop-step-init g c = start_put c.args.machine.now (Some c.args.number) (held_bac
 pub loop-step-preserved-then-holds_back : goal.loop-step-preserved-then-holds_back
 loop-step-preserved-then-holds_back g c =
     let m : Core = c.loop-step.machine in
-    subst (λ (xs : List Step). HasPut _ _ _ _ m c.loop-step.heading xs _)
+    left_as _ _ _ _ m c.loop-step.heading _ _ _
     (at_drop_more (λ (xs : List Step). held_back c.args.held m xs) c.args.steps.now c.loop-step.step-index _ c.loop-step-test.true
     ∙ one_skipped c.args.held m (get_or c.args.steps.now c.loop-step.step-index _) (drop (c.loop-step.step-index + 1) c.args.steps.now)
     (sym c.holds_back.ensures ∙ c.if-holds_back.true))
@@ -25,7 +25,8 @@ pub loop-step-preserved : goal.loop-step-preserved
 loop-step-preserved g c =
     let m : Core = c.loop-step.machine in
     let rest : List Step = drop (c.loop-step.step-index + 1) c.args.steps.now in
-    subst (λ (e : Core). HasPut _ _ _ _ c.put_attempt.new.machine c.in_ok-heading.heading (held_back c.args.held e rest) _) (sym c.put_attempt.ensures.machine)
+    left_as _ _ _ _ c.put_attempt.new.machine c.in_ok-heading.heading _ _ _
+    (ap (λ (e : Core). held_back c.args.held e rest) (sym c.put_attempt.ensures.machine))
     (put_more _ _ _ _ m c.loop-step.heading _ _ c.loop-step.invariant
     (get_or c.args.steps.now c.loop-step.step-index _) (held_back c.args.held (core_next m (get_or c.args.steps.now c.loop-step.step-index _)) rest)
     (at_drop_more (λ (xs : List Step). held_back c.args.held m xs) c.args.steps.now c.loop-step.step-index _ c.loop-step-test.true
