@@ -17,7 +17,7 @@ below stand its issues, services and answers. At most 16 tiles and 500 rounds: o
 those of the window that --from and --to choose. With --width 252pt the picture in the page has the width of a column of a
 paper, and letters of 7 points.
 
-With --network the packets of a traffic text go through a written network whose routers don't choose, in the clocked rounds of
+With --network the packets of a traffic text go through a written network in the clocked rounds of
 `tools/network simulate`: a disc is a flit in the colour of its packet, in its channel or, at the border of a router, in the
 latch behind it. At most 1024 channels (an 8x8 mesh has 352).
 """
@@ -223,8 +223,6 @@ def page(film: Film, spots: Spots, unit: str) -> str:
 def of_network(given: argparse.Namespace) -> str:
     """The page of packets through a written network."""
     net = parse_network(text_of(given.network), given.network)
-    if net.is_adaptive():
-        raise command.Refusal("packets are sent through networks whose routers don't choose")
     traffic = read_traffic(net, text_of(given.machine), given.machine)
     film, stage = film_of_network(net, given.depth or 1, traffic, (given.first, given.last), given.width)
     return film.page(f"{len(net.kinds)} channels", "round", stage.picture(), stage.size[0])

@@ -5,6 +5,7 @@
     tools/load machine.txt script.txt --json > load.json
     tools/load machine.txt script.txt --svg > load.svg
     tools/load machine.txt script.txt --histogram > times.svg
+    tools/load machine.txt script.txt --distribution > tail.svg
     torusmem draw machine.txt script.txt --seed 1 | tools/load machine.txt script.txt -
     tools/network simulate mesh.txt traffic.txt --depth 4 | tools/load --network mesh.txt -
     tools/load --network mesh.txt report.txt --svg > network.svg
@@ -26,8 +27,9 @@ Of a run that the tool makes itself in clocked rounds the bound stands there too
 With --network the counts are those of a report on packets through a written network (docs/FORMATS.md, Traffic text). Of a
 channel: the flits that leave it, and the rounds for which one waited behind it. Of a packet that is delivered: the rounds for
 which it waited at its sender, those from its beginning to its delivery, and both together, its latency; of the senders what
-is told of processors. --svg draws the network twice, in the colours of the flits and of the waits, with their numbers where it
-has at most 100 channels.
+is told of processors, and the same by message class and by the hops of the shortest way. Of packets that receivers answered
+the rounds with all answers are told, too. --svg draws the network twice, in the colours of the flits and of the waits, or once with
+--only, with their numbers where it has at most 100 channels.
 
 A flit passes a channel in two rounds, a take and a put. With --cycle 2 times are in cycles of two rounds, as they are in
 simulators in which a flit passes a channel in one cycle.

@@ -72,13 +72,20 @@
                asks in each round of a burst, of B rounds on average, and between two bursts not at all.
                --from-csv FILE: packets one by one, a row `round,source,destination,length,class` each; places are
                numbers from 0 on or the names of routers, and classes are numbered by their senders' channels
-  simulate FILE TRAFFIC  sends packets through a network whose routers don't choose, in clocked rounds: what may happen
-               when a round begins is attempted once, so that a flit goes one stage a round. Of the heads that ask for
-               a channel one is, and the inputs go round; with `--arbiter turn` all are. A line of the traffic is
-               `at ROUND send FROM TO LENGTH`. Each sender begins its packets in this order, none before its round.
-               Prints for each packet the rounds in which it is begun and delivered, and its latency; for each channel
-               how many flits left it, and for how many rounds one waited behind it in vain; and last `empty after round
-               N` where all is delivered, or `locked after round N`. Crates/network_rounds states the rounds
+  simulate FILE TRAFFIC  sends packets through a network, in clocked rounds: what may happen when a round begins is attempted
+               once, so that a flit goes one stage a round. Of the heads that ask for a channel one is, and the inputs go round; with
+               `--arbiter turn` all are, with `--arbiter oldest` that of the packet that could be begun first. Where routers choose, a
+               head asks for one of its choices that are free, an escape where no other is; of several for the first by number behind
+               the one that it took last, going round. A line of the traffic is `at ROUND send FROM TO LENGTH`. Each sender begins
+               its packets in this order, none before its round. Prints for each packet the rounds in which it is begun and
+               delivered, and its latency; for each channel how many flits left it, and for how many rounds one waited behind it in
+               vain; and last `empty after round N` where all is delivered, or `locked after round N`; with --explain then which
+               packets wait for which. Crates/network_rounds states the rounds. What `torusmem simulate` doesn't know is simulated by
+               the plain model alone, and the report begins with a line `#` that says so: routers that choose, `oldest`, and these.
+               --router-delay, --link-delay: so many rounds more in each router, and on each hop and for its credit.
+               --replies L: each receiver answers a packet, from the next round on, on each channel of its `reply` lines, to the
+               sender's place, with L flits, or so many for each class of answers (1,5); its line ends `answers N`, the number of
+               the packet from 0. --outstanding K: a sender begins no packet while K of its own aren't delivered and answered
 
 What `//` begins in an `anynet` file is a comment. `--svg` draws routers as boxes and channels as arrows; the text of
 the network may name the routers and their places. Where it doesn't, the routers are found where channels meet, and

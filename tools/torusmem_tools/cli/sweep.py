@@ -5,6 +5,7 @@
     tools/sweep --shape 4x4 --traffic uniform --loads 0.02,0.06,0.1 --csv
     tools/network mesh 4x4 > mesh.txt; tools/sweep --network mesh.txt --loads 0.02,0.04,0.06,0.08
     tools/sweep --network mesh.txt --length 1 --cycle 2 --saturation
+    tools/sweep --network mesh.txt --json > mesh.json; tools/sweep --read mesh.json --svg --width 252pt > mesh.svg
 
 For each shape, pattern and load, and for each of --seeds seeds, a run is drawn. Each tile asks for an operation with
 the probability of the load a round; of these --stores in a hundred are stores, the others loads. What is asked for waits
@@ -16,7 +17,7 @@ moves, and its report has the same events.
 Accepted are the operations that are answered in the window, for each round and tile. The latency is that of the
 operations that are asked for in it: the rounds from the one in which it is asked for to that of its answer, both
 counted. Both stand as a mean over the seeds with the half width of its 95 % interval by Student's t. Behind the greatest 95th
-percentile stand the longest latency, and the least and the most that is accepted of one tile or sender. The latency without
+percentile stand the longest latency, and the least (of which tile or sender) and the most that is accepted of one. The latency without
 load is that of the formula of docs/FORMATS.md. A load is saturated where the latency is over three times that, or where
 in some run not all that is measured is answered. With --saturation the least such load is looked for, by bisection to 0.002, in
 runs of each seed: `saturation 0.412 +- 0.006` is the mean over the seeds, with its interval.
@@ -28,8 +29,11 @@ of the operations to bank 0, the others uniform): Dally and Towles, Principles a
 
 With --network each sender of the network asks for a packet of --length flits with the probability of the load a round, as
 `tools/network traffic` draws them, by its patterns, and also --to, --matrix, --hot and --burst. Accepted are the packets that
-are delivered in the window, for each round and sender; the latency is that of docs/FORMATS.md ("Traffic text"). The rounds are those of `torusmem simulate`, or where the
-program has no such command of the plain model. All else is as of machines.
+are delivered in the window, for each round and sender; the latency is that of docs/FORMATS.md ("Traffic text"). The rounds are those
+of `torusmem simulate`. Where routers choose, and with --replies, --outstanding, --router-delay, --link-delay or --arbiter oldest, they
+are those of the plain model (`tools/network simulate`), and the output says so; virtual channels share no link, each carries a flit
+in two rounds. With --replies a packet counts with all its answers. The latency without load is that of the shortest way. All else is
+as of machines. A curve of latency ends at its first saturated load.
 
 A flit passes a channel in two rounds, a take and a put. With --cycle 2 all that is said of rounds is said of cycles of two, as
 they are in simulators in which a flit passes a channel in one cycle.
