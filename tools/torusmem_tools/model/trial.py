@@ -137,6 +137,11 @@ def run(words: list[str], printed: str) -> tuple[int, str]:
     return ran.returncode, ran.stderr.decode("utf-8", "replace").strip()
 
 
+def unexpected(case: Case, status: int, said: str) -> str:
+    """What standard error says beside the spins that ran out of loads in a run of the program that finished."""
+    return "" if status == 0 and case.way != "library" and re.fullmatch(r"\d+ spins? ran out of loads", said) else said
+
+
 def is_cut(case: Case) -> bool:
     """Whether a run may end before its scripts are finished."""
     is_given = case.way == "draw" and (case.steps or not case.options)
@@ -153,7 +158,7 @@ def outcome_of(case: Case, programs: Programs, folder: str, status: int, said: s
         return Outcome("slow", f"it took more than {PATIENCE} seconds")
     if status < 0:
         return Outcome("crash", f"signal {-status}, {said}")
-    if said or status not in ([0, 3] if is_cut(case) else [0]):
+    if unexpected(case, status, said) or status not in ([0, 3] if is_cut(case) else [0]):
         return Outcome(f"status {status}", said[-300:])
     verdict, why = run([programs.torusmem, "check", where], os.path.join(folder, "judged.txt"))
     with open(os.path.join(folder, "judged.txt"), "rb") as file:
@@ -176,7 +181,7 @@ def schedule(case: Case, programs: Programs, folder: str) -> tuple[int, list[str
     """Has the program draw the steps of a run into the folder: its status, the steps, and what is wrong with them."""
     machine, script, steps = (os.path.join(folder, name) for name in NAMES[:3])
     status, said = run([programs.torusmem, "draw", machine, script, *case.options], steps)
-    if said or status not in ([0, 3] if is_cut(case) else [0]):
+    if unexpected(case, status, said) or status not in ([0, 3] if is_cut(case) else [0]):
         return status, [], f"status {status}, {said[-300:]}"
     lines = command.contents(steps, command.MOST_BYTES).decode("utf-8", "replace").splitlines()
     made = [it for it in lines if it and not it.startswith("#")]
