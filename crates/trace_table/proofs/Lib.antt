@@ -1,3 +1,4 @@
 pub mod Counts
+pub mod Literals
 pub mod Places
 pub mod Reading

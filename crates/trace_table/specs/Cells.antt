@@ -1,5 +1,6 @@
 -- The cells of a line of a table: comma-separated values without quotes (RFC 4180).
-use Rattle.std.specs.Prelude.{ℕ, ◌==◌, ◌&&◌, Bool, not, List, []}
+use Rattle.std.specs.Prelude.{ℕ, ◌==◌, ◌&&◌, Bool, not, nat_lt, List, [], drop, length, slice_index}
+use Rattle.std.specs.Prelude.{if◌then◌else◌}
 use Rattle.std.specs.List.{list_any, slice_index_or, slice_split}
 use Rattle.lexer.specs.Words.{is_blank}
 
@@ -21,3 +22,12 @@ is_in_cell c = not (is_blank c) && not (c == 44)
 
 abbrev pub has_cells : List ℕ → Bool
 has_cells line = list_any is_in_cell line
+
+-- a text begins with the mark of UTF-8 (Unicode, 23.8, "Byte Order Mark")
+abbrev pub is_marked_text : List ℕ → Bool
+is_marked_text line = nat_lt 2 (length line)
+    && (slice_index line 0 == 239) && (slice_index line 1 == 187) && (slice_index line 2 == 191)
+
+-- a first line without that mark
+abbrev pub without_mark : List ℕ → List ℕ
+without_mark line = if is_marked_text line then drop 3 line else line

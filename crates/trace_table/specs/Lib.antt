@@ -1,5 +1,6 @@
 pub mod Cells
 pub mod Columns
+pub mod Literals
 pub mod Reasons
 pub mod Row
 pub mod Rows

@@ -9,13 +9,14 @@ use Rattle.trace_table.specs.declared.column.Columns.{Columns}
 use Rattle.trace_table.specs.declared.reason.TableReason.{TableReason}
 use Rattle.trace_table.specs.declared.reason.TableReason.TheVariants as reason
 use Rattle.trace_table.specs.declared.row.TableRow.{TableRow}
-use Rattle.trace_table.specs.Cells.{table_cells, has_cells, has_quote}
+use Rattle.trace_table.specs.Cells.{table_cells, has_cells, has_quote, without_mark}
 use Rattle.trace_table.specs.Columns.{named_columns}
 use Rattle.trace_table.specs.Row.{row_of_cells}
 
--- the columns that a first line names
+-- the columns that a first line names, which may have a mark in front
 abbrev pub head_columns : List ℕ → Result Columns TableReason
-head_columns line = if has_quote line then Err reason.Quote else named_columns (table_cells line)
+head_columns line =
+    if has_quote line then Err reason.Quote else named_columns (table_cells (without_mark line))
 
 -- one row more: a cell for each column, and no more than 2^22 rows
 abbrev pub after_cells :

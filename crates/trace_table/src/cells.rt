@@ -3,6 +3,7 @@
 ghost use Rattle.std.specs.Prelude.{◌≡◌, ◌==◌, IfOk, map, slice_get};
 ghost use Rattle.std.specs.List.{list_any, slice_index_or};
 ghost use Rattle.trace_table.specs.Cells.{table_cells, cell_in, has_quote, is_in_cell, has_cells};
+ghost use Rattle.trace_table.specs.Cells.{is_marked_text, without_mark};
 
 use std::alloc::{AllocError, Allocator};
 
@@ -25,6 +26,24 @@ fn is_in_cell(byte: u8) -> bool
     ensures { result ≡ is_in_cell byte }
 {
     byte != b' ' && byte != b'\t' && byte != b','
+}
+
+/// Whether a text begins with the mark of UTF-8.
+fn is_marked_text(line: &[u8]) -> bool
+    ensures { result ≡ is_marked_text line.now }
+{
+    line.len() > 2 && line[0] == 0xEF && line[1] == 0xBB && line[2] == 0xBF
+}
+
+/// A first line without the mark of UTF-8.
+pub(crate) fn without_mark(line: &[u8]) -> &[u8]
+    ensures { result.now ≡ without_mark line.now }
+{
+    if is_marked_text(line) {
+        &line[3..]
+    } else {
+        line
+    }
 }
 
 /// The cells of a line.

@@ -4,6 +4,7 @@
 
 mod cells;
 pub mod column;
+mod literal;
 pub mod moment;
 pub mod reason;
 pub mod row;

@@ -1,16 +1,20 @@
 //! A row of a table: an operation.
 
-ghost use Rattle.std.specs.Prelude.{◌≡◌, map, slice_get};
+ghost use Rattle.std.specs.Prelude.{◌≡◌, ◌∷◌, [], map, slice_get};
+ghost use Rattle.trace_lines.specs.Form.{spelled_form};
 ghost use Rattle.trace_table.specs.Row.{answer_in_cell, operation_in_cells, operation_with, processor_in};
 ghost use Rattle.trace_table.specs.Row.{processor_in_cell};
-ghost use Rattle.trace_table.specs.Row.{reply_in_cell, reply_of_word, row_of_cells, row_time, time_in_cell};
+ghost use Rattle.trace_table.specs.Row.{reply_expected, reply_in_cell, reply_of_word, row_of_cells, row_time};
+ghost use Rattle.trace_table.specs.Row.{says_found, time_in_cell, word_expected};
 
 use crate::cells::cell_in;
 use crate::column::{Column, Columns};
+use crate::literal::{literal, plain_word};
 use crate::reason::TableReason;
-use lexer::{first_words, index, value};
-use packet::{Code, Operation, Reply};
-use trace_lines::{reply_read, spelled_form, told_of, unwanted_reply};
+use itoa::Buffer;
+use lexer::first_words;
+use packet::{Code, Op, Operation, Reply};
+use trace_lines::{Form, LineReason, reply_read, spelled_form, told_of, unwanted_reply};
 
 /// The reply to an operation, and the time of it.
 #[derive(Clone, Copy)]
@@ -39,10 +43,10 @@ fn processor_in_cell(cell: &[u8]) -> Result<u32, TableReason>
 {
     let (words, count) = first_words(cell);
     match &words[..count] {
-        [word] => match index(word) {
-            Some(p) => {
-                if p < 4096 {
-                    Ok(p)
+        [word] => match literal(word) {
+            Some(number) => {
+                if number < 4096 {
+                    Ok(number as u32)
                 } else {
                     Err(TableReason::Cell(Column::Processor))
                 }
@@ -60,7 +64,7 @@ fn time_in_cell(column: Column, cell: &[u8]) -> Result<Option<u64>, TableReason>
     let (words, count) = first_words(cell);
     match &words[..count] {
         [] => Ok(None),
-        [word] => row_time(column, value(word)),
+        [word] => row_time(column, literal(word)),
         _ => Err(TableReason::Cell(column)),
     }
 }
@@ -81,15 +85,58 @@ fn row_time(column: Column, spelled: Option<u128>) -> Result<Option<u64>, TableR
     }
 }
 
+/// The form of a word, an address and a value.
+fn form_of_one<'a>(word: &[u8], address: &'a [u8], one: &'a [u8]) -> Result<Form, LineReason>
+    ensures { result ≡ spelled_form word.now (address.now ∷ one.now ∷ []) }
+{
+    spelled_form(word, &[address, one])
+}
+
+/// The form of a word, an address and two values.
+fn form_of_two<'a>(
+    word: &[u8],
+    address: &'a [u8],
+    one: &'a [u8],
+    two: &'a [u8],
+) -> Result<Form, LineReason>
+    ensures { result ≡ spelled_form word.now (address.now ∷ one.now ∷ two.now ∷ []) }
+{
+    spelled_form(word, &[address, one, two])
+}
+
+/// The form of a word, an address and three values, which no operation takes.
+fn form_of_three<'a>(
+    word: &[u8],
+    address: &'a [u8],
+    one: &'a [u8],
+    two: &'a [u8],
+    three: &'a [u8],
+) -> Result<Form, LineReason>
+    ensures { result
+        ≡ spelled_form word.now (address.now ∷ one.now ∷ two.now ∷ three.now ∷ []) }
+{
+    spelled_form(word, &[address, one, two, three])
+}
+
 /// The operation of a word, an address and values.
 fn operation_with(word: &[u8], address: &[u8], values: &[&[u8]]) -> Result<Operation, TableReason>
     ensures { result ≡ operation_with word.now address.now (map (λ value. value.now) values.now) }
 {
+    let (mut of_address, mut of_first) = (Buffer::new(), Buffer::new());
+    let (mut of_second, mut of_third) = (Buffer::new(), Buffer::new());
+    let address = plain_word(&mut of_address, address);
     let form = match values {
         [] => spelled_form(word, &[address])?,
-        [one] => spelled_form(word, &[address, one])?,
-        [one, two] => spelled_form(word, &[address, one, two])?,
-        [one, two, three, ..] => spelled_form(word, &[address, one, two, three])?,
+        [one] => form_of_one(word, address, plain_word(&mut of_first, one))?,
+        [one, two] => {
+            let one = plain_word(&mut of_first, one);
+            form_of_two(word, address, one, plain_word(&mut of_second, two))?
+        }
+        [one, two, three, ..] => {
+            let one = plain_word(&mut of_first, one);
+            let two = plain_word(&mut of_second, two);
+            form_of_three(word, address, one, two, plain_word(&mut of_third, three))?
+        }
     };
     let operation = form.operation(1 << 32)?;
     Ok(operation)
@@ -115,7 +162,8 @@ fn operation_in_cells(word: &[u8], address: &[u8], values: &[u8]) -> Result<Oper
 fn reply_of_word(code: Code, word: &[u8]) -> Result<Reply, TableReason>
     ensures { result ≡ reply_of_word code word.now }
 {
-    let told = told_of(word)?;
+    let mut buffer = Buffer::new();
+    let told = told_of(plain_word(&mut buffer, word))?;
     if let Some(reason) = unwanted_reply(code, told) {
         return Err(TableReason::Line(reason));
     }
@@ -123,25 +171,56 @@ fn reply_of_word(code: Code, word: &[u8]) -> Result<Reply, TableReason>
     Ok(reply)
 }
 
-/// The reply of a cell to an operation of a code.
-fn reply_in_cell(code: Code, cell: &[u8]) -> Result<Reply, TableReason>
-    ensures { result ≡ reply_in_cell code cell.now }
+/// The word that a cas expects; no other operation expects one.
+fn word_expected(op: Op) -> Option<u64>
+    ensures { result ≡ word_expected op }
+{
+    match op {
+        Op::Cas(expected, _) => Some(expected),
+        _ => None,
+    }
+}
+
+/// Whether this is a word by which a cas says that it found the word that it expected.
+fn says_found(word: &[u8]) -> bool
+    ensures { result ≡ says_found word.now }
+{
+    word == b"true".as_slice() || word == b"ok".as_slice()
+}
+
+/// The reply that a word is to an operation of a code, which may expect a word.
+fn reply_expected(code: Code, expected: Option<u64>, word: &[u8]) -> Result<Reply, TableReason>
+    ensures { result ≡ reply_expected code expected word.now }
+{
+    let Some(found) = expected else {
+        return reply_of_word(code, word);
+    };
+    if says_found(word) {
+        Ok(Reply::Old(found))
+    } else {
+        reply_of_word(code, word)
+    }
+}
+
+/// The reply of a cell to an operation.
+fn reply_in_cell(op: Op, cell: &[u8]) -> Result<Reply, TableReason>
+    ensures { result ≡ reply_in_cell op cell.now }
 {
     let (words, count) = first_words(cell);
     match &words[..count] {
-        [word] => reply_of_word(code, word),
+        [word] => reply_expected(op.code(), word_expected(op), word),
         _ => Err(TableReason::Cell(Column::Reply)),
     }
 }
 
-/// The answer to an operation of a code that was issued at a time.
+/// The answer to an operation that was issued at a time.
 fn answer_in_cell(
-    code: Code,
+    op: Op,
     issued: u64,
     answered: Option<u64>,
     cell: &[u8],
 ) -> Result<Option<TimedReply>, TableReason>
-    ensures { result ≡ answer_in_cell code issued answered cell.now }
+    ensures { result ≡ answer_in_cell op issued answered cell.now }
 {
     let Some(time) = answered else {
         return Ok(None);
@@ -149,7 +228,7 @@ fn answer_in_cell(
     if time < issued {
         return Err(TableReason::Backwards);
     }
-    let reply = reply_in_cell(code, cell)?;
+    let reply = reply_in_cell(op, cell)?;
     Ok(Some(TimedReply { reply, time }))
 }
 
@@ -173,8 +252,8 @@ pub(crate) fn row_of_cells(
         return Err(TableReason::Cell(Column::Issued));
     };
     let answered = time_in_cell(Column::Answered, cell_in(cells, columns.answered))?;
-    let code = operation.op.code();
-    let answer = answer_in_cell(code, issued, answered, cell_in(cells, columns.reply))?;
+    let reply = cell_in(cells, columns.reply);
+    let answer = answer_in_cell(operation.op, issued, answered, reply)?;
     Ok(TableRow {
         line,
         processor,

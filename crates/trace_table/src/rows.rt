@@ -5,7 +5,7 @@ ghost use Rattle.std.specs.Str.Lines.{lines};
 ghost use Rattle.lexer.specs.Outcome.{Gives, Makes};
 ghost use Rattle.trace_table.specs.Rows.{after_cells, after_row_line, head_columns, table_rows_from, table_rows};
 
-use crate::cells::{has_cells, has_quote, table_cells};
+use crate::cells::{has_cells, has_quote, table_cells, without_mark};
 use crate::column::{Column, Columns, named_columns};
 use crate::reason::TableReason;
 use crate::row::{TableRow, row_of_cells};
@@ -23,7 +23,7 @@ fn head_columns<A: Allocator>(alloc: A, line: &[u8]) -> Result<Columns, TableRea
     if has_quote(line) {
         return Err(TableReason::Quote);
     }
-    match table_cells(alloc, line) {
+    match table_cells(alloc, without_mark(line)) {
         Ok(cells) => named_columns(&cells),
         Err(_) => Err(TableReason::Line(LineReason::Memory)),
     }

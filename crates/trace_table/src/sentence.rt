@@ -5,6 +5,7 @@ ghost use Rattle.std.specs.Str.Lines.{lines};
 ghost use Rattle.lexer.specs.Named.{IsAbout};
 ghost use Rattle.trace_table.specs.Told.{TellsTableRefusal};
 
+use crate::cells::without_mark;
 use crate::column::{Column, is_named_so};
 use crate::reason::TableReason;
 use crate::rows::read_rows;
@@ -73,7 +74,7 @@ fn line_column(reason: LineReason) -> Option<Column> {
 fn cell_of(text: &[u8], line: u64, column: Column) -> &[u8] {
     let head = line_at(text, 1).unwrap_or(b"".as_slice());
     let row = line_at(text, line).unwrap_or(b"".as_slice());
-    let names = head.split(|byte| *byte == b',');
+    let names = without_mark(head).split(|byte| *byte == b',');
     for (name, cell) in names.zip(row.split(|byte| *byte == b',')) {
         if is_named_so(column.name(), name) {
             return cell;
