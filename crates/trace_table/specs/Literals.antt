@@ -1,7 +1,7 @@
 -- Whole numbers as programs, chips and data frames write them: in decimal, hexadecimal or binary,
 -- with `_` between digits (PEP 515, Underscores in Numeric Literals), a `+` in front or a fraction
 -- of zeros behind.
-use Rattle.std.specs.Prelude.{ℕ, ◌+◌, ◌*◌, ◌^◌, ◌==◌, ◌&&◌, ◌||◌, not, nat_lt, Bool, true, false, List, [], ◌∷◌}
+use Rattle.std.specs.Prelude.{ℕ, ◌+◌, ◌*◌, ◌^◌, ◌==◌, ◌&&◌, ◌||◌, not, nat_lt, Bool, false, List, [], ◌∷◌}
 use Rattle.std.specs.Prelude.{Option, Some, None, decimal, drop, length, min, position, take}
 use Rattle.std.specs.Prelude.{if◌then◌else◌}
 use Rattle.std.specs.Char.{digit_value}
