@@ -120,7 +120,7 @@ static void bytes_that_make_none(void) {
   memcpy(again, bytes, length);
   put_number(again + acts, 6, 4);
   MUST(says(restored(again, length), TORUSMEM_BAD_ACTION, 0));
-  put_number(again + acts, 13, 4);
+  put_number(again + acts, 14, 4);
   MUST(says(restored(again, length), TORUSMEM_BAD_ACTION, 0));
   memcpy(again, bytes, length);
   put_number(again + acts + 8, 16 * 2 + 10, 4);
