@@ -961,7 +961,7 @@ static void run_with_little_memory(void) {
   MUST(says(said, TORUSMEM_OK, 3) || says(said, TORUSMEM_FAULT_MEMORY, 0));
   torusmem_ordered row = { 7, 7, 7, 7, 7, 7, 7 };
   said = torusmem_order(&m, (uint32_t)(torusmem_order(&m, 0, NULL, 0).value - 1), &row, 1);
-  MUST((says(said, TORUSMEM_OK, 1) && row.answered > 0) || row.bank == 7);
+  MUST(says(said, TORUSMEM_OK, 1) && row.answered > 0);
   torusmem_happened event = { 7, 7, row };
   said = torusmem_events(&m, 1, &event, 1);
   MUST(event.number == 7 && (said.code == TORUSMEM_SHORT || says(said, TORUSMEM_FAULT_MEMORY, 0)));

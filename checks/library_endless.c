@@ -1,14 +1,14 @@
 /* library_endless OPERATIONS: a host that asks so many operations, drawn ones, with some open at all times. Where a
    script is full it goes on with a machine that opens with the words of this one (torusmem_reopen). A plain memory beside
-   serves what was served, in the machines' order: the answers must be the same, and the words at each change. Prints how
-   many machines it took and the most bytes that they held at once; it is linked with
-   -Wl,--wrap=malloc,--wrap=realloc,--wrap=free. */
+   serves what was served, in the machines' order: the answers must be the same, and the words at each change. Ten times it
+   saves the machine and restores it from these bytes: both must be in one state. Prints how many machines it took, the most
+   bytes that they held at once, and the longest checkpoint; it is linked with -Wl,--wrap=malloc,--wrap=realloc,--wrap=free. */
 #include "library_memory.h"
 
-enum { TILES = 16, WORDS = 64, OPEN = 8, MOST_ROWS = 65536 };
+enum { TILES = 16, WORDS = 64, OPEN = 8, MOST_ROWS = 65536, CHECKPOINTS = 10 };
 
 static const struct torusmem_shape shape = { 2, { 4, 4, 0 }, { 3, 0, 0 }, 4, 4, WORDS, 0, 0 };
-static uint64_t plain[WORDS], state = 1;
+static uint64_t plain[WORDS], state = 1, longest;
 
 static void fail(const char *why, uint64_t which) {
   printf("%s: %" PRIu64 "\n", why, which);
@@ -55,18 +55,35 @@ static uint64_t serve(torusmem_machine *m) {
   return said.value;
 }
 
+/* Saves the machine, and restores another from its bytes, which must have the same words, answers and order. */
+static void checkpoint(torusmem_machine *m) {
+  static uint8_t bytes[1 << 22];
+  torusmem_machine again = TORUSMEM_MACHINE_INIT;
+  torusmem_outcome said = torusmem_save(m, bytes, sizeof bytes);
+  if (said.code != TORUSMEM_OK) fail("not saved", said.code);
+  if (said.value > longest) longest = said.value;
+  if (torusmem_restore(&again, bytes, (size_t)said.value).code != TORUSMEM_OK) fail("not restored", said.value);
+  for (uint32_t address = 0; address < WORDS; address++)
+    if (torusmem_word(&again, address).value != torusmem_word(m, address).value) fail("another word is restored", address);
+  for (uint32_t tile = 0; tile < TILES; tile++)
+    if (torusmem_answers(&again, tile).value != torusmem_answers(m, tile).value) fail("other answers are restored", tile);
+  if (torusmem_order(&again, 0, NULL, 0).value != torusmem_order(m, 0, NULL, 0).value) fail("another order is restored", 0);
+  torusmem_free(&again);
+}
+
 int main(int count, char **words) {
   uint64_t wanted = count == 2 ? strtoull(words[1], NULL, 10) : 0, asked = 0, answered = 0, machines = 1, changed = 0;
   torusmem_machine first = TORUSMEM_MACHINE_INIT, fresh = TORUSMEM_MACHINE_INIT, *m = &first, *next = &fresh;
   uint32_t processor = 0;
   for (uint32_t at = 0; at < WORDS; at++) plain[at] = drawn(100);
-  if (torusmem_open(m, &shape, plain, WORDS).code != TORUSMEM_OK) fail("not opened", 0);
+  if (torusmem_open_recorded(m, &shape, plain, WORDS).code != TORUSMEM_OK) fail("not opened", 0);
   while (asked < wanted) {
     torusmem_outcome said = torusmem_ask(m, processor, (uint32_t)drawn(10), (uint32_t)drawn(WORDS), drawn(100), drawn(100), 0);
     if (said.code == TORUSMEM_OK) {
       asked++;
       processor = (processor + 1) % TILES;
       if (asked % OPEN == 0) torusmem_round(m);
+      if (asked % (wanted / CHECKPOINTS) == 0) checkpoint(m);
       continue;
     }
     if (said.code != TORUSMEM_FAULT_LENGTH) fail("not taken", said.code);
@@ -81,6 +98,7 @@ int main(int count, char **words) {
   answered += serve(m);
   torusmem_free(m);
   if (answered != wanted || held != 0 || changed + 1 != machines) fail("answered, held or changed otherwise", answered);
-  printf("%" PRIu64 " operations, %" PRIu64 " machines, at most %zu KB\n", answered, machines, most_held / 1024);
+  printf("%" PRIu64 " operations, %" PRIu64 " machines, at most %zu KB, checkpoints of at most %" PRIu64 " KB\n", answered,
+         machines, most_held / 1024, longest / 1024);
   return 0;
 }

@@ -91,8 +91,25 @@ static torusmem_outcome restored(const uint8_t *from, size_t length) {
   return said;
 }
 
-/* Bytes that make no machine: cut, with bytes behind, of another mark or version, with a fault of a text, and with actions
-   that can't be done. */
+/* Puts behind bytes their checksum: their sum, and the sum of the sums of their beginnings, each modulo 2^32. */
+static void seal(uint8_t *out, size_t length) {
+  uint64_t sum = 0, sums = 0;
+  for (size_t at = 0; at < length - 8; at++) sum = (sum + out[at]) % (UINT64_C(1) << 32), sums = (sums + sum) % (UINT64_C(1) << 32);
+  put_number(out + length - 8, sums << 32 | sum, 8);
+}
+
+/* What these bytes come to with their checksum, and the same bytes as a record of the first version, which has none. */
+static torusmem_outcome sealed(uint8_t *out, size_t length) {
+  seal(out, length);
+  torusmem_outcome said = restored(out, length);
+  out[8] = 1;
+  MUST(says(restored(out, length - 8), said.code, said.value));
+  out[8] = 2;
+  return said;
+}
+
+/* Bytes that make no machine: cut, with bytes behind, with one bit changed, of another mark or version, with a fault of a
+   text, and with actions that can't be done. */
 static void bytes_that_make_none(void) {
   torusmem_machine m = TORUSMEM_MACHINE_INIT;
   static const uint8_t machine[] = "radix 2\ndims 1\ndepth 4\ntags 4\nwords 8\n", script[] = "0 store 5 17\n";
@@ -102,37 +119,43 @@ static void bytes_that_make_none(void) {
   MUST(says(torusmem_append(&m, 1, TORUSMEM_CAS, 7, 1, UINT64_MAX, TORUSMEM_FIRST_IS_LAST), TORUSMEM_FAULT_LAST, 0));
   MUST(says(torusmem_append(&m, 1, TORUSMEM_STORE, 7, UINT64_MAX, 0, 0), TORUSMEM_OK, 0));
   MUST(says(torusmem_append(&m, 1, TORUSMEM_SPIN, 7, 3, 4000, 0), TORUSMEM_OK, 0));
-  MUST(says(torusmem_round(&m), TORUSMEM_OK, 0));
+  for (int made = 0; made < 1000; made++) MUST(says(torusmem_round(&m), TORUSMEM_OK, 0));
   size_t length = saved(&m, bytes), texts = sizeof machine + sizeof script - 2, rows = 48 + texts, acts = rows + 64;
   torusmem_free(&m);
-  /* A send, two lines and a round: four actions, of which an attempt that didn't move and a line that was refused are none. */
-  MUST(length == acts + 16 && memcmp(bytes, "torusmem", 8) == 0 && says(restored(bytes, length), TORUSMEM_OK, 0));
-  for (size_t cut = 0; cut < length; cut++) MUST(says(restored(bytes, cut), TORUSMEM_BAD_RECORD, cut));
+  /* A send, two lines and the rounds: four actions, of which an attempt that didn't move and a line that was refused are none. */
+  MUST(length == acts + 16 + 8 && memcmp(bytes, "torusmem", 8) == 0 && says(restored(bytes, length), TORUSMEM_OK, 0));
   memcpy(again, bytes, length);
+  MUST(says(sealed(again, length), TORUSMEM_OK, 0) && memcmp(again, bytes, length) == 0);
+  for (size_t cut = 0; cut < length; cut++) MUST(says(restored(bytes, cut), TORUSMEM_BAD_RECORD, cut < 16 ? cut : cut - 8));
+  for (size_t bit = 0; bit < 8 * length; bit++) {
+    again[bit / 8] ^= (uint8_t)(1u << bit % 8);
+    MUST(restored(again, length).code == TORUSMEM_BAD_RECORD);
+    again[bit / 8] ^= (uint8_t)(1u << bit % 8);
+  }
   again[length] = 0;
-  MUST(says(restored(again, length + 1), TORUSMEM_BAD_RECORD, length));
+  MUST(says(restored(again, length + 1), TORUSMEM_BAD_RECORD, length - 7));
   again[0] = 'T';
-  MUST(says(restored(again, length), TORUSMEM_BAD_RECORD, 0));
-  again[0] = 't', again[8] = 2;
+  MUST(says(sealed(again, length), TORUSMEM_BAD_RECORD, 0));
+  again[0] = 't', again[8] = 3;
   MUST(says(restored(again, length), TORUSMEM_BAD_RECORD, 8));
-  again[8] = 1, again[48] = 'R';
-  MUST(says(restored(again, length), TORUSMEM_FAULT_LINE, 1));
+  again[8] = 2, again[48] = 'R';
+  MUST(says(sealed(again, length), TORUSMEM_FAULT_LINE, 1));
   memcpy(again, bytes, length);
   put_number(again + acts, 6, 4);
-  MUST(says(restored(again, length), TORUSMEM_BAD_ACTION, 0));
+  MUST(says(sealed(again, length), TORUSMEM_BAD_ACTION, 0));
   put_number(again + acts, 14, 4);
-  MUST(says(restored(again, length), TORUSMEM_BAD_ACTION, 0));
+  MUST(says(sealed(again, length), TORUSMEM_BAD_ACTION, 0));
   memcpy(again, bytes, length);
   put_number(again + acts + 8, 16 * 2 + 10, 4);
-  MUST(says(restored(again, length), TORUSMEM_BAD_ACTION, 2));
+  MUST(says(sealed(again, length), TORUSMEM_BAD_ACTION, 2));
   memcpy(again, bytes, length);
   put_number(again + rows + 4, 12, 4);
-  MUST(says(restored(again, length), TORUSMEM_BAD_ACTION, 1));
+  MUST(says(sealed(again, length), TORUSMEM_BAD_ACTION, 1));
   memcpy(again, bytes, length);
   put_number(again + rows + 32, 2, 4);
-  MUST(says(restored(again, length), TORUSMEM_BAD_ACTION, 2));
+  MUST(says(sealed(again, length), TORUSMEM_BAD_ACTION, 2));
   memset(again + 16, 255, 32);
-  MUST(says(restored(again, length), TORUSMEM_BAD_RECORD, length));
+  MUST(says(sealed(again, length), TORUSMEM_BAD_RECORD, length - 8));
 }
 
 /* Of machines that keep no record, and of handles without a machine. */

@@ -8,7 +8,7 @@
    MEMORY. torusmem_load, torusmem_open, their two that keep a record, torusmem_reopen, torusmem_restore and
    torusmem_clone allocate what the machine needs, torusmem_append and torusmem_ask what a further line needs, and
    torusmem_free frees all of it. Of a machine that keeps a record, the calls that make steps or rounds also allocate what the record needs.
-   torusmem_report, torusmem_save, torusmem_order, torusmem_events, torusmem_check, torusmem_explain, torusmem_spins_out,
+   torusmem_report, torusmem_save, torusmem_events, torusmem_check, torusmem_explain, torusmem_spins_out,
    torusmem_network, torusmem_linearize and torusmem_model free what they allocate before they return.
    torusmem_watch_begin allocates what a watch needs at first, torusmem_watch_issue and torusmem_watch_answer allocate
    and free as operations open and end, and torusmem_watch_end frees all of it. No other call allocates.
@@ -194,7 +194,8 @@ torusmem_outcome torusmem_open(torusmem_machine *m, const struct torusmem_shape 
    in *fresh, which is empty, a machine of the same shape, whose opening words are the words of *m then, and whose
    processors have no line. What is asked of it is answered as if *m had gone on, since one memory answers both. Answers
    of *m stay to be fetched there, until it is freed; indices, limits and the numbers of the order begin anew. *fresh keeps
-   no record.
+   a record of what is done to it where *m keeps one: so a run without end has checkpoints, each of the size of what was
+   done since the last reopening.
    OK, value: how many rounds; FULL: *fresh isn't empty; EMPTY: *m is, and nothing has changed; TORUSMEM_FAULT_MEMORY:
    *m has made its rounds, and *fresh is empty. m and fresh are not the same. */
 torusmem_outcome torusmem_reopen(torusmem_machine *m, torusmem_machine *fresh) TORUSMEM_RESULT;
@@ -427,9 +428,10 @@ typedef struct torusmem_ordered {
 } torusmem_ordered;
 
 /* The rows of the order from row `from` on, counted from 0: the operations in the order of the banks' services, as the
-   report's order lines have them. A row stays, but for its answer.
+   report's order lines have them. A row stays, but for its answer. No memory is taken, and no other row is looked at: the
+   last rows cost no more after a million operations than at first.
    OK: they are the first `value` of out, and those behind them are as they were; where there are no more, value is 0.
-   SHORT: value is how many there are, and out is as it was; so is it on FAULT_MEMORY and EMPTY. */
+   SHORT: value is how many there are, and out is as it was; so is it on EMPTY. */
 torusmem_outcome torusmem_order(torusmem_machine *m, uint32_t from, torusmem_ordered *out, size_t out_length)
     TORUSMEM_RESULT;
 
@@ -445,7 +447,7 @@ typedef struct torusmem_happened {
 
 /* The issues, services and answers of the operations that are served, those numbered `from` or higher, in the order in
    which they happened, by the numbers that torusmem_order tells. The issue of an operation comes with its service: until
-   then its number is left free.
+   then its number is left free. The call goes over all rows of the order, so its time grows with the run.
    OK: they are the first `value` of out, and those behind them are as they were; where there are no more, value is 0.
    SHORT: value is how many there are, and out is as it was; so is it on FAULT_MEMORY and EMPTY. */
 torusmem_outcome torusmem_events(torusmem_machine *m, uint32_t from, torusmem_happened *out, size_t out_length)

@@ -3,7 +3,8 @@
 // At each rising edge of its clock the machine makes a fair round. A transaction of eight bytes is a load or a store of the
 // word at its address, which counts bytes; with an extension Atomic it is any operation of torusmem.h. It ends at the edge
 // at which the machine has answered it: b_transport waits for that, nb_transport takes transactions while others are out,
-// and answers them in the order of the machine's answers.
+// and answers them in the order of the machine's answers. Where a processor has made all the operations that a machine
+// takes of one, all that is out is answered at once, and a machine goes on that opens with the words of this one.
 #ifndef TORUSMEM_EXAMPLES_MEMORY_H
 #define TORUSMEM_EXAMPLES_MEMORY_H
 #include <cstring>
@@ -94,8 +95,8 @@ class Memory : public sc_core::sc_module {
     uint32_t operation = it.is_write() ? TORUSMEM_STORE : TORUSMEM_LOAD;
     if (atomic) operation = atomic->operation;
     try {
-      uint32_t word = static_cast<uint32_t>(at / 8), own = static_cast<uint32_t>(processor);
-      lanes_[processor].asked[machine_.ask(own, operation, word, first, second)] = {&it, done};
+      uint32_t word = static_cast<uint32_t>(at / 8);
+      lanes_[processor].asked[index_of(static_cast<uint32_t>(processor), operation, word, first, second)] = {&it, done};
       return true;
     } catch (const torusmem::error &fault) {
       bool is_address = fault.code() == TORUSMEM_FAULT_ADDRESS;
@@ -104,13 +105,35 @@ class Memory : public sc_core::sc_module {
     }
   }
 
+  // Asks for an operation, of a fresh machine where this one takes no more of them, and answers its index.
+  uint32_t index_of(uint32_t processor, uint32_t operation, uint32_t word, uint64_t first, uint64_t second) {
+    try {
+      return machine_.ask(processor, operation, word, first, second);
+    } catch (const torusmem::error &fault) {
+      if (fault.code() != TORUSMEM_FAULT_LENGTH) throw;
+    }
+    reopen();
+    return machine_.ask(processor, operation, word, first, second);
+  }
+
+  void reopen() {
+    torusmem::machine fresh = machine_.reopened();
+    take_all();
+    machine_ = std::move(fresh);
+    for (Lane &lane : lanes_) lane.taken = 0;
+  }
+
   void edge() {
     machine_.fair_round();
     rounds_++;
+    take_all();
+    for (uint32_t processor = 0; processor < lanes_.size(); processor++) tell(processor, lanes_[processor]);
+  }
+
+  void take_all() {
     for (uint32_t processor = 0; processor < lanes_.size(); processor++) {
       Lane &lane = lanes_[processor];
       for (const torusmem_answer &answer : machine_.answers(processor, lane.taken)) take(lane, answer);
-      tell(processor, lane);
     }
   }
 

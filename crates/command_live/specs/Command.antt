@@ -1,5 +1,5 @@
 -- What a line of a dialogue asks for (this project's own format).
-use Rattle.std.specs.Prelude.{ℕ, ◌&&◌, nat_le, List, [], ◌∷◌, Result, Ok, Err, if◌then◌else◌, codes}
+use Rattle.std.specs.Prelude.{ℕ, ◌&&◌, nat_le, nat_lt, List, [], ◌∷◌, Result, Ok, Err, if◌then◌else◌, codes}
 use Rattle.std.specs.Str.{bytes_eq}
 use Rattle.torus.specs.declared.fault.Fault.{Fault}
 use Rattle.torus.specs.declared.fault.Fault.TheVariants as fault
@@ -33,6 +33,15 @@ wait_of (p ∷ []) = Err fault.Line
 wait_of (p ∷ i ∷ []) = an_index p >>= λ p. an_index i >>= λ i. Ok (command.Wait p i)
 wait_of (p ∷ i ∷ j ∷ more) = Err fault.Line
 
+-- what stands behind `word`: an address of a memory of so many words
+abbrev pub address_in : ℕ → ℕ → Result Command Fault
+address_in memory a = if nat_lt a memory then Ok (command.Word a) else Err fault.Address
+
+abbrev pub word_asked : ℕ → List (List ℕ) → Result Command Fault
+word_asked memory [] = Err fault.Line
+word_asked memory (a ∷ []) = an_index a >>= address_in memory
+word_asked memory (a ∷ b ∷ more) = Err fault.Line
+
 -- nothing stands behind the other keywords
 abbrev pub alone : Command → List (List ℕ) → Result Command Fault
 alone c [] = Ok c
@@ -54,11 +63,13 @@ named tiles memory keyword rest =
     then (round_count rest >>= λ n. Ok (command.Clocked n))
     else (if bytes_eq keyword (codes "wait") then wait_of rest
     else (if bytes_eq keyword (codes "finish") then alone command.Finish rest
+    else (if bytes_eq keyword (codes "finished") then alone command.Finished rest
+    else (if bytes_eq keyword (codes "word") then word_asked memory rest
     else (if bytes_eq keyword (codes "report") then alone command.Report rest
     else (if bytes_eq keyword (codes "save") then alone command.Save rest
     else (if bytes_eq keyword (codes "load") then load_digits rest
     else (if bytes_eq keyword (codes "quit") then alone command.Quit rest
-    else Err fault.Line))))))))
+    else Err fault.Line))))))))))
 
 -- a line of another shape is a bad one; one of the right shape may have a fault
 abbrev pub command_from : Result Command Fault → Command

@@ -12,7 +12,7 @@ use Rattle.machine_report.specs.Report.{machine_report}
 use Rattle.core_laws.specs.Core.{Load}
 use Rattle.core_laws.specs.Appended.{load_with}
 use Rattle.core_laws.specs.Handed.{handed, moves_kept, refused}
-use Rattle.core_laws.specs.Machine.{IsAfter, RunsOn, core_after}
+use Rattle.core_laws.specs.Machine.{IsAfter, RunsOn, all_finished, core_after, shown}
 use Rattle.machine_asked.specs.Rounds.{rounds_of, NeedsRounds}
 use Rattle.machine_asked.specs.Asked.{Asked, IsNumberedLine, NeedsToWait, answer_to, has_spin, index_asked, spins_with}
 use Rattle.machine_asked.specs.Asked.{AreFewestFair, fair_rounds_made, fair_rounds_of}
@@ -116,6 +116,11 @@ abbrev pub WaitsFor : ℕ → ℕ → Recorded → Recorded → ToldLine → Typ
 WaitsFor p index old new told =
     WaitsWithin p index (slice_get old.asked.core.allowed p) old new told
 
+-- the word at an address, where there is one
+abbrev pub told_word : ℕ → Option ℕ → ToldLine
+told_word address None = reply.Refused fault.Address
+told_word address (Some word) = reply.Word address word
+
 -- the answer is the machine's report, a good one, unless there is no memory
 pub record TellsReport {A : Type 0} (v : Asked) (said : Said A) : Type 0 where
   pub is : said ≡ Report (machine_report v.core)
@@ -138,6 +143,10 @@ Obeys (command.Rounds count) digits old new said = IsLine (MakesKeptRounds count
 Obeys (command.Clocked most) digits old new said = IsLine (MakesKeptFair most old new) said
 Obeys (command.Wait p index) digits old new said = IsLine (WaitsFor p index old new) said
 Obeys command.Finish digits old new said = IsLine (FinishesScripts old new) said
+Obeys command.Finished digits old new said =
+    TellsDialogue (Told (reply.Finished (all_finished old.asked.core.state))) old new said
+Obeys (command.Word address) digits old new said =
+    TellsDialogue (Told (told_word address (slice_get (shown old.asked.core).memory address))) old new said
 Obeys command.Report digits old new said = (new ≡ old) × Reports old.asked said
 Obeys command.Save digits old new said = (new ≡ old) × SavesKept old said
 Obeys command.Load digits old new said = IsLine (LoadsRecord digits old new) said

@@ -1,5 +1,5 @@
 -- The text of each answer of a dialogue (this project's own format).
-use Rattle.std.specs.Prelude.{ℕ, List, [], ◌∷◌, ◌++◌, codes, decimal, Option, Some, None}
+use Rattle.std.specs.Prelude.{ℕ, List, [], ◌∷◌, ◌++◌, codes, decimal, true, false, Option, Some, None}
 use Rattle.torus.specs.FaultCode.{fault_code}
 use Rattle.report_lines.specs.Line.{reply_word}
 use Rattle.command_live.specs.declared.told.Told.{Told}
@@ -22,6 +22,10 @@ told_words (told.Answered p index reply) =
     codes "answer" ++ spaced (decimal p) ++ spaced (decimal index) ++ spaced (reply_word reply)
 told_words told.Idle = codes "idle"
 told_words (told.Rounds count) = codes "rounds" ++ spaced (decimal count)
+told_words (told.Finished true) = codes "finished yes"
+told_words (told.Finished false) = codes "finished no"
+told_words (told.Word address word) =
+    codes "word" ++ spaced (decimal address) ++ spaced (decimal word)
 told_words told.Loaded = codes "loaded"
 told_words told.NoRecord = codes "no record"
 told_words (told.BadByte place) = codes "bad byte" ++ spaced (decimal place)

@@ -16,6 +16,10 @@ pub enum Command {
     Wait(u32, u32),
     /// Rounds until every script is finished.
     Finish,
+    /// Whether every script is finished.
+    Finished,
+    /// The word at this address.
+    Word(u32),
     /// The report.
     Report,
     /// The record of the machine.

@@ -32,6 +32,8 @@ fn goes_on(command: Command) -> bool
         Command::Clocked(_) => true,
         Command::Wait(_, _) => true,
         Command::Finish => true,
+        Command::Finished => true,
+        Command::Word(_) => true,
         Command::Report => true,
         Command::Save => true,
         Command::Load => true,

@@ -1,13 +1,13 @@
 //! What a machine does for a line of a dialogue.
 
-ghost use Rattle.std.specs.Prelude.{◌≡◌, ◌⊎◌, ◌∷◌, ◌++◌, [], IfOk, Ok, codes};
+ghost use Rattle.std.specs.Prelude.{◌≡◌, ◌⊎◌, ◌∷◌, ◌++◌, [], IfOk, Ok, codes, slice_get};
 ghost use Rattle.std.specs.String.{string_bytes};
 ghost use Rattle.hex.specs.Hex.{decode_of, encode_lower};
-ghost use Rattle.core_laws.specs.Machine.{RunsOn, core_after};
+ghost use Rattle.core_laws.specs.Machine.{RunsOn, core_after, shown};
 ghost use Rattle.machine_asked.specs.Rounds.{rounds_of};
 ghost use Rattle.command_live.specs.Records.{IsTheLine, LoadsRecord, SavesKept, told_unrestored, told_unspelled};
 ghost use Rattle.command_live.specs.Obeying.{AsksMachine, MakesKeptFair, MakesKeptRounds, Obeys};
-ghost use Rattle.command_live.specs.Obeying.{Reports, WaitsFor};
+ghost use Rattle.command_live.specs.Obeying.{Reports, WaitsFor, told_word};
 
 use crate::said::Said;
 use crate::{Command, Told};
@@ -57,6 +57,16 @@ fn waited<A: Allocator>(machine: &mut RecordedMachine<A>, processor: u32, index:
     match machine.asked().answer_to(processor, index) {
         Some(answer) => Told::Answered(processor, index, answer.reply),
         None => Told::Idle,
+    }
+}
+
+/// The word at an address, or that the memory has none there.
+fn word_at<A: Allocator>(machine: &RecordedMachine<A>, address: u32) -> Told
+    ensures { result ≡ told_word address (slice_get (shown machine.now.asked.core).memory address) }
+{
+    match machine.machine().word(address) {
+        Some(word) => Told::Word(address, word),
+        None => Told::Refused(Fault::Address),
     }
 }
 
@@ -169,6 +179,8 @@ pub fn obey<A: Allocator + Copy>(
         Command::Clocked(most) => Said::Told(clocked(machine, most)),
         Command::Wait(processor, index) => Said::Told(waited(machine, processor, index)),
         Command::Finish => Said::Told(Told::Rounds(machine.finish())),
+        Command::Finished => Said::Told(Told::Finished(machine.machine().finished())),
+        Command::Word(address) => Said::Told(word_at(machine, address)),
         Command::Report => reported(alloc, machine),
         Command::Save => saved(alloc, machine),
         Command::Load => Said::Told(loaded(alloc, machine, digits)),

@@ -3,7 +3,7 @@
 ghost use Rattle.std.specs.Prelude.{◌≡◌, map};
 ghost use Rattle.lexer.specs.Words.{first_words};
 ghost use Rattle.command_live.specs.Command.{alone, ask_of, command_from, command_of, load_digits};
-ghost use Rattle.command_live.specs.Command.{named, round_count, rounds_asked, second_in, wait_of};
+ghost use Rattle.command_live.specs.Command.{named, round_count, rounds_asked, second_in, wait_of, word_asked};
 
 use crate::command::Command;
 use lexer::first_words;
@@ -64,6 +64,24 @@ fn wait_of(words: &[&[u8]]) -> Result<Command, Fault>
     }
 }
 
+/// What stands behind `word`: an address of a memory of so many words.
+fn word_asked(words: &[&[u8]], memory: u32) -> Result<Command, Fault>
+    ensures { result ≡ word_asked memory (map (λ word. word.now) words.now) }
+{
+    match words {
+        [] => Err(Fault::Line),
+        [address] => {
+            let a = an_index(address)?;
+            if a < memory {
+                Ok(Command::Word(a))
+            } else {
+                Err(Fault::Address)
+            }
+        }
+        [_, _, ..] => Err(Fault::Line),
+    }
+}
+
 /// A keyword behind which nothing stands.
 fn alone(command: Command, words: &[&[u8]]) -> Result<Command, Fault>
     ensures { result ≡ alone command (map (λ word. word.now) words.now) }
@@ -103,6 +121,12 @@ fn named(keyword: &[u8], rest: &[&[u8]], tiles: u32, memory: u32) -> Result<Comm
     }
     if keyword == b"finish".as_slice() {
         return alone(Command::Finish, rest);
+    }
+    if keyword == b"finished".as_slice() {
+        return alone(Command::Finished, rest);
+    }
+    if keyword == b"word".as_slice() {
+        return word_asked(rest, memory);
     }
     if keyword == b"report".as_slice() {
         return alone(Command::Report, rest);

@@ -107,6 +107,25 @@ fn numbered(words: &str, number: u64) -> ToldText
     ended(text)
 }
 
+/// The word at an address.
+fn word_at(address: u32, word: u64) -> ToldText
+    ensures { result.bytes ≡ told_text (Told.Word address word) }
+{
+    let mut text = begun("word");
+    put_index(&mut text, address);
+    put_value(&mut text, word);
+    ended(text)
+}
+
+/// Whether every script is finished.
+fn finished(is: bool) -> ToldText
+    ensures { result.bytes ≡ told_text (Told.Finished is) }
+{
+    let mut text = begun("finished");
+    put_word(&mut text, if is { "yes" } else { "no" });
+    ended(text)
+}
+
 /// The fault of a record's text, and its line.
 fn bad_text(fault: LineFault) -> ToldText
     ensures { result.bytes ≡ told_text (Told.BadText fault) }
@@ -117,9 +136,9 @@ fn bad_text(fault: LineFault) -> ToldText
     ended(text)
 }
 
-/// The text of an answer: `asked 0 3`, `answer 0 3 17`, `rounds 12`, `idle`, `loaded`, `no record`,
-/// `bad byte 8`, `bad action 3`, `bad text F4 1`, `fault F7` or `bad line`, with a line feed. `asked` has no index
-/// where none is known; where nothing is answered, it is empty.
+/// The text of an answer: `asked 0 3`, `answer 0 3 17`, `rounds 12`, `idle`, `finished yes`, `word 5 17`, `loaded`,
+/// `no record`, `bad byte 8`, `bad action 3`, `bad text F4 1`, `fault F7` or `bad line`, with a line feed. `asked`
+/// has no index where none is known; where nothing is answered, it is empty.
 pub fn told_text(told: Told) -> ToldText
     ensures { result.bytes ≡ told_text told }
 {
@@ -129,6 +148,8 @@ pub fn told_text(told: Told) -> ToldText
         Told::Answered(processor, index, reply) => answered(processor, index, reply),
         Told::Idle => ended(begun("idle")),
         Told::Rounds(count) => numbered("rounds", count),
+        Told::Finished(is) => finished(is),
+        Told::Word(address, word) => word_at(address, word),
         Told::Loaded => ended(begun("loaded")),
         Told::NoRecord => ended(begun("no record")),
         Told::BadByte(place) => numbered("bad byte", place),

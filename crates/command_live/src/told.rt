@@ -15,6 +15,10 @@ pub enum Told {
     Idle,
     /// So many rounds were made.
     Rounds(u64),
+    /// Whether every script is finished.
+    Finished(bool),
+    /// The word at an address.
+    Word(u32, u64),
     /// A record's machine stands in the place of this one.
     Loaded,
     /// There is no record: memory for it was refused.

@@ -4,6 +4,7 @@ ghost use Rattle.std.specs.Prelude.{◌≤◌};
 
 use crate::explaining_table::{explain_no_order_of_table, explain_table};
 use crate::hints::{begins_anynet, begins_table};
+use crate::left_word::tell_no_order;
 use crate::model::{Modelled, is_report};
 use lexer::Refusal;
 use model_answer::LogSentence;
@@ -255,10 +256,8 @@ pub fn explain_no_order<R: Eprint + AllocGlobal>(
     if begins_table(trace) {
         explain_no_order_of_table(rt, name, trace, line, bound);
     } else {
-        let _ = told(
-            rt,
-            no_order_sentence(rt.alloc(), named(name, trace), line, bound),
-        );
+        let sentence = no_order_sentence(rt.alloc(), named(name, trace), line, bound);
+        tell_no_order(rt, name, sentence);
         let _ = told(rt, conflict_sentence(rt.alloc(), named(name, trace), line));
     }
 }

@@ -1,5 +1,6 @@
 //! The lines on tables of operations.
 
+use crate::left_word::tell_no_order;
 use program_fault::{ProgramFault, explain_by, is_of_texts, named, told};
 use std::alloc::Global;
 use trace_table::{TableTrace, read_table, table_sentence};
@@ -81,7 +82,7 @@ fn explain_no_order_of_text<'a, R: Eprint + AllocGlobal>(
     if let Some(last) = last_line(&trace.lines, line) {
         let text = named(name, &trace.text);
         if let Some(sentence) = no_order_sentence(rt.alloc(), text, last, bound) {
-            let _ = told(rt, Some(sentence_in_table(trace, line, sentence)));
+            tell_no_order(rt, name, Some(sentence_in_table(trace, line, sentence)));
         }
         if let Some(sentence) = conflict_sentence(rt.alloc(), text, last) {
             let _ = told(rt, Some(conflict_in_table(trace, line, sentence)));

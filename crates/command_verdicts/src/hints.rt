@@ -2,16 +2,34 @@
 
 ghost use Rattle.std.specs.Prelude.{◌≡◌, map};
 ghost use Rattle.std.specs.Str.Lines.{lines};
-ghost use Rattle.command_verdicts.specs.Hints.{are_no_comment, begins_anynet, begins_table, has_comma};
-ghost use Rattle.command_verdicts.specs.Hints.{names_nodes};
+ghost use Rattle.command_verdicts.specs.Hints.{are_no_comment, begins_anynet, begins_table, has_byte};
+ghost use Rattle.command_verdicts.specs.Hints.{names_nodes, names_text, parts_cells};
 
 use lexer::{first_words, next_line};
 
-/// Whether a line has a comma.
-fn has_comma(line: &[u8]) -> bool
-    ensures { result ≡ has_comma line.now }
+/// Whether a line has this byte.
+fn has_byte(wanted: u8, line: &[u8]) -> bool
+    ensures { result ≡ has_byte wanted line.now }
 {
-    line.iter().any(|byte| *byte == b',')
+    line.iter().any(|byte| *byte == wanted)
+}
+
+/// Whether the first of these words is that with which a trace text or a log begins.
+fn names_text(words: &[&[u8]]) -> bool
+    ensures { result ≡ names_text (map (λ word. word.now) words.now) }
+{
+    match words {
+        [word, ..] => *word == b"trace".as_slice() || *word == b"log".as_slice(),
+        [] => false,
+    }
+}
+
+/// Whether a line of these words has what parts cells: a comma; or a semicolon or a tab, where it doesn't
+/// begin as those texts do.
+fn parts_cells(line: &[u8], words: &[&[u8]]) -> bool
+    ensures { result ≡ parts_cells line.now (map (λ word. word.now) words.now) }
+{
+    has_byte(b',', line) || (!names_text(words) && (has_byte(b';', line) || has_byte(b'\t', line)))
 }
 
 /// Whether the words of a line are those of no comment, and there are some.
@@ -25,15 +43,16 @@ fn are_no_comment(words: &[&[u8]]) -> bool
     }
 }
 
-/// Whether a text begins as a table of comma-separated cells does: its first line has a comma, and is no
-/// comment.
+/// Whether a text begins as a table does: its first line is no comment, and has a comma; or it has a semicolon or
+/// a tab, and doesn't begin as that of a trace text or of a log does.
 pub fn begins_table(text: &[u8]) -> bool
     ensures { result ≡ begins_table (lines text.now) }
 {
     match next_line(text) {
         Some((line, _)) => {
             let (words, count) = first_words(line);
-            has_comma(line) && are_no_comment(&words[..count])
+            let words = &words[..count];
+            parts_cells(line, words) && are_no_comment(words)
         }
         None => false,
     }

@@ -7,6 +7,7 @@ pub mod explaining_network;
 mod explaining_table;
 pub mod hints;
 pub mod json;
+mod left_word;
 pub mod model;
 pub mod network;
 pub mod report;

@@ -8,3 +8,4 @@ pub mod Out
 pub mod Coming
 pub mod FilledTold
 pub mod Waiting
+mod Told

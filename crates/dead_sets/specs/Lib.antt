@@ -3,3 +3,4 @@ pub mod Peeling
 pub mod Numbers
 pub mod Greatest
 pub mod FillingFlags
+pub mod Deciding

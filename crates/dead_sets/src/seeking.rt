@@ -7,51 +7,39 @@ ghost use Rattle.dead_sets.specs.FillingFlags.{filling_of, IsDeadBy, CanDeadlock
 use crate::dead_filling::is_dead_filling;
 use crate::filling::{FilledChannel, is_up};
 use crate::greatest::first_up;
-use crate::shrinking::{fewest_awaited, filled_by};
-use crate::staying::{ChoiceLists, dead_within};
+use crate::shrinking::{fewest_of, filled_by};
+use crate::staying::{ChoiceLists, Goals, dead_within, goals_of};
 use crate::stripping::strip;
 use network_judge::{Join, Kind, Reply};
 use std::alloc::{AllocError, Allocator};
 
+/// How often a search begins anew, at most.
+const RESTARTS: usize = 64;
+
 /// A filling of channels of a set: where some channels can't be filled, the first of them is struck out,
-/// and what packets can then leave, and the others are tried again.
+/// and what packets can then leave, and the others are tried again, so often at most.
 ///
 /// Errors: out of memory.
 fn filling_in<A: Allocator + Copy>(
     alloc: A,
     lists: &ChoiceLists<'_>,
+    goals: &Goals<A>,
     set: &[bool],
 ) -> Result<Vec<FilledChannel<A>, A>, AllocError> {
     let mut inner = Vec::from_slice(alloc, set)?;
-    for _ in 0..set.len() {
-        let stripped = strip(alloc, lists, &inner)?;
+    for _ in 0..RESTARTS {
+        let stripped = strip(alloc, lists, goals, &inner)?;
         match first_up(&stripped.left) {
             None => return Ok(stripped.items),
             Some(x) => {
                 if x < inner.len() {
                     inner[x] = false;
                 }
-                inner = dead_within(alloc, lists, inner)?;
+                inner = dead_within(alloc, lists, goals, inner)?;
             }
         }
     }
     Ok(Vec::new(alloc))
-}
-
-/// A filling of the fewest channels that packets in some channel of one wait for.
-///
-/// Errors: out of memory.
-fn smaller<A: Allocator + Copy>(
-    alloc: A,
-    lists: &ChoiceLists<'_>,
-    items: Vec<FilledChannel<A>, A>,
-) -> Result<Vec<FilledChannel<A>, A>, AllocError> {
-    let fewest = fewest_awaited(alloc, lists, &items)?;
-    let fewer = filling_in(alloc, lists, &fewest)?;
-    if fewer.is_empty() {
-        return Ok(items);
-    }
-    Ok(fewer)
 }
 
 /// A filling of other channels of one than a given one, or none.
@@ -60,6 +48,7 @@ fn smaller<A: Allocator + Copy>(
 fn filling_without<A: Allocator + Copy>(
     alloc: A,
     lists: &ChoiceLists<'_>,
+    goals: &Goals<A>,
     filled: Vec<bool, A>,
     x: usize,
 ) -> Result<Vec<FilledChannel<A>, A>, AllocError> {
@@ -67,17 +56,18 @@ fn filling_without<A: Allocator + Copy>(
     if x < inner.len() {
         inner[x] = false;
     }
-    let set = dead_within(alloc, lists, inner)?;
-    let items = filling_in(alloc, lists, &set)?;
-    smaller(alloc, lists, items)
+    let set = dead_within(alloc, lists, goals, inner)?;
+    let items = filling_in(alloc, lists, goals, &set)?;
+    fewest_of(alloc, lists, items)
 }
 
-/// A filling from which no channel can be left out.
+/// A filling from which no channel can be left out, as far as the search sees.
 ///
 /// Errors: out of memory.
 fn shrunk<A: Allocator + Copy>(
     alloc: A,
     lists: &ChoiceLists<'_>,
+    goals: &Goals<A>,
     items: Vec<FilledChannel<A>, A>,
 ) -> Result<Vec<FilledChannel<A>, A>, AllocError> {
     let mut best = items;
@@ -86,7 +76,7 @@ fn shrunk<A: Allocator + Copy>(
         if !is_up(&filled, x) {
             continue;
         }
-        let fewer = filling_without(alloc, lists, filled, x)?;
+        let fewer = filling_without(alloc, lists, goals, filled, x)?;
         if fewer.is_empty() {
             continue;
         }
@@ -95,12 +85,12 @@ fn shrunk<A: Allocator + Copy>(
     Ok(best)
 }
 
-/// Looks for channels of a set, such as the greatest dead set, that are a dead set which can be filled, the
-/// last of them first. From each that it finds no channel can be left out.
+/// Guesses channels of a set, such as the greatest dead set, that are a dead set which can be filled, the
+/// last of them first. Of those that it finds none can be left out so that it would find the others.
 ///
 /// It takes channels off the set that packets come to over channels which are not left in it. Where that ends
 /// before all are taken, it strikes out the first one that is left, with those that packets can then leave,
-/// and begins anew. So it may find none where there is one.
+/// and begins anew, 64 times at most. So it may find none where there is one.
 ///
 /// Errors: out of memory, and no other.
 pub fn find_filling<A: Allocator + Copy>(
@@ -127,8 +117,10 @@ pub fn find_filling<A: Allocator + Copy>(
         ways,
         choices,
     };
-    let first = filling_in(alloc, &lists, set)?;
-    let items = shrunk(alloc, &lists, smaller(alloc, &lists, first)?)?;
+    let goals = goals_of(alloc, &lists)?;
+    let first = filling_in(alloc, &lists, &goals, set)?;
+    let fewest = fewest_of(alloc, &lists, first)?;
+    let items = shrunk(alloc, &lists, &goals, fewest)?;
     if is_dead_filling(alloc, kinds, joins, replies, ways, choices, marks, &items)? {
         Ok(Some(items))
     } else {

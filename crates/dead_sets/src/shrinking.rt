@@ -95,7 +95,8 @@ fn await_behind<A: Allocator>(
     await_choices(lists, base, x, awaited)
 }
 
-/// The filled channels that packets in one of them wait for, it counted, and those in these, and so on.
+/// The filled channels that packets in one of them wait for, it counted, and those in these, and so on, until
+/// there are so many.
 ///
 /// Errors: out of memory.
 fn awaited_from<A: Allocator + Copy>(
@@ -104,14 +105,15 @@ fn awaited_from<A: Allocator + Copy>(
     filled: &[bool],
     goals: &[usize],
     start: usize,
+    most: usize,
 ) -> Result<Awaited<A>, AllocError> {
     let mut awaited = Awaited {
         flags: vec![in alloc; false; filled.len()]?,
         list: Vec::new(alloc),
     };
     await_one(start, &mut awaited)?;
-    for place in 0..filled.len() {
-        if place >= awaited.list.len() {
+    for place in 0..most {
+        if place >= awaited.list.len() || awaited.list.len() >= most {
             break;
         }
         let x = awaited.list[place];
@@ -123,7 +125,7 @@ fn awaited_from<A: Allocator + Copy>(
 /// The destination of the packets that fill each channel, and the number of channels where none do.
 ///
 /// Errors: out of memory.
-fn goals_of<A: Allocator + Copy>(
+fn destinations_of<A: Allocator + Copy>(
     alloc: A,
     count: usize,
     items: &[FilledChannel<A>],
@@ -159,31 +161,36 @@ pub(crate) fn filled_by<A: Allocator + Copy>(
 /// Flags of the fewest channels of a filling that packets in one of them wait for, and so on.
 ///
 /// Errors: out of memory.
-pub(crate) fn fewest_awaited<A: Allocator + Copy>(
+fn fewest_awaited<A: Allocator + Copy>(
     alloc: A,
     lists: &ChoiceLists<'_>,
     items: &[FilledChannel<A>],
 ) -> Result<Vec<bool, A>, AllocError> {
     let count = lists.kinds.len();
     let filled = filled_by(alloc, count, items)?;
-    let goals = goals_of(alloc, count, items)?;
-    let mut fewest = Awaited {
-        flags: filled,
-        list: Vec::new(alloc),
-    };
+    let goals = destinations_of(alloc, count, items)?;
+    let mut fewest = filled_by(alloc, count, items)?;
     let mut size = items.len();
     for place in 0..items.len() {
-        let awaited = awaited_from(
-            alloc,
-            lists,
-            &filled_by(alloc, count, items)?,
-            &goals,
-            items[place].at,
-        )?;
+        let awaited = awaited_from(alloc, lists, &filled, &goals, items[place].at, size)?;
         if awaited.list.len() < size {
             size = awaited.list.len();
-            fewest = awaited;
+            fewest = awaited.flags;
         }
     }
-    Ok(fewest.flags)
+    Ok(fewest)
+}
+
+/// The fewest channels of a filling that packets in one of them wait for, and so on: a filling, too.
+///
+/// Errors: out of memory.
+pub(crate) fn fewest_of<A: Allocator + Copy>(
+    alloc: A,
+    lists: &ChoiceLists<'_>,
+    items: Vec<FilledChannel<A>, A>,
+) -> Result<Vec<FilledChannel<A>, A>, AllocError> {
+    let fewest = fewest_awaited(alloc, lists, &items)?;
+    let mut fewer = items;
+    fewer.retain(|item| is_up(&fewest, item.at));
+    Ok(fewer)
 }

@@ -4,9 +4,9 @@
 ghost use Rattle.std.specs.Prelude.{◌≡◌, ◌+◌, ◌*◌, ◌<◌, ◌≤◌, length, slice_get, Some};
 ghost use Rattle.network_judge.specs.declared.table.Kind.TheVariants.{Ejection};
 
-use crate::filling::FilledChannel;
-use crate::staying::{ChoiceLists, stays};
-use network_adaptive::spread::{base_of, goes_on};
+use crate::filling::{FilledChannel, is_up};
+use crate::staying::{ChoiceLists, Goals, stays, waits_in};
+use network_adaptive::spread::{base_of, goes_on, list_of};
 use network_judge::walk::{cell, is_receiver, kind_at};
 use std::alloc::{AllocError, Allocator, Global};
 
@@ -96,19 +96,24 @@ fn come_from_senders<A: Allocator + Copy>(
     set: &[bool],
     base: usize,
     to: usize,
+    starts: &[usize],
     coming: &mut Coming<A>,
     stripped: &mut Stripped<A>,
 ) -> Result<(), AllocError>
     requires room { base + length lists.now.kinds.now * lists.now.ways ≤ length lists.now.choices.now }
 {
     let count = lists.kinds.len();
-    for place in 0..lists.joins.len() {
-        let pair = lists.joins[place];
-        if pair.to != to {
-            continue;
-        }
+    for place in 0..starts.len() {
         come(
-            alloc, lists, set, base, to, count, pair.from, coming, stripped,
+            alloc,
+            lists,
+            set,
+            base,
+            to,
+            count,
+            starts[place],
+            coming,
+            stripped,
         )?;
     }
     Ok(())
@@ -146,6 +151,7 @@ fn strip_to<A: Allocator + Copy>(
     lists: &ChoiceLists<'_>,
     set: &[bool],
     to: usize,
+    starts: &[usize],
     stripped: &mut Stripped<A>,
 ) -> Result<(), AllocError>
     requires { slice_get lists.now.kinds.now to ≡ Some Ejection }
@@ -157,7 +163,7 @@ fn strip_to<A: Allocator + Copy>(
         parents: vec![in alloc; count; count]?,
         list: Vec::new(alloc),
     };
-    come_from_senders(alloc, lists, set, base, to, &mut coming, stripped)?;
+    come_from_senders(alloc, lists, set, base, to, starts, &mut coming, stripped)?;
     for place in 0..count {
         if place >= coming.list.len() {
             break;
@@ -174,20 +180,45 @@ fn strip_to<A: Allocator + Copy>(
     Ok(())
 }
 
-/// Strips channels off a set by packets to each destination.
+/// Whether packets to a destination come to some of these channels that is left, and stay in a set.
+fn has_waiting(
+    lists: &ChoiceLists<'_>,
+    set: &[bool],
+    base: usize,
+    seen: &[bool],
+    listed: &[usize],
+    left: &[bool],
+) -> bool
+    requires room { base + length lists.now.kinds.now * lists.now.ways ≤ length lists.now.choices.now }
+{
+    for place in 0..listed.len() {
+        let x = listed[place];
+        if is_up(left, x) && waits_in(lists, set, base, seen, x) {
+            return true;
+        }
+    }
+    false
+}
+
+/// Strips channels off a set by packets to each destination that stay in some of them.
 ///
 /// Errors: out of memory.
 fn strip_once<A: Allocator + Copy>(
     alloc: A,
     lists: &ChoiceLists<'_>,
+    goals: &Goals<A>,
     set: &[bool],
+    listed: &[usize],
     stripped: &mut Stripped<A>,
 ) -> Result<(), AllocError> {
-    for to in 0..lists.kinds.len() {
-        if !is_receiver(kind_at(lists.kinds, to)) {
+    for to in 0..goals.comes.len() {
+        if to >= goals.starts.len() || !is_receiver(kind_at(lists.kinds, to)) {
             continue;
         }
-        strip_to(alloc, lists, set, to, stripped)?;
+        let base = base_of(lists.kinds, lists.ways, to);
+        if has_waiting(lists, set, base, &goals.comes[to], listed, &stripped.left) {
+            strip_to(alloc, lists, set, to, &goals.starts[to], stripped)?;
+        }
     }
     Ok(())
 }
@@ -198,15 +229,17 @@ fn strip_once<A: Allocator + Copy>(
 pub(crate) fn strip<A: Allocator + Copy>(
     alloc: A,
     lists: &ChoiceLists<'_>,
+    goals: &Goals<A>,
     set: &[bool],
 ) -> Result<Stripped<A>, AllocError> {
+    let listed = list_of(alloc, set)?;
     let mut stripped = Stripped {
         left: Vec::from_slice(alloc, set)?,
         items: Vec::new(alloc),
     };
     for _ in 0..set.len() {
         let before = stripped.items.len();
-        strip_once(alloc, lists, set, &mut stripped)?;
+        strip_once(alloc, lists, goals, set, &listed, &mut stripped)?;
         if stripped.items.len() == before {
             break;
         }

@@ -208,8 +208,28 @@ impl<A: Allocator + Copy> AskedMachine<A> {
         ensures { IfOk result (IsOpened self.now.core.shape self.now.core.depth self.now.core.tags
             (shown self.now.core).memory) }
     {
+        let opened = self.reopened_with_text(alloc)?;
+        let OpenedMachine {
+            machine,
+            text: _text,
+        } = opened;
+        Ok(machine)
+    }
+
+    /// Opens the same machine, and answers it with the machine text of which it was loaded.
+    ///
+    /// Errors: out of memory.
+    pub fn reopened_with_text(&self, alloc: A) -> Result<OpenedMachine<A>, AllocError>
+        ensures opened { IfOk result (λ o. IsOpened self.now.core.shape self.now.core.depth
+            self.now.core.tags (shown self.now.core).memory o.machine) }
+        ensures loaded { IfOk result
+            (λ o. HasLoaded (load_by (lines o.text.items) (lines [])) o.machine.core) }
+        ensures spins { IfOk result
+            (λ o. (l : Load) → load_by (lines o.text.items) (lines []) ≡ Ok l
+            → o.machine.spins ≡ map has_spin l.scripts) }
+    {
         let words = words_of(alloc, self.machine())?;
         let torus = *self.machine().torus();
-        AskedMachine::open(alloc, torus, self.depth(), self.tags(), words.as_slice())
+        AskedMachine::open_with_text(alloc, torus, self.depth(), self.tags(), words.as_slice())
     }
 }

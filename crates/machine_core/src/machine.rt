@@ -210,6 +210,15 @@ impl<A: Allocator> Machine<A> {
         )
     }
 
+    /// The rows of the one legal order of the operations so far, to look at: by the services, with the numbers
+    /// of the events.
+    #[inline(always)]
+    pub fn rows(&self) -> &[Ordered]
+        ensures { result.now ≡ self.now.book.rows }
+    {
+        self.book.rows()
+    }
+
     /// The one legal order of the operations so far, by the services, with the numbers of the events.
     ///
     /// Errors: `Fault::Memory` alone.
@@ -217,7 +226,7 @@ impl<A: Allocator> Machine<A> {
         ensures rows { IfOk result (λ rows. rows.items ≡ self.now.book.rows) }
         ensures fault { IfErr result (λ fault. fault ≡ Fault.Memory) }
     {
-        match Vec::from_slice(alloc, self.book.rows()) {
+        match Vec::from_slice(alloc, self.rows()) {
             Ok(rows) => Ok(rows),
             Err(_) => Err(Fault::Memory),
         }

@@ -17,18 +17,19 @@ use Rattle.machine_asked.proofs.Waiting.{on_after}
 use Rattle.machine_record.specs.declared.action.Action.{Action}
 use Rattle.machine_record.specs.declared.action.Action.TheVariants.{Move, Rounds, Clocked, ClockedRounds, FairRounds}
 use Rattle.machine_record.specs.declared.row.LineRow.{LineRow}
-use Rattle.machine_record.specs.Action.{action_number, is_narrow}
+use Rattle.machine_record.specs.Action.{is_narrow}
 use Rattle.machine_record.specs.Recording.{Recording, Room}
 use Rattle.machine_record.specs.Machine.{HasLineNumber, KeepsAction, KeepsRow, with_action, with_row}
 use Rattle.machine_record.specs.MachineInside.{RecordMakes}
 use Rattle.machine_record.specs.Replay.{acted, rounds_made, with_line}
-use Rattle.machine_record.proofs.Replays.{acts, clocked_is, clocked_rounds_are, idle_is, made_action, made_line, moved_is, rounds_is}
+use Rattle.machine_record.proofs.Joins.{made_action}
+use Rattle.machine_record.proofs.Replays.{clocked_is, clocked_rounds_are, idle_is, made_line, moved_is, rounds_is}
 
 -- an action more
 makes_action : (k : Option Recording) (v w : Asked) (a : Action) → is_narrow a ≡ true → RecordMakes k v → ((rows : List LineRow) → acted rows v a ≡ Some w)
-    → RecordMakes (option_map (with_action (action_number a)) k) w
+    → RecordMakes (option_map (with_action a) k) w
 makes_action None v w a narrow h did = tt
-makes_action (Some r) v w a narrow h did = made_action r (action_number a) v w h (acts r.rows v w a narrow (did r.rows))
+makes_action (Some r) v w a narrow h did = made_action r a v w narrow h did
 
 keeps_action : (old new : Option Recording) (room after : Room) (v w : Asked) (a : Action) → RecordMakes old v → ((rows : List LineRow) → acted rows v a ≡ Some w)
     → KeepsAction a old room new after → RecordMakes new w

@@ -3,7 +3,7 @@ use Rattle.std.proofs.Common.{◌≡◌, ◌⊎◌, inl, inr, ◌≤◌, ◌<◌
 use Rattle.script_lines.specs.declared.line.Line.{Line as ScriptLine}
 use Rattle.machine_record.specs.declared.action.Action.{Action}
 use Rattle.machine_record.specs.declared.record.Record.{Record}
-use Rattle.machine_record.specs.Action.{action_number, is_narrow}
+use Rattle.machine_record.specs.Action.{is_narrow, joined_last}
 use Rattle.machine_record.specs.Machine.{HasNoLessRoom, with_action, with_row}
 use Rattle.machine_record.specs.MachineInside.{KeepsRowWithin, KeepsWithin}
 use Rattle.machine_record.specs.Recorded.{recording_of, room_of}
@@ -14,7 +14,7 @@ keeps_none A a = inr (inr tt, refl)
 
 -- where it is put
 pub keeps_put : {A : Type 0} (a : Action) (old new : Record A) → is_narrow a ≡ true
-    → recording_of new ≡ with_action (action_number a) (recording_of old) → HasNoLessRoom (room_of (Some old)) (room_of (Some new))
+    → recording_of new ≡ with_action a (recording_of old) → HasNoLessRoom (room_of (Some old)) (room_of (Some new))
     → KeepsWithin {A = A} a (Some old) (Some new)
 keeps_put a old new narrow is room = inl (narrow, ap Some is, room)
 
@@ -23,10 +23,11 @@ pub ends_wide : {A : Type 0} (a : Action) (old : Option (Record A)) → is_narro
 ends_wide a old wide = inr (inl wide, refl)
 
 -- where it isn't put
-pub ends_full : {A : Type 0} (a : Action) (old : Record A) → (is_narrow a ≡ false) ⊎ (vec_capacity old.actions ≤ vec_len old.actions)
+pub ends_full : {A : Type 0} (a : Action) (old : Record A)
+    → (is_narrow a ≡ false) ⊎ ((joined_last old.actions.items a ≡ None) × (vec_capacity old.actions ≤ vec_len old.actions))
     → KeepsWithin {A = A} a (Some old) None
 ends_full a old (inl wide) = ends_wide a (Some old) wide
-ends_full a old (inr full) = inr (inr (subst (λ (n : ℕ). vec_capacity old.actions ≤ n) old.actions.ok.0 full), refl)
+ends_full a old (inr full) = inr (inr (full.0, subst (λ (n : ℕ). vec_capacity old.actions ≤ n) old.actions.ok.0 full.1), refl)
 
 -- what is kept of a line that a processor was handed, where there is no record: nothing
 pub keeps_no_row : (A : Type 0) (p : ℕ) (line : ScriptLine) → KeepsRowWithin {A = A} p line None None

@@ -1,8 +1,11 @@
 pub mod Pieces
 pub mod Actions
 pub mod Lines
+pub mod Checksums
 pub mod ReadBack
+pub mod OneByte
 pub mod Replays
 pub mod Keeps
 pub mod Restores
+pub mod Joins
 pub mod Kept

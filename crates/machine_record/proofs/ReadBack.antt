@@ -1,14 +1,16 @@
 -- The bytes of a record are read back as the record.
-use Rattle.std.proofs.Common.{◌≡◌, ℕ, zero, suc, ◌+◌, ◌*◌, ◌<◌, ◌^◌, List, [], ◌∷◌, ◌++◌, length, take, drop, Ok, refl, sym, ◌∙◌, ap, arith, append_assoc, length-append}
-use Rattle.std.specs.Prelude.{◌==◌, Bool, true, false, not, nat_lt, slice_index, slice_index_or, All, if◌then◌else◌, min, Result, Err}
-use Rattle.std.specs.Int.{w32, w64, from_le_bytes, to_le_bytes}
+use Rattle.std.proofs.Common.{◌≡◌, ℕ, suc, ◌+◌, ◌-◌, ◌*◌, ◌<◌, ◌≤◌, ◌^◌, List, [], ◌∷◌, ◌++◌, length, take, drop, Ok, refl, sym, ◌∙◌, ap, arith, append_assoc, length-append}
+use Rattle.std.specs.Prelude.{◌==◌, ◌&&◌, Bool, true, false, not, nat_lt, slice_index, All, if◌then◌else◌, min, Err}
+use Rattle.std.specs.Int.{w32, w64, from_le_bytes}
 use Rattle.std.specs.List.{flat_map}
-use Rattle.std.proofs.lemmas.List.{append-nil, get_or-append-add, take_at, drop_at, drop-drop, take_all}
-use Rattle.std.proofs.lemmas.Bool.{eq-eqb, le-ltb}
+use Rattle.std.proofs.lemmas.List.{append-nil, get_or-append-add, take_at, drop_at, drop-drop}
+use Rattle.std.proofs.lemmas.Bool.{eq-eqb, le-leb, le-ltb}
 use Rattle.std.proofs.lemmas.Nat.{from_le_bytes-to_le_bytes_4, from_le_bytes-to_le_bytes_8}
 use Rattle.machine_record.specs.declared.row.LineRow.{LineRow}
-use Rattle.machine_record.specs.Bytes.{half_bytes, head_bytes, number_bytes, record_bytes, row_bytes, the_mark, the_version}
-use Rattle.machine_record.specs.Reading.{actions_from, bytes_asked, half_in_bytes, number_in_bytes, record_in_bytes, record_headed, record_sized, row_in_bytes, rows_from}
+use Rattle.machine_record.specs.Bytes.{body_bytes, half_bytes, head_bytes, number_bytes, record_bytes, row_bytes, the_first_version, the_mark, the_version}
+use Rattle.machine_record.specs.Checksum.{checksum}
+use Rattle.machine_record.specs.Reading.{actions_from, body_in_bytes, bytes_asked, half_in_bytes, is_sealed, number_in_bytes, record_in_bytes, record_headed, record_sized}
+use Rattle.machine_record.specs.Reading.{row_in_bytes, rows_from, unsealed}
 use Rattle.machine_record.specs.Recording.{Recording}
 use Rattle.machine_record.specs.Widths.{HasWidths, IsHalf, IsRow}
 
@@ -132,7 +134,7 @@ module _ (r : Recording) (h : HasWidths r) where
   head = head_bytes r
 
   abbrev whole : List ℕ
-  whole = record_bytes r
+  whole = body_bytes r
 
   abbrev before_rows : List ℕ
   before_rows = (head ++ r.machine) ++ r.scripts
@@ -220,9 +222,61 @@ module _ (r : Recording) (h : HasWidths r) where
   versioned : (number_in_bytes whole 8 == the_version) ≡ true
   versioned = eq-eqb (number_in_bytes whole 8) the_version (from_le_bytes-to_le_bytes_8 the_version (omega arith))
 
-  read_back : record_in_bytes whole ≡ Ok r
-  read_back = picks (nat_lt (length whole) 48) (number_in_bytes whole 0 == the_mark) (number_in_bytes whole 8 == the_version) (Err (length whole)) (Err 0) (Err 8)
+  body_back : body_in_bytes the_version whole ≡ Ok r
+  body_back = picks (nat_lt (length whole) 48) (number_in_bytes whole 0 == the_mark) (number_in_bytes whole 8 == the_version) (Err (length whole)) (Err 0) (Err 8)
       (record_headed whole (number_in_bytes whole 16) (number_in_bytes whole 24) (number_in_bytes whole 32) (number_in_bytes whole 40)) long marked versioned ∙ numbered
+
+  -- with the checksum
+  abbrev bytes : List ℕ
+  bytes = record_bytes r
+
+  bytes_size : length bytes - 8 ≡ length whole
+  bytes_size =
+      let a = length-append whole (number_bytes (checksum whole)) in
+      let b : length (number_bytes (checksum whole)) ≡ 8 = refl in
+      omega (arith, a, b)
+
+  few : checksum whole < 2 ^ 64
+  few = omega arith
+
+  sum_back : number_in_bytes bytes (length whole) ≡ checksum whole
+  sum_back =
+      number_behind whole (number_bytes (checksum whole)) (length whole) 0 (omega arith)
+      ∙ from_le_bytes-to_le_bytes_8 (checksum whole) few
+
+  body_is : take (length whole) bytes ≡ whole
+  body_is = take_at whole (number_bytes (checksum whole)) (length whole) refl
+
+  sealed_so : is_sealed bytes ≡ true
+  sealed_so =
+      let long : 16 ≤ length bytes =
+      (let a = length-append whole (number_bytes (checksum whole)) in let s = size in omega (arith, a, s)) in
+      let is_two : (number_in_bytes bytes 8 == the_version) ≡ true =
+      eq-eqb (number_in_bytes bytes 8) the_version (from_le_bytes-to_le_bytes_8 the_version (omega arith)) in
+      (λ i. le-leb 16 (length bytes) long i && is_two i)
+
+  summed : unsealed bytes (length whole) ≡ Ok r
+  summed =
+      (λ i. if sum_back i == checksum (body_is i) then body_in_bytes the_version (body_is i) else Err (length whole))
+      ∙ (ap (λ (b : Bool). if b then body_in_bytes the_version whole else Err (length whole)) (eq-eqb (checksum whole) (checksum whole) refl) ∙ body_back)
+
+  read_back : record_in_bytes bytes ≡ Ok r
+  read_back =
+      ap (λ (b : Bool). if b then unsealed bytes (length bytes - 8) else body_in_bytes the_first_version bytes) sealed_so
+      ∙ (ap (unsealed bytes) bytes_size ∙ summed)
 
 pub bytes_read_back : (r : Recording) → HasWidths r → record_in_bytes (record_bytes r) ≡ Ok r
 bytes_read_back r h = read_back r h
+
+pub sealed_back : (r : Recording) (all body : List ℕ) (sum : ℕ) → HasWidths r → body ≡ body_bytes r → sum ≡ checksum body → all ≡ body ++ number_bytes sum
+    → record_in_bytes all ≡ Ok r
+sealed_back r all body sum h is summed put =
+    let one : sum ≡ checksum (body_bytes r) = summed ∙ ap checksum is in
+    ap record_in_bytes (put ∙ (λ i. is i ++ number_bytes (one i))) ∙ bytes_read_back r h
+
+-- bytes in front of their checksum
+pub unsealed_is : (bs : List ℕ) (at sum found : ℕ) → found ≡ number_in_bytes bs at → sum ≡ checksum (take at bs) → found ≡ sum
+    → unsealed bs at ≡ body_in_bytes the_version (take at bs)
+unsealed_is bs at sum found there is same =
+    ap (λ (b : Bool). if b then body_in_bytes the_version (take at bs) else Err at)
+    (eq-eqb (number_in_bytes bs at) (checksum (take at bs)) (sym there ∙ (same ∙ is)))

@@ -33,7 +33,7 @@ use Rattle.machine_record.specs.declared.row.LineRow.{LineRow}
 use Rattle.machine_record.specs.Action.{action_number, action_of, is_narrow}
 use Rattle.machine_record.specs.Row.{line_of_row, row_of_line}
 use Rattle.machine_record.specs.Recording.{Recording}
-use Rattle.machine_record.specs.Machine.{with_action, with_row}
+use Rattle.machine_record.specs.Machine.{with_row}
 use Rattle.machine_record.specs.Replay.{acted, acted_by, clocked_made, clocked_rounds_made, if_moved, if_taken, loaded, made_by, machine_moved, replayed, replayed_from, rounds_made, row_handed, with_line}
 use Rattle.machine_record.specs.Replayed.{ComesInTurn}
 use Rattle.machine_record.proofs.Actions.{number_back}
@@ -41,11 +41,11 @@ use Rattle.machine_record.specs.Widths.{HasFewLoads}
 use Rattle.machine_record.proofs.Lines.{line_back, processor_of}
 
 -- an action more
-push_first : (rows : List LineRow) (o : Option Asked) (xs : List ℕ) (n : ℕ) (w u : Asked)
-    → ((y : Asked) → replayed rows y xs ≡ Some w → replayed rows y (xs ++ n ∷ []) ≡ Some u)
-    → option_and_then (λ y. replayed rows y xs) o ≡ Some w → option_and_then (λ y. replayed rows y (xs ++ n ∷ [])) o ≡ Some u
-push_first rows None xs n w u rest h = absurd (cc)
-push_first rows (Some y) xs n w u rest h = rest y h
+pub both_from : (rows : List LineRow) (o : Option Asked) (xs ys : List ℕ) (w u : Asked)
+    → ((y : Asked) → replayed rows y xs ≡ Some w → replayed rows y ys ≡ Some u)
+    → option_and_then (λ y. replayed rows y xs) o ≡ Some w → option_and_then (λ y. replayed rows y ys) o ≡ Some u
+both_from rows None xs ys w u rest h = absurd (cc)
+both_from rows (Some y) xs ys w u rest h = rest y h
 
 pub replayed_push : (rows : List LineRow) (v : Asked) (xs : List ℕ) (n : ℕ) (w u : Asked) → replayed rows v xs ≡ Some w → acted_by rows w n ≡ Some u
     → replayed rows v (xs ++ n ∷ []) ≡ Some u
@@ -53,7 +53,7 @@ replayed_push rows v [] n w u h last =
     let same : v ≡ w = cc in
     ap (λ (x : Asked). option_and_then (λ y. Some y) (acted_by rows x n)) same ∙ ap (λ (o : Option Asked). option_and_then (λ y. Some y) o) last
 replayed_push rows v (x ∷ xs) n w u h last =
-    push_first rows (acted_by rows v x) xs n w u (λ y came. replayed_push rows y xs n w u came last) h
+    both_from rows (acted_by rows v x) xs (xs ++ n ∷ []) w u (λ y came. replayed_push rows y xs n w u came last) h
 
 -- further lines
 there_too : {X : Type 0} (xs ys : List X) (k : ℕ) (x : X) → slice_get xs k ≡ Some x → slice_get (xs ++ ys) k ≡ Some x
@@ -95,15 +95,6 @@ replayed_grown rows more v [] w h = h
 replayed_grown rows more v (x ∷ xs) w h =
     grown_first rows more (acted_by rows v x) (acted_by (rows ++ more) v x) xs w (λ y is. acted_by_grown rows more v (action_of x) y is)
     (λ y came. replayed_grown rows more y xs w came) h
-
--- a record with one action more
-from_load : (r : Recording) (n : ℕ) (v w : Asked) (x : Result Load LineFault) → replayed_from r x ≡ Some v → acted_by r.rows v n ≡ Some w
-    → replayed_from (with_action n r) x ≡ Some w
-from_load r n v w (Err e) h last = absurd (cc)
-from_load r n v w (Ok l) h last = replayed_push r.rows (loaded l) r.actions n v w h last
-
-pub made_action : (r : Recording) (n : ℕ) (v w : Asked) → made_by r ≡ Some v → acted_by r.rows v n ≡ Some w → made_by (with_action n r) ≡ Some w
-made_action r n v w h last = from_load r n v w (load_by (lines r.machine) (lines r.scripts)) h last
 
 -- an action that has a number
 pub acts : (rows : List LineRow) (v w : Asked) (a : Action) → is_narrow a ≡ true → acted rows v a ≡ Some w → acted_by rows v (action_number a) ≡ Some w

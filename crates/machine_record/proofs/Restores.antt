@@ -10,14 +10,16 @@ use Rattle.fair_rounds.specs.Guard.{usual_guard}
 use Rattle.machine_asked.specs.Asked.{Asked, has_spin}
 use Rattle.machine_record.specs.Reading.{record_in_bytes}
 use Rattle.machine_record.specs.Recording.{Recording, Room, fresh_record}
-use Rattle.machine_record.specs.Calls.{IsFreshCall, IsLoaded, IsMadeAgain, IsRestored, Stops}
+use Rattle.machine_record.specs.Calls.{IsFreshCall, IsLoaded, IsMadeAgain, IsRestored, RecordsAnew, Stops}
+use Rattle.machine_record.specs.Recorded.{recording_of}
+use Rattle.machine_record.specs.declared.record.Record.{Record}
 use Rattle.machine_record.specs.Machine.{AreAlikeMachines, Recorded}
 use Rattle.machine_record.specs.MachineInside.{RecordMakes}
 use Rattle.machine_record.specs.Replay.{loaded, made_by, replayed, replayed_from}
 use Rattle.machine_record.specs.Replayed.{Replays, StopsAtAction}
 use Rattle.machine_record.specs.declared.restoring.Unrestored.{Unrestored}
 use Rattle.machine_record.specs.declared.row.LineRow.{LineRow}
-use Rattle.std.specs.Prelude.{IfOk}
+use Rattle.std.specs.Prelude.{Bool, true, false, not, None, is_some, IfOk, option_map}
 
 -- a machine that is loaded
 pub loaded_is : (x : Result Load LineFault) (v : Asked) (h : HasLoaded x v.core) → ((l : Load) → x ≡ Ok l → v.spins ≡ map has_spin l.scripts)
@@ -100,3 +102,14 @@ pub restored_ok : (bs : List ℕ) (kept : Recording) (r : Result Recorded Unrest
     → IfOk r (IsRestored bs)
 restored_ok bs kept (Ok v) read made = record { kept = kept; read = read; made = made }
 restored_ok bs kept (Err why) read made = tt
+
+-- a machine that goes on behind one that keeps no record, and behind one that keeps one
+pub anew_without : {A : Type 0} (kept : Option (Record A)) (v : Recorded) (none : Bool) → is_some kept ≡ not none → none ≡ true → v.kept ≡ None
+    → RecordsAnew (option_map recording_of kept) v
+anew_without None v none is so without = without
+anew_without (Some r) v none is so without = absurd (cc)
+
+pub anew_with : {A : Type 0} (kept : Option (Record A)) (v : Recorded) (none : Bool) → is_some kept ≡ not none → none ≡ false → IsFreshCall v
+    → RecordsAnew (option_map recording_of kept) v
+anew_with None v none is not fresh = absurd (cc)
+anew_with (Some r) v none is not fresh = fresh

@@ -1,6 +1,6 @@
 -- The numbers of what is done to a machine (this project's own format).
-use Rattle.std.specs.Prelude.{ℕ, ◌+◌, ◌*◌, ◌/◌, ◌%◌, ◌^◌, ◌==◌, ◌&&◌, Bool, nat_lt, List, [], ◌∷◌, Option, Some, None}
-use Rattle.std.specs.Prelude.{if◌then◌else◌, option_map, slice_get}
+use Rattle.std.specs.Prelude.{ℕ, ◌+◌, ◌-◌, ◌*◌, ◌/◌, ◌%◌, ◌^◌, ◌==◌, ◌&&◌, Bool, nat_lt, List, [], ◌∷◌, ◌++◌, length}
+use Rattle.std.specs.Prelude.{if◌then◌else◌, Option, Some, None, option_and_then, option_map, slice_get, slice_set}
 use Rattle.torus.specs.declared.step.Step.{Step}
 use Rattle.torus.specs.declared.step.Choice.{Choice}
 use Rattle.torus.specs.declared.step.Choice.TheVariants.{Send, Take, TakeFrom, Put, Credit, CreditOf, Serve, Done, Look}
@@ -71,3 +71,37 @@ action_coded kind rest =
 -- the action that has a number
 abbrev pub action_of : ℕ → Option Action
 action_of number = action_coded (number % 16) (number / 16)
+
+-- rounds of a kind, as far as a number names them
+abbrev pub named_rounds : (ℕ → Action) → ℕ → Option Action
+named_rounds kind count = if is_narrow (kind count) then Some (kind count) else None
+
+-- what so many rounds, or fair rounds, and an action behind them are together
+abbrev pub rounds_joined : ℕ → Action → Option Action
+rounds_joined count (Rounds more) = named_rounds Rounds (count + more)
+rounds_joined count next = None
+
+abbrev pub fair_joined : ℕ → Action → Option Action
+fair_joined count (FairRounds more) = named_rounds FairRounds (count + more)
+fair_joined count next = None
+
+-- the one action that does what two do, one after the other: rounds of one kind, as far as a number names
+-- them
+abbrev pub joined : Action → Action → Option Action
+joined (Rounds count) next = rounds_joined count next
+joined (FairRounds count) next = fair_joined count next
+joined first next = None
+
+-- that of the last of some actions, by their numbers, and of one behind it
+abbrev pub joined_last : List ℕ → Action → Option Action
+joined_last numbers next =
+    option_and_then (λ last. joined last next) (option_and_then action_of (slice_get numbers (length numbers - 1)))
+
+-- some actions with this in the place of the last, or with one behind them
+abbrev pub actions_put : List ℕ → Action → Option Action → List ℕ
+actions_put numbers next (Some both) = slice_set numbers (length numbers - 1) (action_number both)
+actions_put numbers next None = numbers ++ action_number next ∷ []
+
+-- some actions and one more: it is joined to the last, or stands behind it
+abbrev pub actions_with : List ℕ → Action → List ℕ
+actions_with numbers next = actions_put numbers next (joined_last numbers next)

@@ -1,5 +1,5 @@
 -- What bytes and records make, and why they make nothing.
-use Rattle.std.specs.Prelude.{◌≡◌, ◌⊎◌, ℕ, List, [], Some, Ok, Err}
+use Rattle.std.specs.Prelude.{◌≡◌, ◌⊎◌, ℕ, List, [], Option, None, Some, Ok, Err}
 use Rattle.std.specs.Str.Lines.{lines}
 use Rattle.machine_parts.specs.Core.{Load}
 use Rattle.machine_core.specs.Loading.{load_by}
@@ -27,6 +27,12 @@ pub record IsMadeAgain (kept : Recording) (v : Recorded) : Type 0 where
 pub record IsFreshCall (v : Recorded) : Type 0 where
   pub text : List ℕ
   pub made : IsMadeAgain (fresh_record text []) v
+
+-- a machine that goes on behind another: it keeps a record, in which nothing is done so far, where the other
+-- one keeps a record, and else none
+abbrev pub RecordsAnew : Option Recording → Recorded → Type 0
+RecordsAnew None v = v.kept ≡ None
+RecordsAnew (Some before) v = IsFreshCall v
 
 -- the action of a number can't be done, where those before it can
 pub record Stops (kept : Recording) (at : ℕ) : Type 0 where

@@ -2,8 +2,10 @@ pub mod Action
 pub mod Row
 pub mod Recording
 pub mod Recorded
+pub mod Checksum
 pub mod Bytes
 pub mod Reading
+pub mod Changes
 pub mod Widths
 pub mod Replay
 pub mod Replayed

@@ -8,7 +8,7 @@ use Rattle.script_lines.specs.declared.line.Line.{Line as ScriptLine}
 use Rattle.machine_asked.specs.Asked.{Asked}
 use Rattle.machine_record.specs.declared.action.Action.{Action}
 use Rattle.machine_record.specs.declared.action.Action.TheVariants.{Move, Line}
-use Rattle.machine_record.specs.Action.{action_number, is_narrow}
+use Rattle.machine_record.specs.Action.{action_number, actions_with, is_narrow, joined_last}
 use Rattle.machine_record.specs.Row.{row_of_line}
 use Rattle.machine_record.specs.Recording.{Recording, Room}
 
@@ -23,13 +23,13 @@ pub record AreAlikeMachines (v w : Recorded) : Type 0 where
   pub asked : v.asked ≡ w.asked
   pub kept : v.kept ≡ w.kept
 
--- a record with the number of one action more
-abbrev pub with_action : ℕ → Recording → Recording
-with_action number r = record {
+-- a record with one action more
+abbrev pub with_action : Action → Recording → Recording
+with_action a r = record {
   machine = r.machine;
   scripts = r.scripts;
   rows = r.rows;
-  actions = r.actions ++ number ∷ [];
+  actions = actions_with r.actions a;
 }
 
 -- a record once a processor is handed a line
@@ -46,15 +46,18 @@ pub record HasNoLessRoom (old new : Room) : Type 0 where
   pub rows : old.rows ≤ new.rows
   pub actions : old.actions ≤ new.actions
 
--- why a record ends at an action: no number names it, or its room had no place for one more
-abbrev pub EndsAtAction : Action → Option Recording → Room → Type 0
-EndsAtAction a old room =
-    (is_narrow a ≡ false) ⊎ IfSome old (λ r. room.actions ≤ length r.actions)
+-- an action can't be joined to the last of a record, whose room has no place for one more
+abbrev pub HasNoPlace : Action → Room → Recording → Type 0
+HasNoPlace a room r = (joined_last r.actions a ≡ None) × (room.actions ≤ length r.actions)
 
--- An action is kept: the record has its number more. Or the record ends there: nothing is left of it.
+-- why a record ends at an action: no number names it, or there is no place for it
+abbrev pub EndsAtAction : Action → Option Recording → Room → Type 0
+EndsAtAction a old room = (is_narrow a ≡ false) ⊎ IfSome old (HasNoPlace a room)
+
+-- An action is kept: the record has it more. Or the record ends there: nothing is left of it.
 abbrev pub KeepsAction : Action → Option Recording → Room → Option Recording → Room → Type 0
 KeepsAction a old room new after =
-    ((is_narrow a ≡ true) × (new ≡ option_map (with_action (action_number a)) old)
+    ((is_narrow a ≡ true) × (new ≡ option_map (with_action a) old)
     × HasNoLessRoom room after)
     ⊎ (EndsAtAction a old room × (new ≡ None))
 

@@ -1,10 +1,11 @@
 -- The record that bytes are (this project's own format).
-use Rattle.std.specs.Prelude.{ℕ, zero, suc, ◌+◌, ◌*◌, ◌==◌, Bool, not, nat_lt, min, List, [], ◌∷◌, length, take, drop}
+use Rattle.std.specs.Prelude.{ℕ, zero, suc, ◌+◌, ◌-◌, ◌*◌, ◌==◌, ◌&&◌, Bool, not, nat_le, nat_lt, min, List, [], ◌∷◌, length, take, drop}
 use Rattle.std.specs.Prelude.{slice_index, Result, Ok, Err, if◌then◌else◌}
 use Rattle.std.specs.Int.{w32, w64, from_le_bytes}
 use Rattle.machine_record.specs.declared.row.LineRow.{LineRow}
 use Rattle.machine_record.specs.Recording.{Recording}
-use Rattle.machine_record.specs.Bytes.{the_mark, the_version}
+use Rattle.machine_record.specs.Bytes.{the_first_version, the_mark, the_version}
+use Rattle.machine_record.specs.Checksum.{checksum}
 
 -- the number of 4 bytes that stands at a place, and of 8
 abbrev pub half_in_bytes : List ℕ → ℕ → ℕ
@@ -67,11 +68,27 @@ record_headed bs machine scripts rows actions =
     then Ok (record_sized bs machine scripts rows actions)
     else Err (min (bytes_asked machine scripts rows actions) (length bs))
 
--- the record of bytes, or the place of what is no record's: their end, where a head is cut; a mark or a
--- version that is another; or where they end too early or too late
-abbrev pub record_in_bytes : List ℕ → Result Recording ℕ
-record_in_bytes bs =
+-- the record of bytes without a checksum, of this version, or the place of what is no record's: their end,
+-- where a head is cut; a mark or a version that is another; or where they end too early or too late
+abbrev pub body_in_bytes : ℕ → List ℕ → Result Recording ℕ
+body_in_bytes version bs =
     if nat_lt (length bs) 48 then Err (length bs)
     else (if not (number_in_bytes bs 0 == the_mark) then Err 0
-    else (if not (number_in_bytes bs 8 == the_version) then Err 8
+    else (if not (number_in_bytes bs 8 == version) then Err 8
     else record_headed bs (number_in_bytes bs 16) (number_in_bytes bs 24) (number_in_bytes bs 32) (number_in_bytes bs 40)))
+
+-- bytes say that a checksum stands behind them
+abbrev pub is_sealed : List ℕ → Bool
+is_sealed bs = nat_le 16 (length bs) && (number_in_bytes bs 8 == the_version)
+
+-- the record of bytes, of which the last eight, from a place on, are the checksum of those before them; or
+-- that place, where they aren't
+abbrev pub unsealed : List ℕ → ℕ → Result Recording ℕ
+unsealed bs at =
+    if number_in_bytes bs at == checksum (take at bs) then body_in_bytes the_version (take at bs)
+    else Err at
+
+-- the record of bytes, with a checksum or of the first version, or the place of what is no record's
+abbrev pub record_in_bytes : List ℕ → Result Recording ℕ
+record_in_bytes bs =
+    if is_sealed bs then unsealed bs (length bs - 8) else body_in_bytes the_first_version bs

@@ -2,7 +2,8 @@
 
 ghost use Rattle.std.specs.Prelude.{◌≡◌, ◌/◌, ◌%◌, true, option_map};
 ghost use Rattle.machine_record.specs.Action.{action_coded, action_number, action_of, choice_coded, choice_number};
-ghost use Rattle.machine_record.specs.Action.{is_narrow, move_recorded, port_of};
+ghost use Rattle.machine_record.specs.Action.{fair_joined, is_narrow, joined, move_recorded, named_rounds, port_of};
+ghost use Rattle.machine_record.specs.Action.{rounds_joined};
 
 use torus::{Choice, Step};
 
@@ -98,7 +99,61 @@ fn action_coded(kind: u32, rest: u32) -> Option<Action>
     }
 }
 
+/// So many rounds, where a record has a number for them.
+fn named_rounds(count: u64) -> Option<Action>
+    ensures { result ≡ named_rounds Action.Rounds count }
+{
+    if count < 268435456 {
+        Some(Action::Rounds(count as u32))
+    } else {
+        None
+    }
+}
+
+/// So many fair rounds, where a record has a number for them.
+fn named_fair_rounds(count: u64) -> Option<Action>
+    ensures { result ≡ named_rounds Action.FairRounds count }
+{
+    if count < 268435456 {
+        Some(Action::FairRounds(count as u32))
+    } else {
+        None
+    }
+}
+
+/// What so many rounds and an action behind them are together.
+fn rounds_joined(count: u32, next: Action) -> Option<Action>
+    ensures { result ≡ rounds_joined count next }
+{
+    match next {
+        Action::Rounds(more) => named_rounds(u64::from(count) + u64::from(more)),
+        _ => None,
+    }
+}
+
+/// What so many fair rounds and an action behind them are together.
+fn fair_joined(count: u32, next: Action) -> Option<Action>
+    ensures { result ≡ fair_joined count next }
+{
+    match next {
+        Action::FairRounds(more) => named_fair_rounds(u64::from(count) + u64::from(more)),
+        _ => None,
+    }
+}
+
 impl Action {
+    /// The one action that does what this one and the next do, one after the other: rounds of one kind, fewer
+    /// than 2^28 in all. `None` exactly where there is none.
+    pub fn joined(self, next: Action) -> Option<Action>
+        ensures { result ≡ joined self next }
+    {
+        match self {
+            Action::Rounds(count) => rounds_joined(count, next),
+            Action::FairRounds(count) => fair_joined(count, next),
+            _ => None,
+        }
+    }
+
     /// Whether a record has a number for it: an agent is below 65536, an input or output below 4096, and
     /// rounds, lines and turns below 2^28.
     pub fn is_narrow(self) -> bool

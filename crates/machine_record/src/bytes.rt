@@ -1,11 +1,12 @@
 //! The bytes of a record.
 
 ghost use Rattle.std.specs.Prelude.{◌≡◌, ◌++◌, ◌<◌, ◌^◌, All, IfOk, Ok, OnOk, flat_map, length};
-ghost use Rattle.machine_record.specs.Bytes.{half_bytes, head_bytes, number_bytes, record_bytes, row_bytes};
+ghost use Rattle.machine_record.specs.Bytes.{body_bytes, half_bytes, head_bytes, number_bytes, record_bytes, row_bytes};
 ghost use Rattle.machine_record.specs.Reading.{record_in_bytes};
 ghost use Rattle.machine_record.specs.Recorded.{recording_of};
 ghost use Rattle.machine_record.specs.Widths.{HasLengths, HasWidths, IsHalf, IsRow};
 
+use crate::checksum::checksum;
 use crate::record::Record;
 use crate::row::LineRow;
 use std::alloc::{AllocError, Allocator};
@@ -13,8 +14,10 @@ use std::alloc::{AllocError, Allocator};
 /// The mark that a record begins with, the bytes `torusmem` read as a number.
 pub(crate) const MARK: u64 = 7882827065441021812;
 
-/// The version of the format.
-pub(crate) const VERSION: u64 = 1;
+/// The version of the format, and that of records without a checksum.
+pub(crate) const VERSION: u64 = 2;
+
+pub(crate) const FIRST_VERSION: u64 = 1;
 
 /// Puts a number of 8 bytes.
 fn put_number<A: Allocator>(bytes: &mut Vec<u8, A>, number: u64) -> Result<(), AllocError>
@@ -88,12 +91,12 @@ fn put_actions<A: Allocator>(bytes: &mut Vec<u8, A>, actions: &[u32]) -> Result<
     Ok(())
 }
 
-/// The bytes of a record, whose numbers have their widths.
-fn bytes_put<A: Allocator, B: Allocator>(
+/// What a record has before its checksum. Its numbers have their widths.
+fn body_put<A: Allocator, B: Allocator>(
     alloc: A,
     kept: &Record<B>,
 ) -> Result<Vec<u8, A>, AllocError>
-    ensures bytes { IfOk result (λ bytes. bytes.items ≡ record_bytes (recording_of kept.now)) }
+    ensures bytes { IfOk result (λ bytes. bytes.items ≡ body_bytes (recording_of kept.now)) }
     ensures fit { OnOk result (HasWidths (recording_of kept.now)) }
 {
     let mut bytes = Vec::new(alloc);
@@ -113,6 +116,8 @@ pub fn bytes_of<A: Allocator, B: Allocator>(
     ensures bytes { IfOk result (λ bytes. bytes.items ≡ record_bytes (recording_of kept.now)) }
     ensures back { IfOk result (λ bytes. record_in_bytes bytes.items ≡ Ok (recording_of kept.now)) }
 {
-    let bytes = bytes_put(alloc, kept)?;
+    let mut bytes = body_put(alloc, kept)?;
+    let sum = checksum(&bytes);
+    put_number(&mut bytes, sum)?;
     Ok(bytes)
 }

@@ -1,7 +1,8 @@
 //! What is kept of what is done to a machine: nothing, or a record.
 
-ghost use Rattle.std.specs.Prelude.{◌≡◌, ◌⊎◌, ◌<◌, ◌≤◌, true, false, OnErr, OnOk, Some, length, vec_capacity, vec_len};
-ghost use Rattle.machine_record.specs.Action.{action_number, is_narrow};
+ghost use Rattle.std.specs.Prelude.{◌≡◌, ◌⊎◌, ◌<◌, ◌≤◌, true, false, OnErr, OnOk, None, Some, length, vec_capacity, vec_len};
+ghost use Rattle.std.specs.Prelude.{option_and_then};
+ghost use Rattle.machine_record.specs.Action.{action_of, is_narrow, joined, joined_last};
 ghost use Rattle.machine_record.specs.Recorded.{recording_of, room_of};
 ghost use Rattle.machine_record.specs.Machine.{HasNoLessRoom, with_action, with_row};
 ghost use Rattle.machine_record.specs.MachineInside.{KeepsRowWithin, KeepsWithin};
@@ -13,22 +14,50 @@ use std::alloc::{AllocError, Allocator};
 /// One more than the greatest number of rounds, and of lines, that a record can name.
 const MOST: u64 = 268435456;
 
-/// Puts an action behind a record.
+/// What the action of a number and one behind it are together; `None` where they can't be joined.
+#[tactic(auto, using(crate::proofs::Joins::joins_no_move, crate::proofs::Joins::joins_no_line, crate::proofs::Joins::joins_no_clocked))]
+#[inline(always)]
+fn joined_by(number: u32, next: Action) -> Option<Action>
+    ensures { result ≡ option_and_then (λ last. joined last next) (action_of number) }
+{
+    match next {
+        Action::Rounds(_) | Action::FairRounds(_) => Action::of_number(number)?.joined(next),
+        _ => None,
+    }
+}
+
+/// What the last action of a record and one behind it are together.
+#[inline(always)]
+fn joined_last(actions: &[u32], next: Action) -> Option<Action>
+    ensures { result ≡ joined_last actions.now next }
+{
+    match actions.len() {
+        0 => None,
+        count => joined_by(actions[count - 1], next),
+    }
+}
+
+/// Puts an action behind a record: it is joined to the last, where that can be.
 ///
 /// Errors: no number names it, or out of memory.
 #[inline(always)]
 fn put<A: Allocator>(kept: &mut Record<A>, action: Action) -> Result<(), AllocError>
     ensures put { OnOk result ((is_narrow action ≡ true)
-        × (recording_of kept.new
-        ≡ with_action (action_number action) (recording_of kept.old))
+        × (recording_of kept.new ≡ with_action action (recording_of kept.old))
         × HasNoLessRoom (room_of (Some kept.old)) (room_of (Some kept.new))) }
     ensures full { OnErr result ((is_narrow action ≡ false)
-        ⊎ (vec_capacity kept.old.actions ≤ vec_len kept.old.actions)) }
+        ⊎ ((joined_last kept.old.actions.items action ≡ None)
+        × (vec_capacity kept.old.actions ≤ vec_len kept.old.actions))) }
 {
     if !action.is_narrow() {
         return Err(AllocError);
     }
-    kept.actions.push(action.number())?;
+    let Some(both) = joined_last(&kept.actions, action) else {
+        kept.actions.push(action.number())?;
+        return Ok(());
+    };
+    let last = kept.actions.len() - 1;
+    kept.actions[last] = both.number();
     Ok(())
 }
 

@@ -4,7 +4,9 @@
 
 pub mod action;
 pub mod bytes;
+pub mod checksum;
 pub mod clocked;
+pub mod going_on;
 mod keeping;
 pub mod laws;
 pub mod reading;

@@ -1,11 +1,12 @@
 //! The record that bytes are.
 
 ghost use Rattle.std.specs.Prelude.{◌≡◌, ℕ, ◌+◌, ◌*◌, ◌≤◌, ◌⊎◌, IfOk, IfErr, Ok, Err, length};
-ghost use Rattle.machine_record.specs.Reading.{actions_from, bytes_asked, half_in_bytes, number_in_bytes, record_headed, record_in_bytes};
-ghost use Rattle.machine_record.specs.Reading.{record_sized, row_in_bytes, rows_from};
+ghost use Rattle.machine_record.specs.Reading.{actions_from, body_in_bytes, bytes_asked, half_in_bytes, is_sealed, number_in_bytes};
+ghost use Rattle.machine_record.specs.Reading.{record_headed, record_in_bytes, record_sized, row_in_bytes, rows_from, unsealed};
 ghost use Rattle.machine_record.specs.Recorded.{recording_of};
 
-use crate::bytes::{MARK, VERSION};
+use crate::bytes::{FIRST_VERSION, MARK, VERSION};
+use crate::checksum::checksum;
 use crate::record::Record;
 use crate::row::LineRow;
 use std::alloc::{AllocError, Allocator};
@@ -154,13 +155,13 @@ fn record_headed<A: Allocator + Copy>(
     }
 }
 
-/// The record that bytes are.
+/// The record of bytes without a checksum, of this version.
 ///
 /// Errors: out of memory; or the place of what is no record's.
-pub fn record_of<A: Allocator + Copy>(alloc: A, bytes: &[u8]) -> Result<Record<A>, Unread>
-    ensures ok { IfOk result (λ kept. record_in_bytes bytes.now ≡ Ok (recording_of kept)) }
+fn body_of<A: Allocator + Copy>(alloc: A, bytes: &[u8], version: u64) -> Result<Record<A>, Unread>
+    ensures ok { IfOk result (λ kept. body_in_bytes version bytes.now ≡ Ok (recording_of kept)) }
     ensures err { IfErr result (λ why. (why ≡ Unread.Memory)
-        ⊎ ((place : ℕ) × (why ≡ Unread.At place) × (record_in_bytes bytes.now ≡ Err place))) }
+        ⊎ ((place : ℕ) × (why ≡ Unread.At place) × (body_in_bytes version bytes.now ≡ Err place))) }
 {
     if bytes.len() < 48 {
         return Err(Unread::At(bytes.len() as u64));
@@ -168,7 +169,7 @@ pub fn record_of<A: Allocator + Copy>(alloc: A, bytes: &[u8]) -> Result<Record<A
     if number_at(bytes, 0) != MARK {
         return Err(Unread::At(0));
     }
-    if number_at(bytes, 8) != VERSION {
+    if number_at(bytes, 8) != version {
         return Err(Unread::At(8));
     }
     record_headed(
@@ -179,4 +180,42 @@ pub fn record_of<A: Allocator + Copy>(alloc: A, bytes: &[u8]) -> Result<Record<A
         number_at(bytes, 32),
         number_at(bytes, 40),
     )
+}
+
+/// Whether bytes say that a checksum stands behind them.
+fn is_sealed(bytes: &[u8]) -> bool
+    ensures { result ≡ is_sealed bytes.now }
+{
+    bytes.len() >= 16 && number_at(bytes, 8) == VERSION
+}
+
+/// The record of bytes, of which the last eight, from a place on, are the checksum of those before them.
+///
+/// Errors: out of memory; or the place of what is no record's: that one, where they are another number.
+fn unsealed<A: Allocator + Copy>(alloc: A, bytes: &[u8], at: usize) -> Result<Record<A>, Unread>
+    requires { at + 8 ≤ length bytes.now }
+    ensures ok { IfOk result (λ kept. unsealed bytes.now at ≡ Ok (recording_of kept)) }
+    ensures err { IfErr result (λ why. (why ≡ Unread.Memory)
+        ⊎ ((place : ℕ) × (why ≡ Unread.At place) × (unsealed bytes.now at ≡ Err place))) }
+{
+    let body = &bytes[..at];
+    if number_at(bytes, at) != checksum(body) {
+        return Err(Unread::At(at as u64));
+    }
+    body_of(alloc, body, VERSION)
+}
+
+/// The record that bytes are, with a checksum or of the first version.
+///
+/// Errors: out of memory; or the place of what is no record's.
+pub fn record_of<A: Allocator + Copy>(alloc: A, bytes: &[u8]) -> Result<Record<A>, Unread>
+    ensures ok { IfOk result (λ kept. record_in_bytes bytes.now ≡ Ok (recording_of kept)) }
+    ensures err { IfErr result (λ why. (why ≡ Unread.Memory)
+        ⊎ ((place : ℕ) × (why ≡ Unread.At place) × (record_in_bytes bytes.now ≡ Err place))) }
+{
+    if is_sealed(bytes) {
+        unsealed(alloc, bytes, bytes.len() - 8)
+    } else {
+        body_of(alloc, bytes, FIRST_VERSION)
+    }
 }

@@ -1,5 +1,5 @@
 -- Flags of where packets begin, and of where they come then.
-use Rattle.std.proofs.Common.{◌≡◌, ◌≢◌, ◌⊎◌, inl, inr, ⊎_elim, ℕ, suc, ◌<◌, Bool, true, false, List, [], length, set, replicate, refl, sym, ◌∙◌, ap, subst, arith}
+use Rattle.std.proofs.Common.{◌≡◌, ◌≢◌, ◌⊎◌, inl, inr, ⊎_elim, ℕ, suc, ◌<◌, ◌≤◌, Bool, true, false, List, [], length, set, replicate, refl, sym, ◌∙◌, ap, subst, arith}
 use Rattle.std.proofs.lemmas.Bool.{cases_lt}
 use Rattle.std.proofs.lemmas.List.{length-set, length-replicate, get_or-replicate, get_or_past}
 use Rattle.network_judge.specs.declared.table.Kind.{Kind}
@@ -53,7 +53,18 @@ module _ (joins : List Join) (j : ℕ) where
     ];
   }
 
-  pub all_begun : (m : ℕ) (old new : List Bool) → m ≡ length joins → HasBegunSo joins j m old new → HasBegun joins j old new
+  pub skip_begun : (p m : ℕ) (old seen : List Bool) → p ≤ m → ((q : ℕ) → p ≤ q → q < m → (join_at t q).to ≢ j) → HasBegunSo joins j p old seen
+      → HasBegunSo joins j m old seen
+  skip_begun p m old seen le others h = record {
+    size = h.size;
+    only = h.only;
+    all = λ q l same. elim (cases_lt q p) [
+      | inl less ↦ h.all q less same
+      | inr high ↦ absurd (others q (omega arith) l same)
+    ];
+  }
+
+  pub all_begun : (m : ℕ) (old new : List Bool) → length joins ≤ m → HasBegunSo joins j m old new → HasBegun joins j old new
   all_begun m old new e h = record {
     size = h.size;
     only = h.only;

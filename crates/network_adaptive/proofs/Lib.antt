@@ -3,6 +3,7 @@ pub mod Listed
 pub mod Spreading
 pub mod Bases
 pub mod Begins
+pub mod Pairs
 pub mod Lowered
 pub mod Bare
 pub mod Puts

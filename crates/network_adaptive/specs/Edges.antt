@@ -1,6 +1,7 @@
 -- Lists of edges.
 use Rattle.std.specs.Prelude.{ℕ, List}
 use Rattle.rising.specs.declared.edge.Edge.{Edge}
+use Rattle.network_judge.specs.declared.table.Join.{Join}
 use Rattle.network_judge.specs.declared.table.Reply.{Reply}
 use Rattle.network_adaptive.specs.Flags.{IsEdgeOf}
 
@@ -17,3 +18,7 @@ pub record AreSame (edges others : List Edge) : Type 0 where
 -- the edge of a reply
 abbrev pub reply_edge : Reply → Edge
 reply_edge r = record { from = r.from; to = r.to }
+
+-- the edge of a source-destination pair, from its destination to its source
+abbrev pub pair_edge : Join → Edge
+pair_edge p = record { from = p.to; to = p.from }

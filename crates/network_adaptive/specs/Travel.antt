@@ -38,6 +38,10 @@ IsTravel n (Round r) = CanGoRound n r.to r.at
 abbrev pub chosen_at : List ℕ → ℕ → ℕ → ℕ → ℕ → ℕ
 chosen_at choices base ways x place = slice_index choices (base + x * ways + place)
 
+-- whether packets come to channel x, where a flag is up, and go on from it
+abbrev pub is_left : List Kind → List Bool → ℕ → Bool
+is_left kinds seen x = is_marked_at seen x && leads_on kinds x
+
 -- whether packets that come where a flag is up go on so
 abbrev pub is_taken : List Kind → List ℕ → ℕ → ℕ → List Bool → ℕ → ℕ → Bool
 is_taken kinds choices base ways seen x place =

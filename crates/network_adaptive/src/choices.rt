@@ -2,7 +2,7 @@
 
 ghost use Rattle.std.specs.Prelude.{◌≡◌, ◌+◌, ◌*◌, ◌<◌, ◌≤◌, length, slice_index};
 ghost use Rattle.rising.specs.Chains.{IsNextColumn};
-ghost use Rattle.network_adaptive.specs.Travel.{chosen_at, choice_graph, is_taken};
+ghost use Rattle.network_adaptive.specs.Travel.{chosen_at, choice_graph, is_left};
 
 use crate::spread::goes_on;
 use network_judge::Kind;
@@ -36,14 +36,12 @@ impl<'a> Choices<'a> {
         self.choices[self.base + cell(self.kinds.len(), self.ways, x, place)] as usize
     }
 
-    /// Whether packets go on so.
-    pub(crate) fn takes(&self, x: usize, place: usize) -> bool
+    /// Whether packets that come to a channel go on from it.
+    pub(crate) fn goes_on(&self, x: usize) -> bool
         requires x { x < length self.now.kinds.now }
-        requires place { place < self.now.ways }
-        ensures { result ≡ is_taken self.now.kinds.now self.now.choices.now self.now.base
-            self.now.ways self.now.seen.now x place }
+        ensures { result ≡ is_left self.now.kinds.now self.now.seen.now x }
     {
-        self.seen[x] && (goes_on(self.kinds, x) && self.choice(x, place) < self.kinds.len())
+        self.seen[x] && goes_on(self.kinds, x)
     }
 
     /// The first place from one on at which packets go on from a channel, or the number of places.
@@ -53,8 +51,11 @@ impl<'a> Choices<'a> {
         ensures { IsNextColumn (choice_graph self.now.kinds.now self.now.choices.now self.now.base
             self.now.ways self.now.seen.now) x place result }
     {
+        if !self.goes_on(x) {
+            return self.ways;
+        }
         let mut at = place;
-        while at < self.ways && !self.takes(x, at) {
+        while at < self.ways && self.choice(x, at) >= self.kinds.len() {
             at += 1;
         }
         at

@@ -1,15 +1,18 @@
 //! Where packets come, and what they wait for.
 
 ghost use Rattle.std.specs.Prelude.{◌≡◌, ◌+◌, ◌*◌, ◌<◌, ◌≤◌, ◌⊎◌, ℕ, Bool, true, false, []};
-ghost use Rattle.std.specs.Prelude.{length, IfOk, OnOk, MatchOption};
+ghost use Rattle.std.specs.Prelude.{length, map, IfOk, OnOk, MatchOption};
 ghost use Rattle.network_judge.specs.Table.{table_of, joins_of};
 ghost use Rattle.network_adaptive.specs.Spread.{choice_step, AreFlagsOf};
 ghost use Rattle.network_adaptive.specs.Flags.{HasBegun, AreDown, AreComes, AreBehind, IsEscape};
 ghost use Rattle.network_adaptive.specs.Flags.{IsFirstBare, HasNoBare};
+ghost use Rattle.network_adaptive.specs.Edges.{pair_edge};
 
 use crate::spread::{goes_on, list_of, spread};
 use network_judge::walk::cell;
 use network_judge::{Join, Kind};
+use rising::Graph;
+use rising::chains::Chains;
 use std::alloc::{AllocError, Allocator, Global};
 
 /// Channels that packets come to.
@@ -58,6 +61,52 @@ pub fn comes_to<A: Allocator + Copy>(
 {
     let mut seen = vec![in alloc; false; kinds.len()]?;
     begin(kinds.len(), joins, to, &mut seen);
+    let mut list = list_of(alloc, &seen)?;
+    spread(kinds, choices, base, ways, none, &mut seen, &mut list)?;
+    Ok(seen)
+}
+
+/// Raises the flags of the channels that packets to a channel begin in, where the edges of the pairs are
+/// chained.
+fn begin_by<'a, A: Allocator>(joins: &[Join], pairs: &Chains<'a, A>, to: usize, seen: &mut [bool])
+    requires pairs { pairs.now.edges.now ≡ map pair_edge joins.now }
+    requires to { to < pairs.now.nodes }
+    requires size { length seen.old ≡ pairs.now.nodes }
+    ensures { HasBegun joins.now to seen.old seen.new }
+{
+    let mut k = pairs.first(to);
+    'pairs: while k < joins.len() {
+        let source = pairs.end(to, k);
+        seen[source] = true;
+        k = pairs.next(to, k);
+    }
+}
+
+/// Flags of the channels that packets to a channel come to, where the edges of the pairs are chained.
+///
+/// Errors: out of memory.
+pub fn comes_by<'a, A: Allocator + Copy>(
+    alloc: A,
+    kinds: &[Kind],
+    joins: &[Join],
+    pairs: &Chains<'a, A>,
+    choices: &[u32],
+    base: usize,
+    ways: usize,
+    none: &[bool],
+    to: usize,
+) -> Result<Vec<bool, A>, AllocError>
+    requires room { base + length kinds.now * ways ≤ length choices.now }
+    requires shut { length none.now ≡ length kinds.now }
+    requires pairs { pairs.now.edges.now ≡ map pair_edge joins.now }
+    requires nodes { pairs.now.nodes ≡ length kinds.now }
+    requires to { to < length kinds.now }
+    ensures { IfOk result (λ v.
+        AreComes kinds.now joins.now
+        (choice_step kinds.now choices.now base ways none.now) to v.items) }
+{
+    let mut seen = vec![in alloc; false; kinds.len()]?;
+    begin_by(joins, pairs, to, &mut seen);
     let mut list = list_of(alloc, &seen)?;
     spread(kinds, choices, base, ways, none, &mut seen, &mut list)?;
     Ok(seen)

@@ -1,6 +1,6 @@
 //! The dependencies of a cycle: each channel, and how it leads on to the next.
 
-ghost use Rattle.std.specs.Prelude.{◌≡◌, ◌+◌, ◌*◌, ◌^◌, ◌<◌, ◌≤◌, ℕ, true, [], length, IfOk, slice_get, Some};
+ghost use Rattle.std.specs.Prelude.{◌≡◌, ◌+◌, ◌*◌, ◌^◌, ◌<◌, ◌≤◌, ℕ, true, [], length, map, IfOk, slice_get, Some};
 ghost use Rattle.network_judge.specs.Table.{table_of, joins_of, ejects};
 ghost use Rattle.std.specs.List.{count_by};
 ghost use Rattle.network_judge.specs.declared.table.Kind.TheVariants.{Ejection};
@@ -8,13 +8,15 @@ ghost use Rattle.rising.specs.Search.{path_look};
 ghost use Rattle.network_adaptive.specs.Flags.{AreDown};
 ghost use Rattle.network_adaptive.specs.Between.{MayWait, IsHowOver, IsWaitingLook, IsHow};
 ghost use Rattle.network_adaptive.specs.Between.{IsDependencyOf, AreDependencies};
+ghost use Rattle.network_adaptive.specs.Edges.{pair_edge};
 
 use crate::between::{leads_to_wait, way_between};
-use crate::comes::comes_to;
+use crate::comes::comes_by;
 use crate::spread::base_of;
 use crate::verdict::{Dependency, How};
 use network_judge::walk::{is_receiver, kind_at};
 use network_judge::{Join, Kind, Reply};
+use rising::chains::Chains;
 use rising::{Edge, Look};
 use std::alloc::{AllocError, Allocator};
 
@@ -22,10 +24,11 @@ use std::alloc::{AllocError, Allocator};
 /// goes to, and over which channels it goes.
 ///
 /// Errors: out of memory.
-fn how_it_waits<A: Allocator + Copy>(
+fn how_it_waits<'a, A: Allocator + Copy>(
     alloc: A,
     kinds: &[Kind],
     joins: &[Join],
+    pairs: &Chains<'a, A>,
     choices: &[u32],
     ways: usize,
     marks: &[bool],
@@ -36,6 +39,8 @@ fn how_it_waits<A: Allocator + Copy>(
     requires room { count_by ejects kinds.now * (length kinds.now * ways) ≤ length choices.now }
     requires marks { length marks.now ≡ length kinds.now }
     requires none { length none.now ≡ length kinds.now }
+    requires pairs { pairs.now.edges.now ≡ map pair_edge joins.now }
+    requires nodes { pairs.now.nodes ≡ length kinds.now }
     requires within { (i j : ℕ) → joins_of (table_of [] joins.now []) i j ≡ true
         → i < length kinds.now }
     requires receivers { (i j : ℕ) → joins_of (table_of [] joins.now []) i j ≡ true
@@ -49,7 +54,7 @@ fn how_it_waits<A: Allocator + Copy>(
             continue;
         }
         let base = base_of(kinds, ways, to);
-        let seen = comes_to(alloc, kinds, joins, choices, base, ways, none, to)?;
+        let seen = comes_by(alloc, kinds, joins, pairs, choices, base, ways, none, to)?;
         if !seen[x] {
             continue;
         }
@@ -65,10 +70,11 @@ fn how_it_waits<A: Allocator + Copy>(
 /// wait for, and behind them the replies.
 ///
 /// Errors: out of memory.
-fn dependency_of<A: Allocator + Copy>(
+fn dependency_of<'a, A: Allocator + Copy>(
     alloc: A,
     kinds: &[Kind],
     joins: &[Join],
+    pairs: &Chains<'a, A>,
     replies: &[Reply],
     choices: &[u32],
     ways: usize,
@@ -80,6 +86,8 @@ fn dependency_of<A: Allocator + Copy>(
     requires room { count_by ejects kinds.now * (length kinds.now * ways) ≤ length choices.now }
     requires marks { length marks.now ≡ length kinds.now }
     requires none { length none.now ≡ length kinds.now }
+    requires pairs { pairs.now.edges.now ≡ map pair_edge joins.now }
+    requires nodes { pairs.now.nodes ≡ length kinds.now }
     requires within { (i j : ℕ) → joins_of (table_of [] joins.now []) i j ≡ true
         → i < length kinds.now }
     requires receivers { (i j : ℕ) → joins_of (table_of [] joins.now []) i j ≡ true
@@ -94,6 +102,7 @@ fn dependency_of<A: Allocator + Copy>(
             alloc,
             kinds,
             joins,
+            pairs,
             choices,
             ways,
             marks,
@@ -116,10 +125,11 @@ fn dependency_of<A: Allocator + Copy>(
 /// Each channel of a path, and how it leads on in its column.
 ///
 /// Errors: out of memory.
-pub fn dependencies_of<A: Allocator + Copy>(
+pub fn dependencies_of<'a, A: Allocator + Copy>(
     alloc: A,
     kinds: &[Kind],
     joins: &[Join],
+    pairs: &Chains<'a, A>,
     replies: &[Reply],
     choices: &[u32],
     ways: usize,
@@ -131,6 +141,8 @@ pub fn dependencies_of<A: Allocator + Copy>(
     requires room { count_by ejects kinds.now * (length kinds.now * ways) ≤ length choices.now }
     requires marks { length marks.now ≡ length kinds.now }
     requires none { length none.now ≡ length kinds.now }
+    requires pairs { pairs.now.edges.now ≡ map pair_edge joins.now }
+    requires nodes { pairs.now.nodes ≡ length kinds.now }
     requires within { (i j : ℕ) → joins_of (table_of [] joins.now []) i j ≡ true
         → i < length kinds.now }
     requires receivers { (i j : ℕ) → joins_of (table_of [] joins.now []) i j ≡ true
@@ -145,7 +157,7 @@ pub fn dependencies_of<A: Allocator + Copy>(
     let mut edges = Vec::with_capacity(alloc, looks.len())?;
     for k in 0..looks.len() {
         edges.push(dependency_of(
-            alloc, kinds, joins, replies, choices, ways, marks, none, waits, looks[k],
+            alloc, kinds, joins, pairs, replies, choices, ways, marks, none, waits, looks[k],
         )?)?;
     }
     Ok(edges)

@@ -3,9 +3,9 @@
 ghost use Rattle.std.specs.Prelude.{◌≡◌, ◌<◌, ℕ, ◌++◌, map, length, IfOk, OnOk};
 ghost use Rattle.rising.specs.Graph.{EdgesAreWithin};
 ghost use Rattle.network_adaptive.specs.Flags.{HasPut, IsEdgeOf};
-ghost use Rattle.network_adaptive.specs.Edges.{AreReversed, AreSame, reply_edge};
+ghost use Rattle.network_adaptive.specs.Edges.{AreReversed, AreSame, reply_edge, pair_edge};
 
-use network_judge::Reply;
+use network_judge::{Join, Reply};
 use rising::chains::{Chains, chains_of};
 use rising::{Edge, Graph};
 use std::alloc::{AllocError, Allocator};
@@ -123,4 +123,20 @@ pub fn with_replies<A: Allocator + Copy>(
         })?;
     }
     Ok(all)
+}
+
+/// An edge for each source-destination pair, from its destination to its source.
+///
+/// Errors: out of memory.
+pub fn pair_edges<A: Allocator + Copy>(alloc: A, joins: &[Join]) -> Result<Vec<Edge, A>, AllocError>
+    ensures { IfOk result (λ edges. edges.items ≡ map pair_edge joins.now) }
+{
+    let mut edges = Vec::with_capacity(alloc, joins.len())?;
+    for join in joins {
+        edges.push(Edge {
+            from: join.to,
+            to: join.from,
+        })?;
+    }
+    Ok(edges)
 }

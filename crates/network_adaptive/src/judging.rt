@@ -1,29 +1,31 @@
 //! The judgement of a network whose routers choose.
 
-ghost use Rattle.std.specs.Prelude.{◌≡◌, ◌+◌, ◌*◌, ◌%◌, ◌^◌, ◌<◌, ◌≤◌, ℕ, length, slice_index};
+ghost use Rattle.std.specs.Prelude.{◌≡◌, ◌+◌, ◌*◌, ◌%◌, ◌^◌, ◌<◌, ◌≤◌, ℕ, length, map, slice_index};
 ghost use Rattle.std.specs.Prelude.{IfOk};
 ghost use Rattle.network_judge.specs.Replies.{AreReplies};
 ghost use Rattle.network_adaptive.specs.Choosing.{choosing_of, table, IsShaped};
 ghost use Rattle.network_adaptive.specs.Flags.{AreDown, HasWaits};
 ghost use Rattle.network_adaptive.specs.Judged.{IsAdaptiveVerdict};
+ghost use Rattle.network_adaptive.specs.Edges.{pair_edge};
 
 use crate::cycle::dependencies_of;
-use crate::edges::with_replies;
+use crate::edges::{pair_edges, with_replies};
 use crate::travel::travel_of;
 use crate::verdict::Verdict;
 use crate::waits::{Waits, waits_of};
 use network_judge::{Join, Kind, Reply};
-use rising::chains::chains_of;
+use rising::chains::{Chains, chains_of};
 use rising::{Edge, Searched, find};
 use std::alloc::{AllocError, Allocator};
 
 /// Judges a network with escapes by what packets wait for.
 ///
 /// Errors: out of memory.
-fn judge_waits<A: Allocator + Copy>(
+fn judge_waits<'a, A: Allocator + Copy>(
     alloc: A,
     kinds: &[Kind],
     joins: &[Join],
+    pairs: &Chains<'a, A>,
     replies: &[Reply],
     ways: usize,
     choices: &[u32],
@@ -36,6 +38,8 @@ fn judge_waits<A: Allocator + Copy>(
         (table (choosing_of kinds.now joins.now ways choices.now marks.now)) replies.now }
     requires none { length none.now ≡ length kinds.now }
     requires down { AreDown none.now }
+    requires pairs { pairs.now.edges.now ≡ map pair_edge joins.now }
+    requires nodes { pairs.now.nodes ≡ length kinds.now }
     requires waits { HasWaits kinds.now joins.now choices.now ways marks.now none.now waits.now }
     ensures { IfOk result (IsAdaptiveVerdict
         (choosing_of kinds.now joins.now ways choices.now marks.now) replies.now) }
@@ -44,11 +48,11 @@ fn judge_waits<A: Allocator + Copy>(
     let graph = chains_of(alloc, kinds.len(), &all)?;
     match find(alloc, &graph)? {
         Searched::Circuit(looks) => Ok(Verdict::Cycle(dependencies_of(
-            alloc, kinds, joins, replies, choices, ways, marks, none, waits, &looks,
+            alloc, kinds, joins, pairs, replies, choices, ways, marks, none, waits, &looks,
         )?)),
         Searched::Rising(numbers) => Ok(Verdict::Rising(
             numbers,
-            travel_of(alloc, kinds, joins, choices, ways, none)?,
+            travel_of(alloc, kinds, joins, pairs, choices, ways, none)?,
         )),
     }
 }
@@ -76,10 +80,12 @@ pub fn judge<A: Allocator + Copy>(
         (choosing_of kinds.now joins.now ways choices.now marks.now) replies.now) }
 {
     let none = vec![in alloc; false; kinds.len()]?;
-    match waits_of(alloc, kinds, joins, choices, ways, marks, &none)? {
+    let turned = pair_edges(alloc, joins)?;
+    let pairs = chains_of(alloc, kinds.len(), &turned)?;
+    match waits_of(alloc, kinds, joins, &pairs, choices, ways, marks, &none)? {
         Waits::Bare(fault) => Ok(Verdict::NoEscape(fault)),
         Waits::Edges(waits) => judge_waits(
-            alloc, kinds, joins, replies, ways, choices, marks, &none, &waits,
+            alloc, kinds, joins, &pairs, replies, ways, choices, marks, &none, &waits,
         ),
     }
 }

@@ -1,14 +1,16 @@
 //! The most channels that packets go over.
 
-ghost use Rattle.std.specs.Prelude.{◌≡◌, ◌+◌, ◌*◌, ◌<◌, ◌≤◌, ℕ, true, [], length, slice_index, IfOk};
+ghost use Rattle.std.specs.Prelude.{◌≡◌, ◌+◌, ◌*◌, ◌<◌, ◌≤◌, ℕ, true, length, map, slice_index, IfOk};
 ghost use Rattle.rising.specs.Graph.{RisesAlong};
 ghost use Rattle.rising.specs.Found.{IsPermutationBelow};
-ghost use Rattle.network_judge.specs.Table.{table_of, joins_of};
+ghost use Rattle.network_adaptive.specs.Edges.{pair_edge};
 ghost use Rattle.network_adaptive.specs.Travel.{chosen_at, choice_graph, is_taken};
 ghost use Rattle.network_adaptive.specs.Longest.{IsOrderByNumber, IsFarthest, AreFarthest, IsMostOf};
 
 use crate::choices::Choices;
 use network_judge::Join;
+use rising::Graph;
+use rising::chains::Chains;
 use std::alloc::{AllocError, Allocator};
 
 /// The node with each number.
@@ -37,12 +39,16 @@ fn far_from<'a>(graph: &Choices<'a>, far: &[usize], x: usize) -> usize
     ensures farthest { IsFarthest (choice_graph graph.now.kinds.now graph.now.choices.now
         graph.now.base graph.now.ways graph.now.seen.now) (slice_index far.now) x result }
 {
+    if !graph.goes_on(x) {
+        return 1;
+    }
     let mut most = 0;
     for k in 0..graph.ways {
-        if graph.takes(x, k) {
-            let next = far[graph.choice(x, k)];
-            if next > most {
-                most = next;
+        let next = graph.choice(x, k);
+        if next < far.len() {
+            let behind = far[next];
+            if behind > most {
+                most = behind;
             }
         }
     }
@@ -77,21 +83,28 @@ pub fn farthest<'a, A: Allocator + Copy>(
     Ok(far)
 }
 
-/// The most channels that packets to a channel go over, but no fewer than so many.
-pub fn most_from(joins: &[Join], to: usize, far: &[usize], least: usize) -> usize
-    requires within { (i j : ℕ) → joins_of (table_of [] joins.now []) i j ≡ true
-        → i < length far.now }
+/// The most channels that packets to a channel go over, but no fewer than so many, where the edges of the
+/// pairs are chained.
+pub fn most_from<'a, A: Allocator>(
+    joins: &[Join],
+    pairs: &Chains<'a, A>,
+    to: usize,
+    far: &[usize],
+    least: usize,
+) -> usize
+    requires pairs { pairs.now.edges.now ≡ map pair_edge joins.now }
+    requires to { to < pairs.now.nodes }
+    requires size { length far.now ≡ pairs.now.nodes }
     ensures { IsMostOf joins.now to (slice_index far.now) least result }
 {
     let mut most = least;
-    for p in 0..joins.len() {
-        let pair = joins[p];
-        if pair.to == to {
-            let here = far[pair.from];
-            if here > most {
-                most = here;
-            }
+    let mut k = pairs.first(to);
+    'pairs: while k < joins.len() {
+        let here = far[pairs.end(to, k)];
+        if here > most {
+            most = here;
         }
+        k = pairs.next(to, k);
     }
     most
 }

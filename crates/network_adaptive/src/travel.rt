@@ -1,19 +1,21 @@
 //! How far packets can go: whether the choices for some destination lead around.
 
-ghost use Rattle.std.specs.Prelude.{◌≡◌, ◌+◌, ◌*◌, ◌^◌, ◌<◌, ◌≤◌, ℕ, true, [], length, IfOk, slice_get, Some};
+ghost use Rattle.std.specs.Prelude.{◌≡◌, ◌+◌, ◌*◌, ◌^◌, ◌<◌, ◌≤◌, ℕ, true, [], length, map, IfOk, slice_get, Some};
 ghost use Rattle.network_judge.specs.Table.{table_of, joins_of, ejects};
 ghost use Rattle.std.specs.List.{count_by};
 ghost use Rattle.network_judge.specs.declared.table.Kind.TheVariants.{Ejection};
 ghost use Rattle.network_adaptive.specs.Flags.{AreDown};
 ghost use Rattle.network_adaptive.specs.Travel.{IsTravelOf};
+ghost use Rattle.network_adaptive.specs.Edges.{pair_edge};
 
 use crate::choices::Choices;
-use crate::comes::comes_to;
+use crate::comes::comes_by;
 use crate::longest::{farthest, most_from};
 use crate::spread::base_of;
 use crate::verdict::{Round, Travel};
 use network_judge::walk::{is_receiver, kind_at};
 use network_judge::{Join, Kind};
+use rising::chains::Chains;
 use rising::{Searched, find};
 use std::alloc::{AllocError, Allocator};
 
@@ -21,10 +23,11 @@ use std::alloc::{AllocError, Allocator};
 /// or there is none, and finds how many channels packets go over at most.
 ///
 /// Errors: out of memory.
-pub fn travel_of<A: Allocator + Copy>(
+pub fn travel_of<'a, A: Allocator + Copy>(
     alloc: A,
     kinds: &[Kind],
     joins: &[Join],
+    pairs: &Chains<'a, A>,
     choices: &[u32],
     ways: usize,
     none: &[bool],
@@ -32,8 +35,8 @@ pub fn travel_of<A: Allocator + Copy>(
     requires room { count_by ejects kinds.now * (length kinds.now * ways) ≤ length choices.now }
     requires none { length none.now ≡ length kinds.now }
     requires down { AreDown none.now }
-    requires within { (i j : ℕ) → joins_of (table_of [] joins.now []) i j ≡ true
-        → i < length kinds.now }
+    requires pairs { pairs.now.edges.now ≡ map pair_edge joins.now }
+    requires nodes { pairs.now.nodes ≡ length kinds.now }
     requires receivers { (i j : ℕ) → joins_of (table_of [] joins.now []) i j ≡ true
         → slice_get kinds.now j ≡ Some Ejection }
     ensures { IfOk result (IsTravelOf kinds.now joins.now choices.now ways none.now) }
@@ -44,7 +47,7 @@ pub fn travel_of<A: Allocator + Copy>(
             continue;
         }
         let base = base_of(kinds, ways, to);
-        let seen = comes_to(alloc, kinds, joins, choices, base, ways, none, to)?;
+        let seen = comes_by(alloc, kinds, joins, pairs, choices, base, ways, none, to)?;
         let graph = Choices {
             kinds,
             choices,
@@ -55,7 +58,7 @@ pub fn travel_of<A: Allocator + Copy>(
         match find(alloc, &graph)? {
             Searched::Rising(numbers) => {
                 let far = farthest(alloc, &graph, &numbers)?;
-                most = most_from(joins, to, &far, most);
+                most = most_from(joins, pairs, to, &far, most);
             }
             Searched::Circuit(looks) => return Ok(Travel::Round(Round {
                 to,

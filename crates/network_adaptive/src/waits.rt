@@ -1,19 +1,21 @@
 //! What packets wait for: a list of edges.
 
-ghost use Rattle.std.specs.Prelude.{◌≡◌, ◌+◌, ◌*◌, ◌<◌, ◌≤◌, ℕ, true, [], length, slice_index, IfOk, OnOk, slice_get, Some};
+ghost use Rattle.std.specs.Prelude.{◌≡◌, ◌+◌, ◌*◌, ◌<◌, ◌≤◌, ℕ, true, [], length, map, slice_index, IfOk, OnOk, slice_get, Some};
 ghost use Rattle.network_judge.specs.Table.{table_of, joins_of, ejects};
 ghost use Rattle.std.specs.List.{count_by};
 ghost use Rattle.network_judge.specs.declared.table.Kind.TheVariants.{Ejection};
 ghost use Rattle.network_judge.specs.Marks.{is_marked_at};
 ghost use Rattle.network_adaptive.specs.Flags.{HasPut, IsAwaited, IsWait, escapes_to, AreWaits};
+ghost use Rattle.network_adaptive.specs.Edges.{pair_edge};
 
-use crate::comes::{comes_to, first_bare, reach_from, reach_none, reach_of_none};
+use crate::comes::{comes_by, first_bare, reach_from, reach_none, reach_of_none};
 use crate::edges::{distinct, thinned};
 use crate::spread::{base_of, goes_on};
 use crate::verdict::NoEscape;
 use network_judge::walk::{cell, is_receiver, kind_at};
 use network_judge::{Join, Kind};
 use rising::Edge;
+use rising::chains::Chains;
 use std::alloc::{AllocError, Allocator, Global};
 
 /// What packets wait for in a network.
@@ -125,10 +127,11 @@ fn rows_of<A: Allocator + Copy>(
 /// Finds what packets wait for, those of all destinations, or the first channel without an escape.
 ///
 /// Errors: out of memory.
-pub fn waits_of<A: Allocator + Copy>(
+pub fn waits_of<'a, A: Allocator + Copy>(
     alloc: A,
     kinds: &[Kind],
     joins: &[Join],
+    pairs: &Chains<'a, A>,
     choices: &[u32],
     ways: usize,
     marks: &[bool],
@@ -137,6 +140,8 @@ pub fn waits_of<A: Allocator + Copy>(
     requires room { count_by ejects kinds.now * (length kinds.now * ways) ≤ length choices.now }
     requires marks { length marks.now ≡ length kinds.now }
     requires none { length none.now ≡ length kinds.now }
+    requires pairs { pairs.now.edges.now ≡ map pair_edge joins.now }
+    requires nodes { pairs.now.nodes ≡ length kinds.now }
     requires within { (i j : ℕ) → joins_of (table_of [] joins.now []) i j ≡ true
         → i < length kinds.now }
     requires receivers { (i j : ℕ) → joins_of (table_of [] joins.now []) i j ≡ true
@@ -150,7 +155,7 @@ pub fn waits_of<A: Allocator + Copy>(
             continue;
         }
         let base = base_of(kinds, ways, to);
-        let seen = comes_to(alloc, kinds, joins, choices, base, ways, none, to)?;
+        let seen = comes_by(alloc, kinds, joins, pairs, choices, base, ways, none, to)?;
         match first_bare(kinds, choices, base, ways, marks, &seen) {
             Some(at) => return Ok(Waits::Bare(NoEscape { to, at })),
             None => {}

@@ -21,11 +21,15 @@ pub record AreMarks (t : ChoosingText) (marks : List Bool) : Type 0 where
   pub escapes : AreEscapesOf t flags
   pub are : AreMarksOf t.fixed.table.kinds flags marks
 
--- what is judged of the lists of a text
-pub record IsChoosingJudgement {A : Type 0} (t : ChoosingText) (judged : JudgedNet A) : Type 0 where
-  pub marks : List Bool
+-- what is judged of the lists of a text with these marks
+pub record IsMarkedJudgement {A : Type 0} (t : ChoosingText) (marks : List Bool) (judged : JudgedNet A)
+    : Type 0 where
   pub marked : AreMarks t marks
   pub holds : IsJudgedNet (choice_table t marks) t.fixed.replies judged
+
+-- what is judged of the lists of a text
+abbrev pub IsChoosingJudgement : {A : Type 0} → ChoosingText → JudgedNet A → Type 0
+IsChoosingJudgement t judged = (marks : List Bool) × IsMarkedJudgement t marks judged
 
 -- whether there are numbers that rise
 abbrev pub verdict_rises : {A : Type 0} → Verdict A → Bool

@@ -28,8 +28,7 @@ use Rattle.network_adaptive.specs.declared.verdict.Verdict.{Verdict}
 use Rattle.network_adaptive.specs.declared.verdict.Verdict.TheVariants.{Rising, NoEscape, Cycle}
 use Rattle.network_adaptive.specs.Between.{dependency_at}
 use Rattle.network_text.specs.Choosing.{ChoosingText}
-use Rattle.network_text.specs.ChoiceLists.{choice_list}
-use Rattle.network_answer.specs.Judging.{IsChoosingJudgement, judgement_rises}
+use Rattle.network_answer.specs.Judging.{choice_table, IsMarkedJudgement, judgement_rises}
 use Rattle.network_answer.specs.OneFlit.{StandsBehind}
 use Rattle.network_text.specs.Routing.{Routing, Fixed, Chosen, routing_of}
 
@@ -99,10 +98,10 @@ judgement_text r (Judged v) = choosing_verdict_text r v
 -- what is judged of a network whose routers choose, what stands behind it, and whether its numbers rise
 pub record TellsJudged {A : Type 0} (t : ChoosingText) (a : Answer A) : Type 0 where
   pub judged : JudgedNet A
-  pub holds : IsChoosingJudgement t judged
+  pub marks : List Bool
+  pub holds : IsMarkedJudgement t marks judged
   pub behind : List ℕ
-  pub stands : StandsBehind t.fixed.table.kinds t.fixed.table.joins t.fixed.replies (t.layers + 1)
-      (choice_list t) judged behind
+  pub stands : StandsBehind (choice_table t marks) t.fixed.replies judged behind
   pub text : a.text.items ≡ judgement_text t.fixed judged ++ behind
   pub rising : a.rising ≡ judgement_rises judged
 

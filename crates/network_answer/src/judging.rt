@@ -3,18 +3,20 @@
 ghost use Rattle.std.specs.Prelude.{◌≡◌, true, IfOk, OnOk};
 ghost use Rattle.network_text.specs.ChoosingRead.{choosing_text_of, IsChoosingRead};
 ghost use Rattle.network_text.specs.ChoiceLists.{choice_list};
-ghost use Rattle.network_answer.specs.Judging.{IsChoosingJudgement, judgement_rises, verdict_rises};
+ghost use Rattle.network_answer.specs.Judging.{IsChoosingJudgement, IsMarkedJudgement};
+ghost use Rattle.network_answer.specs.Judging.{judgement_rises, verdict_rises};
 
 use network_adaptive::Verdict;
 use network_adaptive::accepting::{JudgedNet, judge_lists, marks_of};
 use network_text::choosing::Choosing;
 use std::alloc::{AllocError, Allocator};
 
-/// What is judged of a network, and its choices, listed as they are judged.
+/// What is judged of a network, its choices, listed as they are judged, and the marks of its escapes.
 #[derive(Drop)]
 pub(crate) struct Judgement<A: Allocator> {
     pub(crate) judged: JudgedNet<A>,
     pub(crate) choices: Vec<u32, A>,
+    pub(crate) marks: Vec<bool, A>,
 }
 
 /// Judges the network of a text. It gives up its further choices, which then stand in the list that is
@@ -28,7 +30,7 @@ pub(crate) fn judgement_of<A: Allocator + Copy>(
     requires read { IsChoosingRead network.old }
     requires begun { network.old.fixed.begun ≡ true }
     ensures judged { IfOk result
-        (λ it. IsChoosingJudgement (choosing_text_of network.old) it.judged) }
+        (λ it. IsMarkedJudgement (choosing_text_of network.old) it.marks.items it.judged) }
     ensures choices { IfOk result
         (λ it. it.choices.items ≡ choice_list (choosing_text_of network.old)) }
     ensures fixed { OnOk result (network.new.fixed ≡ network.old.fixed) }
@@ -48,7 +50,11 @@ pub(crate) fn judgement_of<A: Allocator + Copy>(
         &choices,
         &marks,
     )?;
-    Ok(Judgement { judged, choices })
+    Ok(Judgement {
+        judged,
+        choices,
+        marks,
+    })
 }
 
 /// Judges the network of a text. It gives up its further choices.

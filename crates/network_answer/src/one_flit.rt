@@ -1,17 +1,20 @@
 //! What stands behind the text of a judgement, where routers choose and no numbers rise along the escapes:
-//! that packets of one flit never deadlock, or the greatest dead set.
+//! that packets of one flit never deadlock, or the greatest dead set, with channels that fill up until
+//! nothing can go.
 
-ghost use Rattle.std.specs.Prelude.{◌≡◌, ◌++◌, ◌<◌, Bool, List, length, IfOk, OnOk};
+ghost use Rattle.std.specs.Prelude.{◌≡◌, ◌++◌, ◌<◌, Bool, List, length, map, IfOk, OnOk};
 ghost use Rattle.network_adaptive.specs.Choosing.{choosing_of};
 ghost use Rattle.network_adaptive.specs.Shape.{IsJudgedNet};
+ghost use Rattle.dead_sets.specs.FillingFlags.{filling_of};
 ghost use Rattle.network_text.specs.Lines.{first_lines};
 ghost use Rattle.network_text.specs.Reading.{IsRead};
-ghost use Rattle.network_answer.specs.OneFlit.{dead_line, dead_set_text, lacks_numbers};
-ghost use Rattle.network_answer.specs.OneFlit.{StandsBehind};
+ghost use Rattle.network_answer.specs.OneFlit.{dead_line, dead_set_text, spaced_back, filling_line};
+ghost use Rattle.network_answer.specs.OneFlit.{filling_line_at, filling_text, decided_text};
+ghost use Rattle.network_answer.specs.OneFlit.{lacks_numbers, StandsBehind};
 
 use crate::judging::verdict_rises;
 use crate::verdict::{put_number, put_numbers};
-use dead_sets::{DeadSet, greatest_dead_set};
+use dead_sets::{Decided, FilledChannel, decide};
 use network_adaptive::accepting::JudgedNet;
 use network_text::reading::Reading;
 use std::alloc::{AllocError, Allocator};
@@ -30,8 +33,7 @@ fn put_dead<A: Allocator>(out: &mut Vec<u8, A>, flags: &[bool], x: usize) -> Res
 
 /// Adds the line of each channel of a dead set.
 fn put_dead_channels<A: Allocator>(out: &mut Vec<u8, A>, flags: &[bool]) -> Result<(), AllocError>
-    ensures { OnOk result
-        (out.new.items ≡ out.old.items ++ first_lines (dead_line flags.now) (length flags.now)) }
+    ensures { OnOk result (out.new.items ≡ out.old.items ++ dead_set_text flags.now) }
 {
     for x in 0..flags.len() {
         put_dead(out, flags, x)?;
@@ -39,22 +41,72 @@ fn put_dead_channels<A: Allocator>(out: &mut Vec<u8, A>, flags: &[bool]) -> Resu
     Ok(())
 }
 
-/// The text of what is found of dead sets.
+/// Adds channels, the last first, each behind a space.
+fn put_spaced_back<A: Allocator>(out: &mut Vec<u8, A>, before: &[usize]) -> Result<(), AllocError>
+    ensures { OnOk result (out.new.items
+        ≡ out.old.items ++ first_lines (spaced_back before.now) (length before.now)) }
+{
+    for k in 0..before.len() {
+        put_number(out, " ", before[before.len() - 1 - k])?;
+    }
+    Ok(())
+}
+
+/// Adds the line of a channel that is filled.
+fn put_filling<A: Allocator>(
+    out: &mut Vec<u8, A>,
+    item: &FilledChannel<A>,
+) -> Result<(), AllocError>
+    ensures { OnOk result (out.new.items ≡ out.old.items ++ filling_line (filling_of item.now)) }
+{
+    put_number(out, "fill ", item.to)?;
+    put_spaced_back(out, &item.before)?;
+    put_number(out, " ", item.at)?;
+    out.extend_from_slice(b"\n")
+}
+
+/// Adds the line of each channel of a filling, the first to be filled first.
+fn put_fillings<A: Allocator>(
+    out: &mut Vec<u8, A>,
+    items: &[FilledChannel<A>],
+) -> Result<(), AllocError>
+    ensures { OnOk result (out.new.items ≡ out.old.items
+        ++ first_lines (filling_line_at (map filling_of items.now)) (length items.now)) }
+{
+    for k in 0..items.len() {
+        put_filling(out, &items[items.len() - 1 - k])?;
+    }
+    Ok(())
+}
+
+/// Adds the text of a dead set that can be filled.
+fn put_filled<A: Allocator>(
+    out: &mut Vec<u8, A>,
+    flags: &[bool],
+    items: &[FilledChannel<A>],
+) -> Result<(), AllocError>
+    ensures { OnOk result (out.new.items ≡ out.old.items
+        ++ (dead_set_text flags.now ++ filling_text (map filling_of items.now))) }
+{
+    put_dead_channels(out, flags)?;
+    put_fillings(out, items)?;
+    out.extend_from_slice(b"locks up\n")
+}
+
+/// The text of what is decided of deadlocks with packets of one flit.
 ///
 /// Errors: out of memory.
-fn dead_set_text<A: Allocator + Copy>(
-    alloc: A,
-    found: &DeadSet<A>,
-) -> Result<Vec<u8, A>, AllocError>
-    ensures { IfOk result (λ text. text.items ≡ dead_set_text found.now) }
+fn decided_text<A: Allocator + Copy>(alloc: A, found: &Decided<A>) -> Result<Vec<u8, A>, AllocError>
+    ensures { IfOk result (λ text. text.items ≡ decided_text found.now) }
 {
     let mut text = Vec::new(alloc);
     match found {
-        DeadSet::Empty(numbers) => {
+        Decided::Rises(numbers) => {
             put_numbers(&mut text, numbers)?;
             text.extend_from_slice(b"never locks up with packets of one flit\n")?;
         }
-        DeadSet::Greatest(flags) => put_dead_channels(&mut text, flags)?,
+        Decided::Fills(flags, items) => put_filled(&mut text, flags, items)?,
+        Decided::Open(flags) => put_dead_channels(&mut text, flags)?,
     }
     Ok(text)
 }
@@ -70,7 +122,8 @@ fn lacks_numbers<A: Allocator>(judged: &JudgedNet<A>) -> bool
     }
 }
 
-/// The text that stands behind that of a judgement, by the choices as they are judged.
+/// The text that stands behind that of a judgement, by the choices and the marks of escapes as they are
+/// judged.
 ///
 /// Errors: out of memory.
 pub(crate) fn behind_text<A: Allocator + Copy>(
@@ -78,19 +131,29 @@ pub(crate) fn behind_text<A: Allocator + Copy>(
     fixed: &Reading<A>,
     ways: usize,
     choices: &[u32],
+    marks: &[bool],
     judged: &JudgedNet<A>,
 ) -> Result<Vec<u8, A>, AllocError>
     requires read { IsRead fixed.now }
-    requires judged { (marks : List Bool) × IsJudgedNet
-        (choosing_of fixed.now.kinds.items fixed.now.joins.items ways choices.now marks)
+    requires judged { IsJudgedNet
+        (choosing_of fixed.now.kinds.items fixed.now.joins.items ways choices.now marks.now)
         fixed.now.replies.items judged.now }
-    ensures { IfOk result (λ text. StandsBehind fixed.now.kinds.items fixed.now.joins.items
-        fixed.now.replies.items ways choices.now judged.now text.items) }
+    ensures { IfOk result (λ text. StandsBehind
+        (choosing_of fixed.now.kinds.items fixed.now.joins.items ways choices.now marks.now)
+        fixed.now.replies.items judged.now text.items) }
 {
     if !lacks_numbers(judged) {
         return Ok(Vec::new(alloc));
     }
     let kinds = &fixed.kinds;
-    let found = greatest_dead_set(alloc, kinds, &fixed.joins, &fixed.replies, ways, choices)?;
-    dead_set_text(alloc, &found)
+    let found = decide(
+        alloc,
+        kinds,
+        &fixed.joins,
+        &fixed.replies,
+        ways,
+        choices,
+        marks,
+    )?;
+    decided_text(alloc, &found)
 }

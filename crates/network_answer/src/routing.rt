@@ -42,7 +42,8 @@ fn answered_choosing<A: Allocator + Copy>(
     let it = judgement_of(alloc, network)?;
     let fixed = &network.fixed;
     let mut text = judgement_text(alloc, fixed, &it.judged)?;
-    text.extend_from_slice(&behind_text(alloc, fixed, ways, &it.choices, &it.judged)?)?;
+    let behind = behind_text(alloc, fixed, ways, &it.choices, &it.marks, &it.judged)?;
+    text.extend_from_slice(&behind)?;
     Ok(Answer {
         text,
         rising: judgement_rises(&it.judged),

@@ -4,6 +4,10 @@ use Rattle.std.proofs.lemmas.List.{append_assoc, replicate_more}
 use Rattle.core_laws.specs.Machine.{shown}
 use Rattle.machine_asked.specs.Asked.{Asked}
 use Rattle.machine_asked.specs.Opened.{IsOpened}
+use Rattle.std.specs.Prelude.{IfSome}
+use Rattle.machine_record.specs.Calls.{RecordsAnew}
+use Rattle.machine_record.specs.Machine.{Recorded}
+use Rattle.machine_record.specs.Recording.{Recording}
 use Rattle.torusmem_c.specs.declared.outcome.Outcome.{Outcome}
 use Rattle.torusmem_c.specs.declared.outcome.Code.TheVariants as code
 use Rattle.torusmem_c.specs.Outcome.{c_outcome, no_memory}
@@ -26,3 +30,13 @@ handed_on v made rounds (Some u) r opened kept =
 
 pub nothing_handed : (v : Asked) (rounds : Outcome) (after : Option Asked) (r : Outcome) → after ≡ None → r ≡ no_memory → HandsOn v rounds after r
 nothing_handed v rounds after r none told = rw (none) told
+
+-- the record of a machine that is opened so
+pub keeps_anew : (after : Option Recorded) (made : Recorded) (kept : Option Recording) → IfSome after (λ v. v ≡ made) → RecordsAnew kept made
+    → IfSome after (RecordsAnew kept)
+keeps_anew None made kept is anew = tt
+keeps_anew (Some v) made kept is anew = subst (RecordsAnew kept) (sym is) anew
+
+pub nothing_kept : (after : Option Recorded) (kept : Option Recording) → after ≡ None → IfSome after (RecordsAnew kept)
+nothing_kept None kept none = tt
+nothing_kept (Some v) kept none = absurd (cc)

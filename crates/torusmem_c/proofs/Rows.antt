@@ -1,9 +1,8 @@
 -- The row of a machine, word by word.
-use Rattle.std.proofs.Common.{◌≡◌, ℕ, zero, suc, ◌+◌, ◌*◌, ◌<◌, ◌≤◌, true, false, List, [], ◌∷◌, ◌++◌, length, take, drop, set, slice_get, Option, Some, None}
-use Rattle.std.proofs.Common.{is_some, refl, sym, ◌∙◌, ap, subst, arith}
+use Rattle.std.proofs.Common.{◌≡◌, ℕ, zero, suc, ◌+◌, ◌*◌, ◌<◌, ◌≤◌, true, false, List, [], ◌∷◌, length, slice_get, Some}
+use Rattle.std.proofs.Common.{is_some, refl, sym, subst, arith}
 use Rattle.std.proofs.Math.Nat.{mul-le-mul}
 use Rattle.std.specs.Option.{unwrap_or}
-use Rattle.std.proofs.lemmas.List.{length-set}
 use Rattle.torus.specs.Shape.{Shape, dims_of, tiles_of}
 use Rattle.torus.specs.declared.step.Step.{Step}
 use Rattle.channel_number.specs.Order.{channel_count}
@@ -36,23 +35,8 @@ ends [] i low h = omega (arith, low)
 ends (x ∷ row) zero low h = absurd (cc)
 ends (x ∷ row) (suc i) low h = let rest : i ≡ length row = ends row i (omega (arith, low)) h in omega (arith, rest)
 
--- a word more of the row over a buffer
-pub word_more : (row out : List ℕ) (i : ℕ) → i < length row → i < length out
-    → set (take i row ++ drop i out) i (unwrap_or (slice_get row i) 0) ≡ take (suc i) row ++ drop (suc i) out
-word_more [] out i there low = absurd (omega (arith, there))
-word_more (x ∷ row) [] i there low = absurd (omega (arith, low))
-word_more (x ∷ row) (y ∷ out) zero there low = refl
-word_more (x ∷ row) (y ∷ out) (suc i) there low = ap (λ (zs : List ℕ). x ∷ zs) (word_more row out i (omega (arith, there)) (omega (arith, low)))
-
--- a buffer into which a word more is written
-pub puts_more : (row out now : List ℕ) (i word : ℕ) → i < length row → length now ≡ length out → i < length now
-    → now ≡ take i row ++ drop i out → word ≡ unwrap_or (slice_get row i) 0
-    → (length (set now i word) ≡ length out) × (set now i word ≡ take (i + 1) row ++ drop (i + 1) out)
-puts_more row out now i word there size low is read = (
-  length-set now i word ∙ size,
-  ap (λ (n : ℕ). set now i n) read
-      ∙ (ap (λ (xs : List ℕ). set xs i (unwrap_or (slice_get row i) 0)) is
-      ∙ subst (λ (n : ℕ). set (take i row ++ drop i out) i (unwrap_or (slice_get row i) 0) ≡ take n row ++ drop n out)
-      (let next : suc i ≡ i + 1 = omega arith in next)
-      (word_more row out i there (omega (arith, size, low)))),
-)
+-- the word at a place of the row
+pub word_at : (row : List ℕ) (i : ℕ) → i < length row → slice_get row i ≡ Some (unwrap_or (slice_get row i) 0)
+word_at [] i there = absurd (omega (arith, there))
+word_at (x ∷ row) zero there = refl
+word_at (x ∷ row) (suc i) there = word_at row i (omega (arith, there))

@@ -1,11 +1,11 @@
 -- The one legal order of a machine's run, as C sees it (this project's own format).
-use Rattle.std.specs.Prelude.{◌≡◌, ◌⊎◌, ℕ, List, drop, map}
+use Rattle.std.specs.Prelude.{◌≡◌, ℕ, List, drop, map}
 use Rattle.std.specs.Option.{unwrap_or}
 use Rattle.one_order.specs.declared.ordered.Ordered.{Ordered}
 use Rattle.core_laws.specs.Machine.{Core}
 use Rattle.torusmem_c.specs.declared.outcome.Outcome.{Outcome}
 use Rattle.torusmem_c.specs.declared.order.OrderedRecord.{OrderedRecord}
-use Rattle.torusmem_c.specs.Room.{LacksMemory, put_over, put_outcome}
+use Rattle.torusmem_c.specs.Room.{put_over, put_outcome}
 
 -- what C sees of a row of the order; events are numbered from 1, so that 0 says that there is no answer
 abbrev pub ordered_record : Ordered → OrderedRecord
@@ -21,16 +21,11 @@ ordered_record row = record {
 
 -- it sees the rows from one on
 abbrev pub ordered_from : ℕ → List Ordered → List OrderedRecord
-ordered_from first rows = drop first (map ordered_record rows)
+ordered_from first rows = map ordered_record (drop first rows)
 
--- these are put into a buffer
-pub record PutsOrderedFrom (first : ℕ) (rows : List Ordered) (before after : List OrderedRecord)
-    (r : Outcome) : Type 0 where
-  pub buffer : after ≡ put_over (ordered_from first rows) before
-  pub answer : r ≡ put_outcome (ordered_from first rows) before
-
--- the rows of the machine's book, or memory was refused; and nothing of the machine changes
+-- those of the machine's book are put into a buffer, and nothing of the machine changes
 pub record PutsOrdered (first : ℕ) (before after : List OrderedRecord) (old new : Core) (r : Outcome)
     : Type 0 where
   pub same : new ≡ old
-  pub put : PutsOrderedFrom first old.book.rows before after r ⊎ LacksMemory before after r
+  pub buffer : after ≡ put_over (ordered_from first old.book.rows) before
+  pub answer : r ≡ put_outcome (ordered_from first old.book.rows) before

@@ -3,7 +3,7 @@
 use Rattle.std.specs.Prelude.{◌≡◌, ◌⊎◌, ℕ, List, Option, Some, None}
 use Rattle.machine_record.specs.Bytes.{record_bytes}
 use Rattle.machine_record.specs.Recording.{Recording, fresh_record}
-use Rattle.machine_record.specs.Calls.{IsFreshCall, IsRestored, IsUnrestored}
+use Rattle.machine_record.specs.Calls.{IsFreshCall, IsRestored, IsUnrestored, RecordsAnew}
 use Rattle.machine_record.specs.Machine.{AreAlikeMachines, Recorded}
 use Rattle.machine_record.specs.declared.restoring.Unrestored.{Unrestored}
 use Rattle.machine_record.specs.declared.restoring.Unrestored.TheVariants as why
@@ -23,6 +23,14 @@ abbrev pub KeepsOpened : Option Recorded → Option Recorded → Type 0
 KeepsOpened (Some v) new = Unit {0}
 KeepsOpened None None = Unit {0}
 KeepsOpened None (Some v) = IsFreshCall v
+
+-- A machine that goes on in an empty handle keeps a record of what is done to it where the one before it keeps
+-- one. A handle that isn't empty stays as it is.
+abbrev pub RecordsOn : Option Recorded → Option Recorded → Option Recorded → Type 0
+RecordsOn before (Some held) after = after ≡ Some held
+RecordsOn before None None = Unit {0}
+RecordsOn None None (Some w) = ⊥
+RecordsOn (Some v) None (Some w) = RecordsAnew v.kept w
 
 -- the bytes of a record are put into a buffer, and make the machine again
 pub record PutsRecord (v : Recorded) (kept : Recording) (before after : List ℕ) (r : Outcome)

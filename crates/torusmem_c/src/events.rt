@@ -128,10 +128,7 @@ fn put_happened(alloc: Global, machine: &Machine, from: u32, out: &mut [Happened
     ensures { PutsHappenedSince from machine.now.book.rows out.old out.new result
         ⊎ LacksMemory out.old out.new result }
 {
-    let Ok(rows) = machine.order(alloc) else {
-        return no_memory();
-    };
-    match happened_in_order(alloc, from, rows.as_slice()) {
+    match happened_in_order(alloc, from, machine.rows()) {
         Ok(events) => put_over(events.as_slice(), out),
         Err(_) => no_memory(),
     }

@@ -3,9 +3,9 @@
 ghost use Rattle.std.specs.Prelude.{◌≡◌, IfOk, IfSome, None, length};
 ghost use Rattle.c_handles.specs.HeldMachine.{held, held_whole};
 ghost use Rattle.machine_asked.specs.Opened.{IsOpened};
-ghost use Rattle.machine_record.specs.Calls.{IsFreshCall};
+ghost use Rattle.machine_record.specs.Calls.{IsFreshCall, RecordsAnew};
 ghost use Rattle.torusmem_c.specs.Opening.{GoesOnRunning, KeepsHandle, Opens, Reopens, opening_words, shape_asked, torus_asked};
-ghost use Rattle.torusmem_c.specs.Saving.{KeepsOpened};
+ghost use Rattle.torusmem_c.specs.Saving.{KeepsOpened, RecordsOn};
 
 use crate::outcome::{Code, Outcome, no_memory};
 use crate::shape::ShapeRecord;
@@ -74,13 +74,13 @@ fn opened(
     AskedMachine::open(alloc, torus, shape.depth, shape.tags, opening.as_slice())
 }
 
-/// Holds a machine in an empty handle, and answers this number.
-fn kept(handle: &mut MachineHandle, machine: AskedMachine, value: u64) -> Outcome
+/// Holds a machine in an empty handle.
+fn kept(handle: &mut MachineHandle, machine: AskedMachine) -> Outcome
     requires { held handle.old ≡ None }
-    ensures { KeepsHandle machine value (held handle.new) result }
+    ensures { KeepsHandle machine 0 (held handle.new) result }
 {
     match handle.hold(RecordedMachine::unrecorded(machine)) {
-        Ok(()) => Outcome::done(value),
+        Ok(()) => Outcome::done(0),
         Err(_) => no_memory(),
     }
 }
@@ -109,7 +109,7 @@ pub extern "C" fn torusmem_open(
         Err(fault) => return Outcome::of(Code::Fault(fault), 0),
     };
     match opened(alloc, torus, shape, words) {
-        Ok(machine) => kept(handle, machine, 0),
+        Ok(machine) => kept(handle, machine),
         Err(_) => no_memory(),
     }
 }
@@ -130,15 +130,15 @@ fn opened_recorded(
     RecordedMachine::open(alloc, torus, shape.depth, shape.tags, opening.as_slice())
 }
 
-/// Holds a machine with its record in an empty handle.
-fn kept_recorded(handle: &mut MachineHandle, machine: RecordedMachine) -> Outcome
+/// Holds a machine with its record, where it keeps one, in an empty handle, and answers this number.
+fn kept_recorded(handle: &mut MachineHandle, machine: RecordedMachine, value: u64) -> Outcome
     requires held { held handle.old ≡ None }
     requires whole { held_whole handle.old ≡ None }
-    ensures held { KeepsHandle machine.asked 0 (held handle.new) result }
+    ensures held { KeepsHandle machine.asked value (held handle.new) result }
     ensures whole { IfSome (held_whole handle.new) (λ v. v ≡ machine) }
 {
     match handle.hold(machine) {
-        Ok(()) => Outcome::done(0),
+        Ok(()) => Outcome::done(value),
         Err(_) => no_memory(),
     }
 }
@@ -166,25 +166,28 @@ pub extern "C" fn torusmem_open_recorded(
         Err(fault) => return Outcome::of(Code::Fault(fault), 0),
     };
     match opened_recorded(alloc, torus, shape, words) {
-        Ok(machine) => kept_recorded(handle, machine),
+        Ok(machine) => kept_recorded(handle, machine, 0),
         Err(_) => no_memory(),
     }
 }
 
 /// Finishes a machine, and holds one that goes on where it stands in an empty handle.
 fn gone_on(alloc: Global, machine: &mut RecordedMachine, fresh: &mut MachineHandle) -> Outcome
-    requires { held fresh.old ≡ None }
-    ensures { GoesOnRunning machine.old.asked machine.new.asked (held fresh.new) result }
+    requires held { held fresh.old ≡ None }
+    requires whole { held_whole fresh.old ≡ None }
+    ensures goes_on { GoesOnRunning machine.old.asked machine.new.asked (held fresh.new) result }
+    ensures kept { IfSome (held_whole fresh.new) (RecordsAnew machine.new.kept) }
 {
     let rounds = machine.finish();
-    match machine.asked().reopened(alloc) {
-        Ok(made) => kept(fresh, made, rounds),
+    match machine.reopened(alloc) {
+        Ok(made) => kept_recorded(fresh, made, rounds),
         Err(_) => no_memory(),
     }
 }
 
 /// Makes rounds until every script is finished, and opens a machine of the same shape into another, empty
-/// handle, whose opening words are the words of this one then; answers how many rounds.
+/// handle, whose opening words are the words of this one then; answers how many rounds. The other machine
+/// keeps a record where this one does.
 ///
 /// Errors: the other handle holds a machine, or this one none, and nothing changes then; or out of memory
 /// for the other machine.
@@ -194,7 +197,9 @@ pub extern "C" fn torusmem_reopen(
     handle: &mut MachineHandle,
     fresh: &mut MachineHandle,
 ) -> Outcome
-    ensures { Reopens (held handle.old) (held handle.new) (held fresh.old) (held fresh.new) result }
+    ensures goes_on { Reopens (held handle.old) (held handle.new) (held fresh.old) (held fresh.new)
+        result }
+    ensures kept { RecordsOn (held_whole handle.new) (held_whole fresh.old) (held_whole fresh.new) }
 {
     if let Some(_held) = fresh.machine() {
         return Outcome::of(Code::Full, 0);

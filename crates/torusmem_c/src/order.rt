@@ -1,17 +1,14 @@
 //! The one legal order of what a machine has served, as C sees it.
 
-ghost use Rattle.std.specs.Prelude.{◌≡◌, ◌⊎◌, IfOk, None, drop, map};
+ghost use Rattle.std.specs.Prelude.{◌≡◌, None, drop, map};
 ghost use Rattle.c_handles.specs.HeldMachine.{held};
 ghost use Rattle.torusmem_c.specs.Held.{OnHeld};
-ghost use Rattle.torusmem_c.specs.Orders.{PutsOrdered, PutsOrderedFrom, ordered_record};
-ghost use Rattle.torusmem_c.specs.Room.{LacksMemory};
+ghost use Rattle.torusmem_c.specs.Orders.{PutsOrdered, ordered_record};
+ghost use Rattle.torusmem_c.specs.Room.{put_over, put_outcome};
 
-use crate::outcome::{Outcome, no_memory};
-use crate::room::put_over;
+use crate::outcome::{Code, Outcome};
 use c_handles::MachineHandle;
 use machine_core::Ordered;
-use machine_report::Machine;
-use std::alloc::{AllocError, Global};
 
 /// A row of the order: the service, the operation, and the numbers of its issue, its service and its answer
 /// among all events, from 1; 0 where it isn't answered yet.
@@ -42,46 +39,40 @@ pub(crate) fn ordered_record(row: Ordered) -> OrderedRecord
     }
 }
 
-/// What C sees of the rows of the order.
-fn ordered_records(alloc: Global, rows: &[Ordered]) -> Result<Vec<OrderedRecord>, AllocError>
-    ensures { IfOk result (λ records. records.items ≡ map ordered_record rows.now) }
-{
-    rows.iter().map(|row| ordered_record(*row)).collect(alloc)
-}
-
-/// The records from a number on.
-fn records_from(records: &[OrderedRecord], from: u32) -> &[OrderedRecord]
-    ensures { result.now ≡ drop from records.now }
+/// The rows from a number on.
+fn rows_from(rows: &[Ordered], from: u32) -> &[Ordered]
+    ensures { result.now ≡ drop from rows.now }
 {
     let from = from as usize;
-    if from < records.len() {
-        &records[from..]
+    if from < rows.len() {
+        &rows[from..]
     } else {
-        &records[records.len()..]
+        &rows[rows.len()..]
     }
 }
 
-/// Puts the rows from one on into a buffer, unless memory is refused.
-fn put_order(alloc: Global, machine: &Machine, from: u32, out: &mut [OrderedRecord]) -> Outcome
-    ensures { PutsOrderedFrom from machine.now.book.rows out.old out.new result
-        ⊎ LacksMemory out.old out.new result }
+/// Puts what C sees of some rows at the front of a buffer, and answers how many they are; where the buffer is
+/// too short for all, it stays as it was.
+fn put_rows(rows: &[Ordered], out: &mut [OrderedRecord]) -> Outcome
+    ensures buffer { out.new ≡ put_over (map ordered_record rows.now) out.old }
+    ensures value { result ≡ put_outcome (map ordered_record rows.now) out.old }
 {
-    let Ok(rows) = machine.order(alloc) else {
-        return no_memory();
-    };
-    match ordered_records(alloc, rows.as_slice()) {
-        Ok(records) => put_over(records_from(records.as_slice(), from), out),
-        Err(_) => no_memory(),
+    let count = rows.len();
+    if count > out.len() {
+        return Outcome::of(Code::Short, count as u64);
     }
+    for at in 0..count {
+        out[at] = ordered_record(rows[at]);
+    }
+    Outcome::done(count as u64)
 }
 
 /// Puts the rows of the one legal order of the run so far, from a number on, into a buffer: the order of the
-/// banks' services.
+/// banks' services. It takes no memory, and looks at these rows alone.
 ///
-/// Errors: out of memory, or the buffer is too short. It is as it was then.
+/// Errors: the buffer is too short. It is as it was then.
 #[unsafe(no_mangle)]
 pub extern "C" fn torusmem_order(
-    alloc: Global,
     handle: &mut MachineHandle,
     from: u32,
     out: &mut [OrderedRecord],
@@ -91,7 +82,7 @@ pub extern "C" fn torusmem_order(
     ensures empty { held handle.old ≡ None → out.new ≡ out.old }
 {
     match handle.machine() {
-        Some(machine) => put_order(alloc, machine.machine(), from, out),
+        Some(machine) => put_rows(rows_from(machine.machine().rows(), from), out),
         None => Outcome::empty(),
     }
 }

@@ -127,8 +127,8 @@ fn first_bad_by_search<A: Allocator + Copy>(
     first_bad(alloc, opening, events, bound, ended)
 }
 
-/// The first bad event, as `first_bad` finds it; or by the search alone, where zones are in conflict and a beginning isn't
-/// decided with them.
+/// The first bad event, as `first_bad` finds it; or by the search alone, where zones are in conflict and a beginning
+/// isn't decided with them.
 ///
 /// Errors: as those of `judge`.
 fn first_bad_either_way<A: Allocator + Copy>(

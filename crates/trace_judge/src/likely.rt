@@ -1,6 +1,7 @@
 //! A trace that likely has an order: what explains it explains the trace that it is made from.
 
-ghost use Rattle.std.specs.Prelude.{◌≡◌, ◌⊎◌, ◌<◌, ◌∷◌, ◌++◌, ℕ, List, [], true, Some, IfOk, OnOk, MatchOption, length, slice_get};
+ghost use Rattle.std.specs.Prelude.{◌≡◌, ◌⊎◌, ◌<◌, ◌∷◌, ◌++◌, ℕ, List, [], true, Some, IfOk, OnOk, MatchOption};
+ghost use Rattle.std.specs.Prelude.{length, slice_get};
 ghost use Rattle.packet.specs.declared.kinds.Reply.{Reply};
 ghost use Rattle.trace_laws.specs.declared.event.Event.TheVariants.{Answer};
 ghost use Rattle.trace_laws.specs.declared.event.Event.{Event};
@@ -140,7 +141,7 @@ pub fn likely<A: Allocator + Copy>(
 /// With fewer configurations of a word no order is guessed, and no zones are looked at.
 pub(crate) const GUESSED: usize = 1024;
 
-/// An order that explains the trace, if one is guessed.
+/// An order that explains the trace, if one is guessed. `None` is a guess too.
 pub fn try_guess<A: Allocator + Copy>(
     alloc: A,
     opening: &[u64],

@@ -19,7 +19,8 @@ pub struct Zoned<A: Allocator> {
     pub order: Option<Vec<Call, A>>,
 }
 
-/// What zones show of a trace, if so many configurations of a word are allowed that they are looked at.
+/// What zones show of a trace, if so many configurations of a word are allowed that they are looked at. That they show
+/// nothing is a guess.
 pub fn seen_by_zones<A: Allocator + Copy>(
     alloc: A,
     opening: &[u64],
@@ -53,7 +54,7 @@ pub fn seen_by_zones<A: Allocator + Copy>(
     }
 }
 
-/// Whether zones are in conflict.
+/// Whether zones are in conflict: a guess.
 fn are_in_conflict<A: Allocator + Copy>(
     alloc: A,
     opening: &[u64],
@@ -65,7 +66,8 @@ fn are_in_conflict<A: Allocator + Copy>(
     }
 }
 
-/// How many events of a trace come before the first one with which zones are in conflict, as far as halving finds it.
+/// How many events of a trace come before the first one with which zones are in conflict, as far as halving finds it:
+/// a guess.
 pub fn before_conflict<A: Allocator + Copy>(
     alloc: A,
     opening: &[u64],

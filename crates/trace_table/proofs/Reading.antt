@@ -23,6 +23,7 @@ at_line reason.Quote n = inr refl
 at_line reason.CellCount n = inr refl
 at_line reason.OperationsLimits n = inr refl
 at_line (reason.Cell column) n = inr refl
+at_line reason.FoundUnnamed n = inr refl
 at_line reason.Backwards n = inr refl
 
 -- it is what the reader answers

@@ -1,12 +1,20 @@
--- The cells of a line of a table: comma-separated values without quotes (RFC 4180).
+-- The cells of a line of a table: comma-separated values without quotes (RFC 4180), or values with
+-- semicolons or tabs between them.
 use Rattle.std.specs.Prelude.{ℕ, ◌==◌, ◌&&◌, Bool, not, nat_lt, List, [], drop, length, slice_index}
 use Rattle.std.specs.Prelude.{if◌then◌else◌}
 use Rattle.std.specs.List.{list_any, slice_index_or, slice_split}
 use Rattle.lexer.specs.Words.{is_blank}
 
--- the cells of a line: the parts between commas
-abbrev pub table_cells : List ℕ → List (List ℕ)
-table_cells line = slice_split (λ c. c == 44) line
+-- what parts the cells of a table whose first line this is: a comma where it has one, else a
+-- semicolon where it has one, else a tab
+abbrev pub separator_of : List ℕ → ℕ
+separator_of line =
+    if list_any (λ c. c == 44) line then 44
+    else if list_any (λ c. c == 59) line then 59 else 9
+
+-- the cells of a line: the parts between separators
+abbrev pub table_cells : ℕ → List ℕ → List (List ℕ)
+table_cells separator line = slice_split (λ c. c == separator) line
 
 -- the cell at a place, empty where there is none
 abbrev pub cell_in : List (List ℕ) → ℕ → List ℕ
@@ -16,12 +24,12 @@ cell_in cells place = slice_index_or cells place []
 abbrev pub has_quote : List ℕ → Bool
 has_quote line = list_any (λ c. c == 34) line
 
--- a line has something beside blanks and commas
-abbrev pub is_in_cell : ℕ → Bool
-is_in_cell c = not (is_blank c) && not (c == 44)
+-- a line has something beside blanks and separators
+abbrev pub is_in_cell : ℕ → ℕ → Bool
+is_in_cell separator c = not (is_blank c) && not (c == separator)
 
-abbrev pub has_cells : List ℕ → Bool
-has_cells line = list_any is_in_cell line
+abbrev pub has_cells : ℕ → List ℕ → Bool
+has_cells separator line = list_any (is_in_cell separator) line
 
 -- a text begins with the mark of UTF-8 (Unicode, 23.8, "Byte Order Mark")
 abbrev pub is_marked_text : List ℕ → Bool

@@ -38,9 +38,9 @@ column_place name cells = position (is_named_so name) cells
 abbrev pub place_or_why : Column → List (List ℕ) → Result ℕ TableReason
 place_or_why c cells = ok_or (column_place (column_name c) cells) (reason.Missing c)
 
--- the columns that some cells name: all of them must be named
-abbrev pub named_columns : List (List ℕ) → Result Columns TableReason
-named_columns cells =
+-- the columns that some cells name, which have this between them: all of them must be named
+abbrev pub named_columns : ℕ → List (List ℕ) → Result Columns TableReason
+named_columns separator cells =
     place_or_why column.Processor cells >>= λ processor.
     place_or_why column.Operation cells >>= λ operation.
     place_or_why column.Address cells >>= λ address.
@@ -49,6 +49,7 @@ named_columns cells =
     place_or_why column.Issued cells >>= λ issued.
     place_or_why column.Answered cells >>= λ answered.
     Ok (record {
+      separator = separator;
       count = length cells;
       processor = processor;
       operation = operation;

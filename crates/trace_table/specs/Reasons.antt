@@ -13,4 +13,5 @@ table_fault_of reason.CellCount = fault.Line
 table_fault_of reason.OperationsLimits = fault.Length
 table_fault_of (reason.Cell column) = fault.Line
 table_fault_of (reason.Line why) = fault_of_line_reason why
+table_fault_of reason.FoundUnnamed = fault.Line
 table_fault_of reason.Backwards = fault.Range

@@ -98,11 +98,16 @@ word_expected (Min v) = None
 abbrev pub says_found : List ℕ → Bool
 says_found word = bytes_eq word (codes "true") || bytes_eq word (codes "ok")
 
+-- by these words it says that it found another one, but not which
+abbrev pub says_another : List ℕ → Bool
+says_another word = bytes_eq word (codes "false") || bytes_eq word (codes "fail")
+
 -- the reply of a word to an operation of a code, which may expect a word
 abbrev pub reply_expected : Code → Option ℕ → List ℕ → Result Reply TableReason
 reply_expected code None word = reply_of_word code word
 reply_expected code (Some e) word =
-    if says_found word then Ok (Old e) else reply_of_word code word
+    if says_found word then Ok (Old e)
+    else if says_another word then Err reason.FoundUnnamed else reply_of_word code word
 
 abbrev pub reply_in_cell : Op → List ℕ → Result Reply TableReason
 reply_in_cell op cell =

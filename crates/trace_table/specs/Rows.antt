@@ -9,14 +9,15 @@ use Rattle.trace_table.specs.declared.column.Columns.{Columns}
 use Rattle.trace_table.specs.declared.reason.TableReason.{TableReason}
 use Rattle.trace_table.specs.declared.reason.TableReason.TheVariants as reason
 use Rattle.trace_table.specs.declared.row.TableRow.{TableRow}
-use Rattle.trace_table.specs.Cells.{table_cells, has_cells, has_quote, without_mark}
+use Rattle.trace_table.specs.Cells.{table_cells, has_cells, has_quote, separator_of, without_mark}
 use Rattle.trace_table.specs.Columns.{named_columns}
 use Rattle.trace_table.specs.Row.{row_of_cells}
 
 -- the columns that a first line names, which may have a mark in front
 abbrev pub head_columns : List ℕ → Result Columns TableReason
 head_columns line =
-    if has_quote line then Err reason.Quote else named_columns (table_cells (without_mark line))
+    if has_quote line then Err reason.Quote
+    else named_columns (separator_of line) (table_cells (separator_of line) (without_mark line))
 
 -- one row more: a cell for each column, and no more than 2^22 rows
 abbrev pub after_cells :
@@ -30,9 +31,9 @@ after_cells columns rows number cells =
 abbrev pub after_row_line :
     Columns → List TableRow → ℕ → List ℕ → Result (List TableRow) TableReason
 after_row_line columns rows number line =
-    if not (has_cells line) then Ok rows
+    if not (has_cells columns.separator line) then Ok rows
     else (if has_quote line then Err reason.Quote
-    else after_cells columns rows number (table_cells line))
+    else after_cells columns rows number (table_cells columns.separator line))
 
 -- the rows of these lines, of which the first has this number, behind others
 abbrev pub table_rows_from :

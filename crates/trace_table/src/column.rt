@@ -25,9 +25,11 @@ pub enum Column {
     Answered,
 }
 
-/// The places of the columns in each line of a table, from 0, and how many cells each line has.
+/// The places of the columns in each line of a table, from 0; how many cells each line has, and the byte between
+/// them.
 #[derive(Clone, Copy)]
 pub struct Columns {
+    pub separator: u8,
     pub count: usize,
     pub processor: usize,
     pub operation: usize,
@@ -90,11 +92,11 @@ fn place_or_why(column: Column, cells: &[&[u8]]) -> Result<usize, TableReason>
     }
 }
 
-/// The columns that the cells of a first line name.
+/// The columns that the cells of a first line name, which have a separator between them.
 ///
 /// Errors: the first column that none names.
-pub(crate) fn named_columns(cells: &[&[u8]]) -> Result<Columns, TableReason>
-    ensures { result ≡ named_columns (map (λ cell. cell.now) cells.now) }
+pub(crate) fn named_columns(separator: u8, cells: &[&[u8]]) -> Result<Columns, TableReason>
+    ensures { result ≡ named_columns separator (map (λ cell. cell.now) cells.now) }
 {
     let processor = place_or_why(Column::Processor, cells)?;
     let operation = place_or_why(Column::Operation, cells)?;
@@ -104,6 +106,7 @@ pub(crate) fn named_columns(cells: &[&[u8]]) -> Result<Columns, TableReason>
     let issued = place_or_why(Column::Issued, cells)?;
     let answered = place_or_why(Column::Answered, cells)?;
     Ok(Columns {
+        separator,
         count: cells.len(),
         processor,
         operation,

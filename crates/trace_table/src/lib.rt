@@ -4,6 +4,7 @@
 
 mod cells;
 pub mod column;
+mod hints;
 mod literal;
 pub mod moment;
 pub mod reason;

@@ -24,6 +24,8 @@ pub enum TableReason {
     /// The operation, its address, its values or its reply is refused as in a trace text: the address and the
     /// values are the words at the places 3 to 5. Or a request for memory was refused.
     Line(LineReason),
+    /// A cas says that it found another word than the one that it expects, but not which.
+    FoundUnnamed,
     /// The operation is answered before it is issued.
     Backwards,
 }
@@ -51,6 +53,7 @@ impl Reason for TableReason {
             TableReason::OperationsLimits => Fault::Length,
             TableReason::Cell(_) => Fault::Line,
             TableReason::Line(reason) => reason.fault(),
+            TableReason::FoundUnnamed => Fault::Line,
             TableReason::Backwards => Fault::Range,
         }
     }

@@ -5,7 +5,7 @@ ghost use Rattle.trace_lines.specs.Form.{spelled_form};
 ghost use Rattle.trace_table.specs.Row.{answer_in_cell, operation_in_cells, operation_with, processor_in};
 ghost use Rattle.trace_table.specs.Row.{processor_in_cell};
 ghost use Rattle.trace_table.specs.Row.{reply_expected, reply_in_cell, reply_of_word, row_of_cells, row_time};
-ghost use Rattle.trace_table.specs.Row.{says_found, time_in_cell, word_expected};
+ghost use Rattle.trace_table.specs.Row.{says_another, says_found, time_in_cell, word_expected};
 
 use crate::cells::cell_in;
 use crate::column::{Column, Columns};
@@ -188,6 +188,13 @@ fn says_found(word: &[u8]) -> bool
     word == b"true".as_slice() || word == b"ok".as_slice()
 }
 
+/// Whether this is a word by which a cas says that it found another word, but not which.
+fn says_another(word: &[u8]) -> bool
+    ensures { result ≡ says_another word.now }
+{
+    word == b"false".as_slice() || word == b"fail".as_slice()
+}
+
 /// The reply that a word is to an operation of a code, which may expect a word.
 fn reply_expected(code: Code, expected: Option<u64>, word: &[u8]) -> Result<Reply, TableReason>
     ensures { result ≡ reply_expected code expected word.now }
@@ -197,6 +204,8 @@ fn reply_expected(code: Code, expected: Option<u64>, word: &[u8]) -> Result<Repl
     };
     if says_found(word) {
         Ok(Reply::Old(found))
+    } else if says_another(word) {
+        Err(TableReason::FoundUnnamed)
     } else {
         reply_of_word(code, word)
     }

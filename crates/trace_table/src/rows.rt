@@ -5,7 +5,7 @@ ghost use Rattle.std.specs.Str.Lines.{lines};
 ghost use Rattle.lexer.specs.Outcome.{Gives, Makes};
 ghost use Rattle.trace_table.specs.Rows.{after_cells, after_row_line, head_columns, table_rows_from, table_rows};
 
-use crate::cells::{has_cells, has_quote, table_cells, without_mark};
+use crate::cells::{has_cells, has_quote, separator_of, table_cells, without_mark};
 use crate::column::{Column, Columns, named_columns};
 use crate::reason::TableReason;
 use crate::row::{TableRow, row_of_cells};
@@ -23,8 +23,9 @@ fn head_columns<A: Allocator>(alloc: A, line: &[u8]) -> Result<Columns, TableRea
     if has_quote(line) {
         return Err(TableReason::Quote);
     }
-    match table_cells(alloc, without_mark(line)) {
-        Ok(cells) => named_columns(&cells),
+    let separator = separator_of(line);
+    match table_cells(alloc, separator, without_mark(line)) {
+        Ok(cells) => named_columns(separator, &cells),
         Err(_) => Err(TableReason::Line(LineReason::Memory)),
     }
 }
@@ -63,13 +64,13 @@ fn take_line<A: Allocator + Copy>(
     ensures { Makes (TableReason.Line LineReason.Memory) rows.new.items result
         (after_row_line columns rows.old.items number line.now) }
 {
-    if !has_cells(line) {
+    if !has_cells(columns.separator, line) {
         return Ok(());
     }
     if has_quote(line) {
         return Err(TableReason::Quote);
     }
-    match table_cells(alloc, line) {
+    match table_cells(alloc, columns.separator, line) {
         Ok(cells) => take_cells(columns, rows, number, &cells),
         Err(_) => Err(TableReason::Line(LineReason::Memory)),
     }

@@ -5,8 +5,9 @@ ghost use Rattle.std.specs.Str.Lines.{lines};
 ghost use Rattle.lexer.specs.Named.{IsAbout};
 ghost use Rattle.trace_table.specs.Told.{TellsTableRefusal};
 
-use crate::cells::without_mark;
+use crate::cells::{separator_of, without_mark};
 use crate::column::{Column, is_named_so};
+use crate::hints::{put_column_hints, put_number_hint};
 use crate::reason::TableReason;
 use crate::rows::read_rows;
 use lexer::{Named, QuotedWords, Refusal, line_at};
@@ -49,6 +50,7 @@ fn column_of(reason: TableReason) -> Option<Column> {
     match reason {
         TableReason::Missing(column) => Some(column),
         TableReason::Cell(column) => Some(column),
+        TableReason::FoundUnnamed => Some(Column::Reply),
         TableReason::Backwards => Some(Column::Answered),
         TableReason::Line(why) => line_column(why),
         _ => None,
@@ -74,8 +76,9 @@ fn line_column(reason: LineReason) -> Option<Column> {
 fn cell_of(text: &[u8], line: u64, column: Column) -> &[u8] {
     let head = line_at(text, 1).unwrap_or(b"".as_slice());
     let row = line_at(text, line).unwrap_or(b"".as_slice());
-    let names = without_mark(head).split(|byte| *byte == b',');
-    for (name, cell) in names.zip(row.split(|byte| *byte == b',')) {
+    let separator = separator_of(head);
+    let names = without_mark(head).split(|byte| *byte == separator);
+    for (name, cell) in names.zip(row.split(|byte| *byte == separator)) {
         if is_named_so(column.name(), name) {
             return cell;
         }
@@ -133,6 +136,10 @@ fn reason_text(reason: TableReason, operation: QuotedWords<'_>) -> &'static str 
         TableReason::OperationsLimits => "a table has at most 4194304 operations",
         TableReason::Cell(column) => cell_text(column),
         TableReason::Line(why) => line_text(why, operation),
+        TableReason::FoundUnnamed => {
+            "the cas found another word than it expected, and that word belongs there; tools/from_csv \
+            also takes false and fail"
+        }
         TableReason::Backwards => "it comes before the time of the issue",
     }
 }
@@ -155,6 +162,28 @@ fn put_cell<W: fmt::Write>(
     f.write_str(": ")
 }
 
+/// Puts what was probably meant, where that can be told.
+fn put_hint<W: fmt::Write>(
+    f: &mut fmt::Formatter<W>,
+    text: &[u8],
+    refusal: Refusal<TableReason>,
+) -> fmt::Result {
+    let Refusal { line, reason } = refusal;
+    match reason {
+        TableReason::Missing(_) => put_column_hints(f, text),
+        TableReason::Line(LineReason::NotNumber(3)) => {
+            put_number_hint(f, cell_of(text, line, Column::Address))
+        }
+        TableReason::Line(LineReason::NotNumber(_)) => {
+            put_number_hint(f, cell_of(text, line, Column::Values))
+        }
+        TableReason::Line(LineReason::NotReply) => {
+            put_number_hint(f, cell_of(text, line, Column::Reply))
+        }
+        _ => Ok(()),
+    }
+}
+
 impl<'a> fmt::Display for TableSentence<'a> {
     fn fmt<W: fmt::Write>(&self, f: &mut fmt::Formatter<W>) -> fmt::Result {
         let Refusal { line, reason } = self.refusal;
@@ -167,6 +196,7 @@ impl<'a> fmt::Display for TableSentence<'a> {
             put_cell(f, self.text, line, column)?;
         }
         let cell = cell_of(self.text, line, Column::Operation);
-        f.write_str(reason_text(reason, QuotedWords::of_line(cell, 1)))
+        f.write_str(reason_text(reason, QuotedWords::of_line(cell, 1)))?;
+        put_hint(f, self.text, self.refusal)
     }
 }

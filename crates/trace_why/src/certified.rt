@@ -1,6 +1,7 @@
 //! Why a trace has no order, by a certificate that is checked.
 
-ghost use Rattle.std.specs.Prelude.{◌≡◌, ◌<◌, ◌≤◌, ◌+◌, ℕ, List, Ok, true, IfOk, IfSome, MatchOption, take, slice_index};
+ghost use Rattle.std.specs.Prelude.{◌≡◌, ◌<◌, ◌≤◌, ◌+◌, ℕ, List, Ok, true, IfOk, IfSome, MatchOption};
+ghost use Rattle.std.specs.Prelude.{take, slice_index};
 ghost use Rattle.std.specs.Str.Lines.{lines};
 ghost use Rattle.packet.specs.declared.kinds.Reply.{Reply};
 ghost use Rattle.trace_laws.specs.Traces.{TraceAnswersAt, TraceIssuesAt};
@@ -164,7 +165,7 @@ fn certified_by<A: Allocator + Copy>(
     Ok(None)
 }
 
-/// A certificate that no order explains the first events of a trace, if one is found.
+/// A certificate that no order explains the first events of a trace, if one is guessed.
 fn certificate_of<A: Allocator + Copy>(
     alloc: A,
     trace: &TraceText<A>,
@@ -185,7 +186,7 @@ fn certificate_of<A: Allocator + Copy>(
     certified_by(alloc, trace, end, &cited, why)
 }
 
-/// A certificate that no order explains a trace that is read up to a line, if one is found.
+/// A certificate that no order explains a trace that is read up to a line, if one is guessed.
 fn conflict_on<'a, A: Allocator + Copy>(
     alloc: A,
     name: &'a str,
@@ -220,8 +221,8 @@ fn conflict_on<'a, A: Allocator + Copy>(
     }))
 }
 
-/// A certificate that no order explains a trace up to a line, if one is found by the values of one word; `None` too where
-/// the text has a fault, or memory was refused.
+/// A certificate that no order explains a trace up to a line, if one is guessed by the values of one word; `None` too
+/// where the text has a fault, or memory was refused.
 pub fn conflict_sentence<'a, A: Allocator + Copy>(
     alloc: A,
     trace: Named<'a>,

@@ -14,8 +14,8 @@ struct Moment {
     line: u64,
 }
 
-/// When a word was there: from the first answer that tells it, or from the beginning, to the last issue of what sees it. Where
-/// that issue comes first, it was there at some time from this to the answer.
+/// When a word was there: from the first answer that tells it, or from the beginning, to the last issue of what sees
+/// it. Where that issue comes first, it was there at some time from this to the answer.
 #[derive(Clone, Copy)]
 struct Span {
     first: Option<Moment>,

@@ -4,7 +4,8 @@ use Rattle.packet.specs.declared.kinds.Reply.{Reply}
 use Rattle.trace_laws.specs.declared.event.Call.{Call}
 use Rattle.trace_laws.specs.declared.event.Event.{Event}
 use Rattle.trace_laws.specs.Traces.{TraceIssuesAt, TraceAnswersAt, IsAnswered}
-use Rattle.trace_zones.specs.Zones.{MayEnter, IsZone, AreApartSets, FindsSet, LeavesSet, IsSetLeft, IsSource, SeesSet, is_listed}
+use Rattle.trace_zones.specs.Zones.{MayEnter, IsZone, AreApartSets, FindsSet, LeavesSet, IsSetLeft}
+use Rattle.trace_zones.specs.Zones.{IsSource, SeesSet, is_listed}
 use Rattle.trace_zones.specs.declared.conflict.Before.{Before}
 use Rattle.trace_zones.specs.declared.conflict.Before.TheVariants.{Times, Atomic, Opening}
 use Rattle.trace_zones.specs.declared.conflict.Conflict.{Conflict}

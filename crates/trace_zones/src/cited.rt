@@ -40,8 +40,8 @@ fn add<A: Allocator>(events: &mut Vec<usize, A>, event: Option<usize>) -> Result
     Ok(())
 }
 
-/// The events that a certificate cites: each issues an operation. Of a zone the one that may enter it comes first, then those
-/// that see it.
+/// The events that a certificate cites: each issues an operation. Of a zone the one that may enter it comes first, then
+/// those that see it.
 pub fn cited_events<A: Allocator, B: Allocator>(
     alloc: A,
     conflict: &Conflict<B>,

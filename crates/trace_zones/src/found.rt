@@ -12,18 +12,18 @@ use trace_guess::pairs::partners_of;
 use trace_guess::words::by_word;
 use trace_laws::Event;
 
-/// What zones show of a trace.
+/// What zones show of a trace. A conflict is proved; a listing and nothing are guesses.
 #[derive(Drop)]
 pub enum Shown<A: Allocator> {
     /// No order explains it, for what it does on this word.
     Conflict { word: usize, why: Conflict<A> },
     /// If any order explains it, likely this one.
     Listing(Listing<A>),
-    /// Nothing.
+    /// Nothing: there may be a conflict, or an order.
     Nothing,
 }
 
-/// A certificate from one word, if one is found and holds.
+/// A certificate from one word, if one is guessed and holds.
 fn conflict_of<A: Allocator + Copy>(
     alloc: A,
     initial: u64,
@@ -44,8 +44,8 @@ fn conflict_of<A: Allocator + Copy>(
     Ok(Some(conflict))
 }
 
-/// A certificate from these events on one word, if one is found and holds; else its operations are added to the turns,
-/// or it is noted that they can't be.
+/// A certificate from these events on one word, if one is guessed and holds; else its operations are added to the
+/// turns, or it is noted that they can't be.
 fn look_at<A: Allocator + Copy>(
     alloc: A,
     initial: u64,
@@ -67,7 +67,7 @@ fn look_at<A: Allocator + Copy>(
     Ok(found)
 }
 
-/// Whether a certificate of a word holds in these events: then no order explains them.
+/// Whether a certificate of a word is seen to hold in these events: then no order explains them. A no is a guess.
 ///
 /// Errors: out of memory.
 pub fn holds<A: Allocator + Copy, B: Allocator>(
@@ -83,7 +83,7 @@ pub fn holds<A: Allocator + Copy, B: Allocator>(
     Ok(conflict_holds(initial, events, &partners, word, conflict))
 }
 
-/// What zones show of a trace over these opening words.
+/// What zones show of a trace over these opening words: a guess, but for a conflict.
 ///
 /// Errors: out of memory.
 pub fn look<A: Allocator + Copy>(

@@ -19,7 +19,8 @@ pub fn zones_in_conflict_have_no_order()
     ensures { (opening : List ℕ) (trace : List Event) (w : ℕ) (one other : ℕ → Bool)
         → IsTrace (length opening) trace → w < length opening → IsZone (slice_index opening w) trace w one
         → IsZone (slice_index opening w) trace w other → AreApartSets one other
-        → IsSeenBefore (slice_index opening w) trace w one other → IsSeenBefore (slice_index opening w) trace w other one
+        → IsSeenBefore (slice_index opening w) trace w one other
+        → IsSeenBefore (slice_index opening w) trace w other one
         → IsLinearizable opening trace → ⊥ }
 {}
 

@@ -201,7 +201,7 @@ impl<A: Allocator + Copy> Word<A> {
         None
     }
 
-    /// A certificate from the stretches.
+    /// A certificate from the stretches, if one is guessed.
     fn contradiction(&self, alloc: A) -> Result<Option<Conflict<A>>, AllocError> {
         let stretches = match self.stretches(alloc)? {
             Ok(stretches) => stretches,
@@ -214,7 +214,7 @@ impl<A: Allocator + Copy> Word<A> {
         }
     }
 
-    /// A certificate from what is known of this word.
+    /// A certificate from what is known of this word, if one is guessed.
     pub(crate) fn conflict(&self, alloc: A) -> Result<Option<Conflict<A>>, AllocError> {
         if self.unclear {
             return Ok(None);

@@ -17,7 +17,8 @@ pub(crate) struct Use {
     pub left: Option<u64>,
 }
 
-/// The word that an operation found, and the other word that it left, if it did anything; `None` where that isn't clear.
+/// The word that an operation found, and the other word that it left, if it did anything; `None` where that isn't
+/// clear.
 fn effect_of(op: Op, reply: Option<Reply>) -> Option<(Option<u64>, Option<u64>)> {
     match reply {
         Some(Reply::Old(word)) => {

@@ -4,7 +4,8 @@ ghost use Rattle.std.specs.Prelude.{◌≡◌, ◌≤◌, ◌<◌, ℕ, true, fa
 ghost use Rattle.std.specs.List.Sorted.{IsNonDecreasing};
 ghost use Rattle.trace_laws.specs.declared.event.Call.{Call};
 ghost use Rattle.trace_laws.specs.Traces.{TraceIssuesAt};
-ghost use Rattle.trace_zones.specs.Conflicts.{IsSetReader, IsSetLeaver, IsSetLeftBy, IsSetWriter, IsSetWitness, EntersOnly};
+ghost use Rattle.trace_zones.specs.Conflicts.{IsSetReader, IsSetLeaver, IsSetLeftBy, IsSetWriter};
+ghost use Rattle.trace_zones.specs.Conflicts.{IsSetWitness, EntersOnly};
 ghost use Rattle.trace_zones.specs.Zones.{IsZone, MayEnter, is_listed};
 
 use crate::rules::{avoids, finds, has, leaves, may_enter};

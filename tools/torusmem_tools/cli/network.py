@@ -33,10 +33,11 @@
                link; the escapes, on a second, in order
   hyperx S0xS1 routers that differ in one digit have a link: as in a hypercube
   fat-tree KxL L levels of routers with K links up and down: up by any link to a common ancestor, then down
-  dragonfly A  groups of A routers, each with one link to another group: straight there, or by way of any group
+  dragonfly A  groups of A routers, each with one link to another group: straight there, or by way of any group. AxPxH: P
+               nodes and H such links at each router (8x4x4 has 1,056 nodes). `--minimal`: straight there alone
   up-down FILE the topology of an `anynet` file: up towards a root by any link, then down
   from-table   routing tables, as CSV: a row `router,destination,next,virtual` for each choice, and maybe the columns `escape`
-               (empty or `escape`: the channel is an escape), `from` and `in`: the row is of packets that came from this
+               (empty or `escape`: the channel is an escape, whatever its other rows say, which standard error tells), `from` and `in`: the row is of packets that came from this
                router (its own: of its sender), and by this virtual channel; empty: of all. The first line names the
                columns. Routers have numbers or names
   table FILE   CSV with the header `line`: each row is a line of the text, its words as columns
@@ -53,10 +54,12 @@
                cycle which channels are full in the end, of which packets, and which channel these wait for; where routers
                choose, over which channels packets can go on ahead of that, and of `rising` over how many a packet goes at most.
                `--find-escapes`: prints lines `escape` with which the text, without its own, is `rising`; where none are found,
-               that, with status 1. --tries says how many sets of escapes it looks at, 2,000 if not given
-  run FILE     a run that deadlocks, where routers don't choose: from the empty network on, packets of one flit. A line a move:
+               that, with status 1. --tries says how many sets of escapes it looks at, 2,000 if not given.
+               `--states N`: looks at the states of packets of one flit, N at most, at --depth; prints the run to a dead state,
+               behind a line `# locks up after N moves`, or that there is none in all of them, or among the first N
+  run FILE     a run that deadlocks: from the empty network on, packets of one flit. A line a move:
                `send FROM TO LENGTH`, `more X` (the next flit of a sender's packet), `take X` (into the latch behind
-               channel X), `put X` (from that latch on), `accept X`, `credit X`
+               channel X), `put X` (from that latch on; where routers choose `put X Y`, into channel Y), `accept X`, `credit X`
   replay FILE RUN  replays such moves, and prints `locked` if flits stand and nothing can go, `empty` if there is
                no flit, else each move that may still happen without a new packet. The first line that may not
                happen is refused. A receiver takes a flit only if each channel on which it answers has a credit
@@ -116,16 +119,17 @@ from torusmem_tools.draw import paper
 from torusmem_tools.draw.network_picture import picture
 from torusmem_tools.draw.router_ends import plan_of
 from torusmem_tools.model import router_rules, traffic_draw
-from torusmem_tools.model.adaptive_verdict import sentences
-from torusmem_tools.model.adaptive_walk import duato_verdict
+from torusmem_tools.model.adaptive_verdict import sentences, walked_verdict
+from torusmem_tools.model.dead_fillings import DeadSets
 from torusmem_tools.model.deadlock import run_of
 from torusmem_tools.model.escape_search import TRIES, escapes_said
+from torusmem_tools.model.flit_states import states_said
 from torusmem_tools.model.network import Network, channel_dependencies, parse_network
 from torusmem_tools.model.network_verdict import Verdict, explain, verdict_of, verdict_read
 from torusmem_tools.model.network_words import network_of, text_of
 from torusmem_tools.model.packet_waits import simulated
 from torusmem_tools.model.turn_models import TURNS
-from torusmem_tools.model.wormhole import replay_moves
+from torusmem_tools.model.wormhole import line_of, replay_moves
 from torusmem_tools.texts.network_rows import table
 
 TOOL = "network"
@@ -133,55 +137,42 @@ TOOL = "network"
 MOST_DRAWN = 4096
 
 
-def alone(net: Network) -> None:
-    """Refuses a network whose routers choose."""
-    if net.is_adaptive():
-        has = "several choices for a channel and a destination" if net.chooses() else "lines `escape`"
-        raise Refusal(f"runs are of networks whose routers don't choose, and this one has {has}")
-
-
 def verdict(net: Network, path: str) -> Verdict:
     """The verdict of a text that `torusmem network` printed, or that of the walk."""
     return verdict_read(net, text_of(path), path) if path else verdict_of(net)
 
 
+def put_or_leave(said: str, is_good: bool) -> str:
+    """What is said, with status 0. Where that isn't good, this prints it itself, and ends with status 1."""
+    if is_good:
+        return said
+    command.put(TOOL, said)
+    command.leave(TOOL, 1)
+
+
 def walk(net: Network, path: str, is_explained: bool) -> str:
-    """The verdict's kind, or all of it. Where it isn't `rising`, this prints it itself, and ends with status 1."""
+    """The verdict's kind, or all of it. The status is 0 where it is `rising`."""
     if net.is_adaptive():
         return walk_adaptive(net, path, is_explained)
     found = verdict(net, path) if path or is_explained else Verdict(channel_dependencies(net)[0], "")
-    said = explain(net, found) if is_explained else f"{found.kind}\n"
-    if found.kind != "rising":
-        command.put(TOOL, said)
-        command.leave(TOOL, 1)
-    return said
+    return put_or_leave(explain(net, found) if is_explained else f"{found.kind}\n", found.kind == "rising")
 
 
 def walk_adaptive(net: Network, path: str, is_explained: bool) -> str:
-    """The verdict on a network whose routers choose. Where it isn't `rising`, this prints it, and ends with status 1."""
+    """The verdict on a network whose routers choose. The status is 0 where it is `rising`."""
     found = verdict(net, path).chosen if path else None
-    found = found or duato_verdict(net)
-    said = sentences(net, found) if is_explained else found.text()
-    if found.kind == "rising":
-        return said
-    command.put(TOOL, said)
-    command.leave(TOOL, 1)
-    return ""
-
-
-def escapes_of(net: Network, tries: int) -> str:
-    """The lines `escape` that are found. Where none are, this says so itself, and ends with status 1."""
-    said, are_found = escapes_said(net, tries)
-    if are_found:
-        return said
-    command.put(TOOL, said)
-    command.leave(TOOL, 1)
+    found = found or walked_verdict(net)
+    return put_or_leave(sentences(net, found) if is_explained else found.text(), found.kind == "rising")
 
 
 def deadlock_run(net: Network, path: str, depth: int) -> str:
     """The run of a network that deadlocks."""
-    alone(net)
     found = verdict(net, path)
+    if found.chosen:
+        fills = found.chosen.fills
+        if not fills:
+            raise Refusal(f"the verdict is `{found.kind}`: no channels are known that fill up until nothing can go")
+        return "\n".join(map(line_of, DeadSets(net).moves(fills, depth))) + "\n"
     if found.kind != "cycle":
         raise Refusal(f"the verdict is `{found.kind}`: there is no cycle that deadlocks")
     return "\n".join(run_of(net, found.fills, depth)) + "\n"
@@ -201,11 +192,11 @@ def draw_network(net: Network, path: str, on: Optional[paper.Paper]) -> str:
 GENERATORS = ("mesh", "ring", "torus", "tree", "hypercube", "hyperx", "fat-tree", "dragonfly", "up-down", "from-table", "from-booksim", "from-garnet")
 # Of which words each option is of use.
 USES = {**{it: ("traffic",) for it in (*traffic_draw.DRAWN, "length", "from_csv")}, "mixed": ("mesh",), "adaptive": ("mesh", "torus", "hypercube", "hyperx"), **{it.replace("-", "_"): ("mesh",) for it in TURNS},
-        "dateline": ("ring", "torus"), "plain": ("torus",), "vcs": GENERATORS,
+        "dateline": ("ring", "torus"), "plain": ("torus",), "minimal": ("dragonfly",), "vcs": GENERATORS,
         "ordered": ("from-garnet",), "set": ("from-garnet",), "classes": GENERATORS, "shared": GENERATORS,
-        "svg": (*GENERATORS, "walk"), "names": GENERATORS, "explain": ("walk", "simulate"), "find_escapes": ("walk",), "tries": ("walk",),
+        "svg": (*GENERATORS, "walk"), "names": GENERATORS, "explain": ("walk", "simulate"), "find_escapes": ("walk",), "tries": ("walk",), "states": ("walk",),
         **{it: ("simulate",) for it in router_rules.OPTIONS},
-        "verdict": (*GENERATORS, "walk", "run"), "depth": ("run", "replay", "simulate"), "arbiter": ("simulate",), "moves": ("replay", "simulate")}
+        "verdict": (*GENERATORS, "walk", "run"), "depth": ("walk", "run", "replay", "simulate"), "arbiter": ("simulate",), "moves": ("replay", "simulate")}
 
 
 def asked() -> Namespace:
@@ -219,6 +210,7 @@ def asked() -> Namespace:
     for name in TURNS:
         words.add_argument(f"--{name}", action="store_true", help=f"of a mesh: any way, by the {name} turns")
     words.add_argument("--plain", action="store_true", help="of a torus: one class of packets, without replies")
+    words.add_argument("--minimal", action="store_true", help="of a dragonfly: straight to the group alone")
     words.add_argument("--dateline", action="store_true", help="of a ring, or of torus --plain: two channels on each link")
     words.add_argument("--vcs", type=command.whole(2, 16), metavar="N", help="so many virtual channels for each hop, 2 to 16, of which routers take any")
     words.add_argument("--ordered", action="store_true", help="of from-garnet: the first of the links that it may take")
@@ -231,6 +223,7 @@ def asked() -> Namespace:
     words.add_argument("--explain", action="store_true", help="of walk, and of simulate where it is locked: who holds what, and waits for what")
     words.add_argument("--find-escapes", action="store_true", help="of walk: lines `escape` with which it is rising")
     words.add_argument("--tries", type=command.whole(1, 10**6), metavar="N", help=f"of --find-escapes: how many sets of escapes at most, {TRIES} by default")
+    words.add_argument("--states", type=command.whole(1, 10**7), metavar="N", help="of walk: look at the states of packets of one flit, N at most")
     words.add_argument("--verdict", metavar="FILE", help="what `torusmem network` printed of it")
     words.add_argument("--depth", type=command.whole(1, 8), help="how many flits a channel holds: 1, or up to 8")
     router_rules.add_words(words, "of simulate: ")
@@ -257,6 +250,11 @@ def check_together(given: Namespace) -> None:
         raise command.WrongWords(f"--{'svg' if given.svg else 'explain' if given.explain else 'verdict'} is of no use with --find-escapes (--help says more)")
     if given.tries and not given.find_escapes:
         raise command.WrongWords("--tries is of use with --find-escapes alone (--help says more)")
+    if given.states and (given.svg or given.explain or given.verdict or given.find_escapes):
+        other = "svg" if given.svg else "explain" if given.explain else "verdict" if given.verdict else "find-escapes"
+        raise command.WrongWords(f"--{other} is of no use with --states (--help says more)")
+    if given.what == "walk" and given.depth and not given.states:
+        raise command.WrongWords("--depth is of use with walk where --states is given (--help says more)")
     if given.shared and not given.classes:
         raise command.WrongWords("--shared is of use with --classes alone (--help says more)")
     if given.verdict and given.what in GENERATORS and not given.svg:
@@ -285,13 +283,13 @@ def work() -> str:
     if given.what == "traffic":
         return traffic_draw.traffic_text(net, given)
     if given.what in ("replay", "simulate"):
-        if given.what == "replay":
-            alone(net)
         words = net, given.depth or 1, text_of(given.moves), given.moves
-        shown = replay_moves(*words) if given.what == "replay" else simulated(*words, router_rules.rules_of(given), given.explain)
+        shown = replay_moves(*words) if given.what == "replay" else simulated(*words, router_rules.rules_of(given, given.arbiter), given.explain)
         return "\n".join(shown) + "\n"
+    if given.states:
+        return put_or_leave(*states_said(net, given.states, given.depth or 1))
     if given.find_escapes:
-        return escapes_of(net, given.tries or TRIES)
+        return put_or_leave(*escapes_said(net, given.tries or TRIES))
     if given.what == "run":
         return deadlock_run(net, given.verdict, given.depth or 1)
     return draw_network(net, given.verdict, given.width) if given.svg else walk(net, given.verdict, given.explain)

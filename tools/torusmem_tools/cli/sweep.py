@@ -5,7 +5,8 @@
     tools/sweep --shape 4x4 --traffic uniform --loads 0.02,0.06,0.1 --csv
     tools/network mesh 4x4 > mesh.txt; tools/sweep --network mesh.txt --loads 0.02,0.04,0.06,0.08
     tools/sweep --network mesh.txt --length 1 --cycle 2 --saturation
-    tools/sweep --network mesh.txt --json > mesh.json; tools/sweep --read mesh.json --svg --width 252pt > mesh.svg
+    tools/sweep --network mesh.txt --csv > loads.csv; tools/sweep --network mesh.txt --saturation --csv > saturations.csv
+    tools/sweep --read loads.csv --read saturations.csv --svg --width 252pt > mesh.svg
 
 For each shape, pattern and load, and for each of --seeds seeds, a run is drawn. Each tile asks for an operation with
 the probability of the load a round; of these --stores in a hundred are stores, the others loads. What is asked for waits
@@ -31,9 +32,9 @@ With --network each sender of the network asks for a packet of --length flits wi
 `tools/network traffic` draws them, by its patterns, and also --to, --matrix, --hot and --burst. Accepted are the packets that
 are delivered in the window, for each round and sender; the latency is that of docs/FORMATS.md ("Traffic text"). The rounds are those
 of `torusmem simulate`. Where routers choose, and with --replies, --outstanding, --router-delay, --link-delay or --arbiter oldest, they
-are those of the plain model (`tools/network simulate`), and the output says so; virtual channels share no link, each carries a flit
+are those of the plain model (`tools/network simulate`), and the output and a picture say so; virtual channels share no link, each carries a flit
 in two rounds. With --replies a packet counts with all its answers. The latency without load is that of the shortest way. All else is
-as of machines. A curve of latency ends at its first saturated load.
+as of machines. A curve of latency ends at its first saturated load; with --read its least saturated load stands in the picture, too.
 
 A flit passes a channel in two rounds, a take and a put. With --cycle 2 all that is said of rounds is said of cycles of two, as
 they are in simulators in which a flit passes a channel in one cycle.
@@ -54,6 +55,7 @@ from torusmem_tools.model import cycles, offered_load, offered_packets, router_r
 from torusmem_tools.model.swept import Point, Row
 from torusmem_tools.model.torus import radices_of
 from torusmem_tools.progress import rewrite
+from torusmem_tools.texts import swept_rows
 from torusmem_tools.texts.columns import aligned
 
 TOOL = "sweep"
@@ -107,8 +109,20 @@ def seeded(points: list[Point], given: Any) -> list[Point]:
 
 def made_by(rows: list[Row]) -> str:
     """The line on runs that the program didn't make."""
-    names = dict.fromkeys(next(iter(it.values())) for it in rows if it["by"] == swept.TOOLS)
+    has_many = has_many_arbiters(rows)
+    by_tools = [it for it in rows if it["by"] == swept.TOOLS]
+    names = dict.fromkeys(f"{next(iter(it.values()))}{', ' + it['arbiter'] if has_many else ''}" for it in by_tools)
     return f"# by the plain model of tools/network, which isn't proved: {', '.join(names)}\n" if names else ""
+
+
+def has_many_arbiters(rows: list[Row]) -> bool:
+    """Whether some rows differ in their arbiter."""
+    return len({it["arbiter"] for it in rows}) > 1
+
+
+def traffic(row: Row, has_many: bool) -> str:
+    """The traffic of a row, and its arbiter where there are many."""
+    return f"{row['traffic']}, {row['arbiter']}" if has_many else str(row["traffic"])
 
 
 def saturation_table(rows: list[Row]) -> str:
@@ -116,7 +130,7 @@ def saturation_table(rows: list[Row]) -> str:
     cells = [[next(iter(rows[0])), "traffic", "without load", ""]]
     for it in rows:
         zero = "-" if it["zero_load"] is None else f"{it['zero_load']:.2f}"
-        cells.append([it[cells[0][0]], it["traffic"], zero, f"saturation {it['saturation']:.3f} +- {it['saturation_within']:.3f}"])
+        cells.append([it[cells[0][0]], traffic(it, has_many_arbiters(rows)), zero, f"saturation {it['saturation']:.3f} +- {it['saturation_within']:.3f}"])
     return "".join(f"{it}\n" for it in aligned(cells, (0, 1, 3))) + made_by(rows)
 
 
@@ -131,7 +145,7 @@ def table(rows: list[Row]) -> str:
         both = f"{it['accepted']:.4f} +- {it['accepted_within']:.4f}", f"{it['latency']:.2f} +- {it['latency_within']:.2f}"
         mark = "saturated" if it["saturated"] else ""
         share = f"{it['least']:.4f} ({it['worst']}) to {it['most']:.4f}"
-        cells.append([it[heads[0]], it["traffic"], f"{it['offered']:g}", *both, str(it["p95"]), str(it["longest"]), share, zero, mark])
+        cells.append([it[heads[0]], traffic(it, has_many_arbiters(rows)), f"{it['offered']:g}", *both, str(it["p95"]), str(it["longest"]), share, zero, mark])
     return "".join(f"{it}\n" for it in aligned(cells, (0, 1, 9))) + made_by(rows)
 
 
@@ -161,11 +175,11 @@ def words() -> command.Parser:
     what.add_argument("--shape", metavar="RADIX[xRADIX..]", type=radices_of, action="append", help=shape)
     network = "the text of a network, in place of a machine; may be given more than once, too"
     what.add_argument("--network", metavar="NETWORK", action="append", help=network)
-    read = "with --svg: a file of what --json printed of loads, whose curves are drawn anew; may be given more than once, too"
+    read = "with --svg: a file of what --json or --csv printed of loads, whose curves are drawn, and also of saturations; may be given more than once, too"
     what.add_argument("--read", metavar="FILE", action="append", help=read)
     usual = f"if not given all but {' and '.join(traffic_patterns.BY_BITS)}, of a network uniform"
-    traffic = f"one of {', '.join(traffic_patterns.PATTERNS)}; may be given more than once; {usual}"
-    add("traffic", "PATTERN", choices=traffic_patterns.PATTERNS, action="append", help=traffic)
+    patterns = f"one of {', '.join(traffic_patterns.PATTERNS)}; may be given more than once; {usual}"
+    add("traffic", "PATTERN", choices=traffic_patterns.PATTERNS, action="append", help=patterns)
     loads = f"offered loads, operations per tile and round, or packets per sender and round; {','.join(map(str, LOADS))} if not given"
     add("loads", "L[,L..]", type=loads_of, help=loads)
     parser.add_argument("--saturation", action="store_true", help="in place of loads: the least load that is saturated, by bisection, of each seed")
@@ -177,7 +191,7 @@ def words() -> command.Parser:
     number("warm-up", "R", 0, 100000, 200, "rounds before the measured ones")
     number("window", "R", 1, 100000, 500, "rounds that are measured")
     number("drain", "R", 0, 100000, 500, "the most rounds behind these")
-    router_rules.add_words(parser, "of a network: ")
+    router_rules.add_words(parser, "of a network: ", many=True)
     cycles.add_word(parser)
     number("seeds", "N", 2, 30, 5, "runs of each load, each by a seed of its own")
     number("seed", "S", 0, 2**64 - 1, 1, "the first seed")
@@ -194,13 +208,13 @@ def words() -> command.Parser:
 
 def points_of(given: Any) -> Iterator[Point]:
     """The loads that are asked for, each with the first seed."""
-    rounds, rules = (given.warm_up, given.window, given.drain), router_rules.rules_of(given, given.cycle)
-    for network, traffic, load in itertools.product(given.network or [], given.traffic or [None], given.loads):
-        demand = traffic_draw.demand_of(given, traffic)
+    rounds = given.warm_up, given.window, given.drain
+    for network, pattern, arbiter, load in itertools.product(given.network or [], given.traffic or [None], given.arbiter or [None], given.loads):
+        demand, rules = traffic_draw.demand_of(given, pattern), router_rules.rules_of(given, arbiter, given.cycle)
         yield offered_packets.Point(network, demand, load, given.depth, *rounds, given.cycle, rules, given.seed)
     tags, stores = given.tags or TAGS, STORES if given.stores is None else given.stores
-    for radices, traffic, load in itertools.product(given.shape or [], given.traffic or USUAL, given.loads):
-        yield offered_load.Point(tuple(radices), traffic, load, tags, given.depth, stores, *rounds, not given.rounds_in_order, given.cycle, given.seed)
+    for radices, pattern, load in itertools.product(given.shape or [], given.traffic or USUAL, given.loads):
+        yield offered_load.Point(tuple(radices), pattern, load, tags, given.depth, stores, *rounds, not given.rounds_in_order, given.cycle, given.seed)
 
 
 def asked() -> Any:
@@ -225,30 +239,20 @@ def named(rows: list[Row], given: Any) -> list[Row]:
     return [{("network" if key == "shape" and given.network else key): it for key, it in row.items()} for row in rows]
 
 
-def read_rows(path: str) -> list[Row]:
-    """The rows that --json printed, in a file."""
-    try:
-        rows = json.loads(command.contents(path))
-        return [{("shape" if key == "network" else key): it for key, it in row.items()} for row in rows if row["latency"] >= row["offered"] >= 0 and row["unit"]]
-    except (ValueError, KeyError, TypeError, AttributeError):
-        raise command.Refusal(f"{path} isn't what sweep --json prints of loads") from None
-
-
 def plot(rows: list[Row], given: Any, words: str) -> str:
     """The curves of some rows."""
-    is_network, unit = rows[0]["length"] is not None, rows[0]["unit"]
-    axis = f"offered, {'packets per sender' if is_network else 'operations per tile'} and {unit}"
-    said = f"packets of {rows[0]['length']} flit{'s' * (rows[0]['length'] != '1')}, depth {rows[0]['depth']}" if is_network else words
-    return curves.plot(rows, given.width, said, axis, unit)
+    first = next(it for it in rows if "offered" in it)
+    length, unit = first["length"], first["unit"]
+    what = "operations per tile" if length is None else "flits per node" if length == "1" else "packets per sender"
+    said = words if length is None else f"packets of {length} flit{'s' * (length != '1')}, depth {first['depth']}"
+    return curves.plot(rows, given.width, said, f"offered and accepted: {what} and {unit}", unit)
 
 
 def work() -> str:
     """What the tool prints."""
     given = asked()
     if given.read:
-        rows = [row for path in given.read for row in read_rows(path)]
-        if not rows:
-            raise command.Refusal(f"{given.read[0]} has no load")
+        rows = swept_rows.read(given.read)
         return plot(rows, given, f"depth {rows[0]['depth']}")
     for it in points_of(given):
         # (what is refused is refused ahead of all runs, and they need not read the networks again)

@@ -32,14 +32,17 @@ def marks_of(net: Network, plan: Plan, verdict: Verdict) -> Marks:
 
 
 def marks_of_chosen(net: Network, found: AdaptiveVerdict) -> Marks:
-    """The same of a network whose routers choose: the numbers of escapes, or the channels of a cycle and those over
-    which they lead on."""
+    """The same of a network whose routers choose: the numbers of escapes; or the channels that fill up until nothing can go; or
+    those of a cycle, and those over which they lead on."""
     marks = net.escaping()
     loose = {x for x in range(len(net.kinds)) if x not in marks}
     held = {it for x, edge, _ in found.turns for it in (x, *edge.over)}
     answered = {(x, y) for x, edge, y in found.turns if edge.to is None}
     if found.kind == "rising":
         return Marks({x: str(it) for x, it in enumerate(found.numbers) if x in marks}, replies=net.replies, loose=loose)
+    if found.fills:
+        full = {it.at for it in found.fills}
+        return Marks({x: str(x) for it in found.fills for x in (it.at, it.to, *it.way)}, full, net.replies, set(), loose)
     named = held | {edge.to for _, edge, _ in found.turns if edge.to is not None}
     if not found.turns:
         named = {number_of(it) for it in found.kind.partition(":")[0].split()[2:]}

@@ -2,11 +2,13 @@
 from __future__ import annotations
 
 import itertools
-from typing import Any, Dict, Iterator, NamedTuple, Optional
+from typing import Any, Callable, Dict, Iterator, NamedTuple, Optional
 
 from torusmem_tools.draw import palette, svg_text
 from torusmem_tools.draw.paper import Paper
+from torusmem_tools.draw.strokes import width_of
 from torusmem_tools.draw.svg_text import Point
+from torusmem_tools.model import swept
 
 COLOURS = {"uniform": palette.BLUE, "transpose": palette.VERMILLION, "bit-complement": palette.GREEN}
 COLOURS.update({"neighbour": palette.SKY, "tornado": palette.PURPLE, "hot-spot": palette.ORANGE})
@@ -72,6 +74,11 @@ class Panel:
         yield svg_text.text(x, y, name, size, text_anchor="middle", transform=turned)
 
 
+def curve_of(row: Row) -> tuple[str, str, Optional[str]]:
+    """The curve that a row belongs to."""
+    return row["shape"], row["traffic"], row["arbiter"]
+
+
 def tooltip(row: Row) -> str:
     """What the tooltip of a load says."""
     text = f"{row['shape']}, {row['traffic']}, offered {row['offered']:g}: accepted {row['accepted']:.4f} +- {row['accepted_within']:.4f}"
@@ -79,12 +86,13 @@ def tooltip(row: Row) -> str:
 
 
 def looks_of(curves: list[list[Row]]) -> list[Look]:
-    """The looks of curves: colours and marks tell patterns, and dashes shapes; of one pattern all three tell shapes."""
-    shapes, patterns = (list(dict.fromkeys(rows[0][key] for rows in curves)) for key in ("shape", "traffic"))
+    """The looks of curves: colours and marks tell patterns, and dashes shapes and arbiters; of one pattern all three tell these."""
+    names = [curve_of(rows[0]) for rows in curves]
+    ways, patterns = list(dict.fromkeys((shape, arbiter) for shape, _, arbiter in names)), {it for _, it, _ in names}
     found = []
-    for rows in curves:
-        number = shapes.index(rows[0]["shape"])
-        like = rows[0]["traffic"] if len(patterns) > 1 else list(MARKS)[number % 6]
+    for shape, pattern, arbiter in names:
+        number = ways.index((shape, arbiter))
+        like = pattern if len(patterns) > 1 else list(MARKS)[number % 6]
         found.append(Look(COLOURS[like], MARKS[like], DASHES[number % len(DASHES)]))
     return found
 
@@ -110,37 +118,85 @@ def curve(panel: Panel, rows: list[Row], key: str, look: Look) -> str:
     return svg_text.group(parts)
 
 
-def legend(curves: list[list[Row]], looks: list[Look], place: Point, wide: float, letters: float) -> tuple[list[str], float]:
-    """A line for each curve, in columns, and the signs below; and how far down it goes."""
-    parts, columns = [], max(1, int(wide // (16 * letters)))
-    for at, (rows, look) in enumerate(zip(curves, looks)):
+def saturation(panel: Panel, row: Row, look: Look) -> str:
+    """Where a curve is saturated: its 95 % interval, at the latency by which that is told."""
+    y, half, load = swept.SATURATION * row["zero_load"], row["saturation_within"], row["saturation"]
+    (low, at), (high, _), cap = panel.at(max(0.0, load - half), y), panel.at(load + half, y), 0.45 * panel.letters
+    drawn = [[(low, at), (high, at)], [(low, at - cap), (low, at + cap)], [(high, at - cap), (high, at + cap)]]
+    said = svg_text.title(f"{row['shape']}, {row['traffic']}: saturation {load:.3f} +- {half:.3f}")
+    return svg_text.group([said, *(svg_text.element("path", d=svg_text.path(it), stroke=look.colour, stroke_width=0.14 * panel.letters) for it in drawn)])
+
+
+def names_of(curves: list[list[Row]], saturations: list[Row]) -> list[str]:
+    """What the legend calls the curves: with the arbiters where these differ, and where each is saturated."""
+    has_many, found = len({rows[0]["arbiter"] for rows in curves}) > 1, []
+    ends = {curve_of(it): f": {it['saturation']:.3f} \N{PLUS-MINUS SIGN} {it['saturation_within']:.3f}" for it in saturations}
+    for rows in curves:
+        shape, pattern, arbiter = curve_of(rows[0])
+        found.append(f"{shape} {pattern}{f', {arbiter}' if has_many else ''}{ends.get(curve_of(rows[0]), '')}")
+    return found
+
+
+def signs(rows: list[Row]) -> list[str]:
+    """What the legend says of signs, and of who made the runs."""
+    found, by_tools = list(SIGNS), [it for it in rows if it["by"] == swept.TOOLS]
+    if any("saturation" in it for it in rows):
+        found.append("bars with ends, and numbers: the least saturated load")
+    if by_tools:
+        names = apart(by_tools, [it for it in rows if it["by"] != swept.TOOLS])
+        found.append(f"by the plain model, not proved{': ' * bool(names)}{', '.join(names)}")
+    return found
+
+
+def apart(rows: list[Row], others: list[Row]) -> list[str]:
+    """The names of some rows that tell them from the others: their arbiters, or their shapes, or both. None where there are no others."""
+    named: Callable[[list[Row], tuple[str, ...]], list[str]] = lambda of, keys: list(dict.fromkeys(" ".join(it[key] for key in keys if it[key]) for it in of))
+    ways = [("arbiter",), ("shape",), ("shape", "arbiter")]
+    best = next((it for it in ways if set(named(rows, it)).isdisjoint(named(others, it))), ways[-1])
+    return named(rows, best) if others else []
+
+
+def legend(looks: list[Look], names: list[str], place: Point, wide: float, letters: float) -> tuple[list[str], float]:
+    """A line for each curve, in columns; and where the signs below begin."""
+    columns = max(1, int(wide // max(16 * letters, *(4.5 * letters + width_of(it, letters) for it in names))))
+    parts = []
+    for at, (name, look) in enumerate(zip(names, looks)):
         x, y = place[0] + at % columns * wide / columns, place[1] + at // columns * 1.6 * letters
         line = {"stroke": look.colour, "stroke_width": 0.16 * letters, "stroke_dasharray": look.dashes}
         parts.append(svg_text.element("path", d=svg_text.path([(x, y - 0.35 * letters), (x + 3 * letters, y - 0.35 * letters)]), **line))
         parts.append(palette.mark(look.mark, x + 1.5 * letters, y - 0.35 * letters, 0.3 * letters, look.colour, True))
-        parts.append(svg_text.text(x + 3.5 * letters, y, f"{rows[0]['shape']} {rows[0]['traffic']}", letters))
-    low = place[1] + -(-len(curves) // columns) * 1.6 * letters
-    for text in SIGNS:
-        parts.append(svg_text.text(place[0], low, text, letters))
-        low += 1.4 * letters
-    return parts, low
+        parts.append(svg_text.text(x + 3.5 * letters, y, name, letters))
+    return parts, place[1] + -(-len(names) // columns) * 1.6 * letters
+
+
+def panels(rows: list[Row], saturations: list[Row], wide: float, letters: float) -> tuple[Panel, Panel]:
+    """The panel of the latencies, as high as those below saturation and the saturations need, and that of what is accepted below it."""
+    calm = [it["latency"] for it in rows if not it["saturated"]] or [it["latency"] for it in rows]
+    high = max(1.6 * max([*calm, *(it["zero_load"] or 0 for it in rows)]), *(1.1 * swept.SATURATION * it["zero_load"] for it in saturations), 0)
+    left, right, most = 4.6 * letters, 1.2 * letters, max([it["offered"] for it in rows] + [it["saturation"] for it in saturations])
+    room = wide - left - right
+    upper = Panel((left, 3.4 * letters, room, 0.5 * room), (most, high), letters)
+    below = left, upper.top + upper.high + 1.8 * letters, room, 0.32 * room
+    return upper, Panel(below, (most, max(it["accepted"] for it in rows) * 1.05), letters)
 
 
 def plot(rows: list[Row], paper: Paper, words: str, axis: str, unit: str) -> str:
-    """Both panels with all curves, and the legend."""
+    """Both panels with all curves, and the legend. Behind the rows of loads may stand saturations of their curves."""
     wide, letters = paper.wide, paper.letters()
-    curves = [list(of) for _, of in itertools.groupby(rows, lambda it: (it["shape"], it["traffic"]))]
+    saturations = [it for it in rows if "saturation" in it]
+    loads = [it for it in rows if "saturation" not in it]
+    curves = [list(of) for _, of in itertools.groupby(loads, curve_of)]
     looks = looks_of(curves)
-    calm = [it["latency"] for it in rows if not it["saturated"]] or [it["latency"] for it in rows]
-    high = 1.6 * max([*calm, *(it["zero_load"] or 0 for it in rows)])
-    left, right, most = 4.6 * letters, 1.2 * letters, max(it["offered"] for it in rows)
-    room = wide - left - right
-    upper = Panel((left, 3.4 * letters, room, 0.5 * room), (most, high), letters)
-    lower = Panel((left, upper.top + upper.high + 1.8 * letters, room, 0.32 * room), (most, max(it["accepted"] for it in rows) * 1.05), letters)
+    upper, lower = panels(loads, saturations, wide, letters)
+    left, room = upper.left, upper.wide
     parts = [svg_text.text(left, 1.5 * letters, words, letters), *upper.axes(f"latency, {unit}s", False), *lower.axes("accepted", True)]
     for panel, key in ((upper, "latency"), (lower, "accepted")):
         parts += [curve(panel, of, key, look) for of, look in zip(curves, looks)]
+    look_of = {curve_of(of[0]): look for of, look in zip(curves, looks)}
+    parts += [saturation(upper, it, look_of[curve_of(it)]) for it in saturations]
     low = lower.top + lower.high + 3.2 * letters
     parts.append(svg_text.text(left + room / 2, low, axis, letters, text_anchor="middle"))
-    more, low = legend(curves, looks, (left, low + 2 * letters), room, letters)
-    return svg_text.svg(wide, low, [*parts, *more], unit=paper.unit)
+    more, low = legend(looks, names_of(curves, saturations), (left, low + 2 * letters), room, letters)
+    for number, said in enumerate(signs(rows)):
+        more.append(svg_text.text(left, low + 1.4 * number * letters, said, letters))
+    return svg_text.svg(wide, low + 1.4 * len(signs(rows)) * letters, [*parts, *more], unit=paper.unit)

@@ -34,10 +34,10 @@ function disc(number) {{
   const title = document.createElementNS("http://www.w3.org/2000/svg", "title");
   title.textContent = said;
   made.appendChild(title);
-  made.setAttribute("r", isReply ? 3.6 : 4.5);
+  made.setAttribute("r", isReply ? 0.8 * film.disc : film.disc);
   made.setAttribute("fill", isReply ? "#ffffff" : colour);
   made.setAttribute("stroke", isReply ? colour : isHead ? "{ink}" : "#ffffff");
-  made.setAttribute("stroke-width", isReply ? (isHead ? 3 : 2) : 1);
+  made.setAttribute("stroke-width", (isReply ? (isHead ? 3 : 2) : 1) * film.disc / {disc});
   return made;
 }}
 

@@ -59,6 +59,8 @@ def head_of(net: Network, plan: Plan, verdict: Verdict) -> str:
     """The first line of a legend."""
     if verdict.kind == "rising":
         return "Rising: the network is free of deadlock"
+    if verdict.chosen and verdict.chosen.fills:
+        return "The network deadlocks, with packets of one flit"
     if verdict.kind == "cycle":
         return f"Cycle: the network {'may deadlock' if verdict.chosen else 'deadlocks'}"
     what, numbers = " ".join(verdict.kind.split()[:2]), verdict.kind.partition(":")[0].split()[2:]
@@ -76,9 +78,21 @@ def turned(net: Network, plan: Plan, found: AdaptiveVerdict) -> List[Tuple[str, 
     return rows if any(it[3] for it in rows[1:]) else [it[:3] + it[4:] for it in rows]
 
 
+def filled(net: Network, plan: Plan, found: AdaptiveVerdict) -> List[Tuple[str, ...]]:
+    """The rows of a table on channels that fill up, the first of them first."""
+    rows: List[Tuple[str, ...]] = [("channel", "between", "full of packets to", "that come over")]
+    for it in found.fills:
+        way = " ".join(map(str, it.way)) or "no other"
+        rows.append((str(it.at), name_of(net, plan, it.at), f"{it.to} ({name_of(net, plan, it.to)})", way))
+    return rows
+
+
 def say_cycle(found: Legend, net: Network, plan: Plan, verdict: Verdict) -> None:
     """Who holds what and waits for what, where there is a cycle."""
-    if verdict.chosen and verdict.chosen.turns:
+    if verdict.chosen and verdict.chosen.fills:
+        found.table(filled(net, plan, verdict.chosen))
+        found.say("full channel, with its number", sign_of(FULL, THICK))
+    elif verdict.chosen and verdict.chosen.turns:
         found.table(turned(net, plan, verdict.chosen))
         found.say("channel of the cycle, with its number", sign_of(FULL, THICK))
     if verdict.held:

@@ -2,6 +2,7 @@
 from __future__ import annotations
 
 import math
+from dataclasses import dataclass
 from typing import Callable, Dict, Iterable, List, Set, Tuple
 
 from torusmem_tools.command import Refusal
@@ -159,44 +160,59 @@ def ahead(links: Dict[int, List[int]], climbs: Dict[Tuple[int, int], bool], fall
     return down or [hops[r, s] for s in sorted(links[r]) if may_climb and climbs[r, s]]
 
 
-def dragonfly(size: int) -> Network:
-    """Groups of so many routers, each with one link to another group: by the one link between the groups, or by way of
-    any other group. Each hop is on a virtual channel of its own, in order (Kim, Dally, Scott and Abts, ISCA 2008)."""
-    net, groups = Network(), size + 1
+def dragonfly(size: int, nodes: int = 1, links: int = 1, minimal: bool = False) -> Network:
+    """Groups of so many routers, each with so many nodes and links to other groups, and one link between any two groups: by
+    that link, or where it isn't minimal also by way of any other group. Each hop is on a virtual channel of its own, in order
+    (Kim, Dally, Scott and Abts, ISCA 2008)."""
+    net, groups = Network(), size * links + 1
     routers = range(size * groups)
-    inject, eject = ends(net, routers)
+    inject, eject = ends(net, range(len(routers) * nodes), lambda node: node // nodes)
     net.routers = {r: Router(f"{r // size}.{r % size}") for r in routers}
     # the router of group g whose link goes to group h, and the other way
-    door = {(g, h): g * size + (h - g - 1) % groups for g in range(groups) for h in range(groups) if g != h}
-    local = {(r, s, v): net.channel("hop", r, s, v) for r in routers for s in routers if r // size == s // size and r != s for v in range(3)}
-    world = {(g, h, v): net.channel("hop", door[g, h], door[h, g], v) for g, h in door for v in range(2)}
-    for goal in routers:
-        home = goal // size
-        for r in routers:
-            g = r // size
-            out = range(groups) if g != home else ()
-            net.choose(inject[r], eject[goal], leave(local, world, door, r, goal, out, 0, size, eject))
+    door = {(g, h): g * size + (h - g - 1) % groups // links for g in range(groups) for h in range(groups) if g != h}
+    levels = 1 if minimal else 2
+    local = {(r, s, v): net.channel("hop", r, s, v) for r in routers for s in routers if r // size == s // size and r != s for v in range(levels + 1)}
+    world = {(g, h, v): net.channel("hop", door[g, h], door[h, g], v) for g, h in door for v in range(levels)}
+    for goal in range(len(routers) * nodes):
+        last, end = goal // nodes, eject[goal]
+        home = last // size
+        way = Way(local, world, door, last, end, size)
+        # the groups that a packet may go to next, behind its first hop or none, from group g by router s
+        ahead = {g: [home] if minimal else list(range(groups)) for g in range(groups) if g != home}
+        for node, x in inject.items():
+            r = node // nodes
+            net.choose(x, end, way.leave(r, ahead.get(r // size, []), 0))
         for (r, s, v), x in local.items():
             g = s // size
-            out = [h for h in range(groups) if h != g and door[g, h] == s] if v == 0 else [home]
-            net.choose(x, eject[goal], [] if g == home and s != goal else leave(local, world, door, s, goal, out, v, size, eject, True))
+            out = [h for h in ahead.get(g, []) if h != g and door[g, h] == s] if v == 0 else [home]
+            net.choose(x, end, [] if g == home and s != last else way.leave(s, out, v, True))
         for (g, h, v), x in world.items():
-            net.choose(x, eject[goal], leave(local, world, door, door[h, g], goal, [home] * (v == 0), v + 1, size, eject))
+            net.choose(x, end, way.leave(door[h, g], [home] * (v < levels - 1), v + 1))
     return net
 
 
-def leave(local: Hops, world: Hops, door: Dict[Tuple[int, int], int], r: int, goal: int, out: Iterable[int], level: int, size: int,
-          eject: Dict[int, int], stays: bool = False) -> List[int]:
-    """The choices at a router of a dragonfly: within the home group, or out of this one to one of these groups."""
-    g = r // size
-    if g == goal // size:
-        return [eject[goal]] if r == goal else [local[r, goal, level]]
-    found = []
-    for h in out:
-        if h == g or (level > 1):
-            continue
-        if door[g, h] == r:
-            found.append(world[g, h, level])
-        elif not stays:
-            found.append(local[r, door[g, h], level])
-    return sorted(set(found))
+@dataclass(frozen=True)
+class Way:
+    """The hops of a dragonfly, by the routers' doors, to an ejection channel of a router."""
+
+    local: Hops
+    world: Hops
+    door: Dict[Tuple[int, int], int]
+    goal: int
+    end: int
+    size: int
+
+    def leave(self, r: int, out: Iterable[int], level: int, stays: bool = False) -> List[int]:
+        """The choices at a router: within the home group, or out of this one to one of these groups."""
+        g = r // self.size
+        if g == self.goal // self.size:
+            return [self.end] if r == self.goal else [self.local[r, self.goal, level]]
+        found = []
+        for h in out:
+            if h == g or (g, h, level) not in self.world:
+                continue
+            if self.door[g, h] == r:
+                found.append(self.world[g, h, level])
+            elif not stays:
+                found.append(self.local[r, self.door[g, h], level])
+        return sorted(set(found))

@@ -6,7 +6,8 @@ from typing import List, Optional, Tuple
 
 from torusmem_tools.command import Refusal
 from torusmem_tools.model.adaptive_walk import Edge, AdaptiveVerdict, Walk, duato_verdict
-from torusmem_tools.model.dead_sets import dead_lines, fault_of_dead_lines
+from torusmem_tools.model.dead_fillings import DeadSets, fills_read
+from torusmem_tools.model.dead_sets import LOCKS, Fill, dead_lines, fault_of_dead_lines, fill_lines
 from torusmem_tools.model.deadlock import label_of
 from torusmem_tools.model.network import Network, number_of
 
@@ -27,6 +28,20 @@ def turns_of(lines: List[List[str]], net: Network) -> Optional[List[Tuple[int, E
     return turns
 
 
+def walked_verdict(net: Network) -> AdaptiveVerdict:
+    """The verdict of the plain walk, with channels of a dead set that fill up."""
+    found = duato_verdict(net)
+    return found._replace(fills=DeadSets(net).filling()) if found.dead else found
+
+
+def fills_in(net: Network, lines: List[str], path: str) -> List[Fill]:
+    """The channels that fill up, by the lines behind the greatest dead set. Refused where these don't in this network."""
+    fills = fills_read(lines) if lines else []
+    if fills is None or (lines and not DeadSets(net).is_dead(fills)):
+        raise Refusal(f"{path}: behind the dead set stand no channels that fill up until nothing can go")
+    return fills
+
+
 def found_in(net: Network, text: str, path: str) -> AdaptiveVerdict:
     """The verdict that a text of `torusmem network` has. Refused where it is no verdict of this network, as far as the
     plain walk can see."""
@@ -37,14 +52,16 @@ def found_in(net: Network, text: str, path: str) -> AdaptiveVerdict:
         raise Refusal(f"{path}: the network's verdict is `{kind}`, and not `{' '.join(said)}`")
     last = "may lock up" if kind == "cycle" else kind
     behind = lines[lines.index(last) + 1:] if last in lines else []
-    wrong = fault_of_dead_lines(net, walked.dead, behind) if behind else ""
+    begun = next((k for k, it in enumerate(behind) if it.startswith("fill ") or it == LOCKS), len(behind))
+    wrong = fault_of_dead_lines(net, walked.dead, behind[:begun]) if behind else ""
     if wrong:
         raise Refusal(f"{path}: {wrong}")
+    walked = walked._replace(fills=fills_in(net, behind[begun:], path))
     if kind == "cycle":
         turns = turns_of([it.split() or [""] for it in lines[:len(lines) - len(behind)] if it not in ("cycle", last)], net)
         if not turns:
             raise Refusal(f"{path}: it has no cycle of this network")
-        return AdaptiveVerdict(kind, turns=turns, dead=walked.dead)
+        return AdaptiveVerdict(kind, turns=turns, dead=walked.dead, fills=walked.fills)
     found = {}
     for words in (it.split() for it in lines):
         if words[:1] == ["number"] and len(words) == 3 and min(map(number_of, words[1:])) >= 0:
@@ -52,6 +69,16 @@ def found_in(net: Network, text: str, path: str) -> AdaptiveVerdict:
     if kind == "rising" and (set(found) != set(range(len(net.kinds))) or any(found[x] >= found[y] for x, y in Walk(net).edges())):
         raise Refusal(f"{path}: its numbers don't rise in this network")
     return walked._replace(numbers=[found[x] for x in sorted(found)])
+
+
+def filled(net: Network, fills: List[Fill]) -> List[str]:
+    """A sentence on each channel that fills up, and what comes of it."""
+    lines = []
+    for it in fills:
+        over = "".join(f", {x}{label_of(net, x)}" for x in it.way[1:])
+        sent = f" from {it.way[0]}{label_of(net, it.way[0])}" if it.way else ""
+        lines.append(f"channel {it.at}{label_of(net, it.at)} fills up with packets to {it.to}{label_of(net, it.to)}{sent}{' over' * bool(over)}{over[1:]}")
+    return lines + ["locks up"] * bool(fills)
 
 
 def sentences(net: Network, found: AdaptiveVerdict) -> str:
@@ -69,4 +96,4 @@ def sentences(net: Network, found: AdaptiveVerdict) -> str:
         over = ", ".join(f"{it}{label_of(net, it)}" for it in edge.over)
         goes = f" can go on over {over}, which {'are' if edge.over[1:] else 'is'} no escape{'s' if edge.over[1:] else ''}, and" if over else ""
         lines.append(f"packets to {edge.to}{label_of(net, edge.to)} that hold channel {x}{label_of(net, x)}{goes} wait for channel {there}")
-    return "\n".join([*lines, *["may lock up"] * (found.kind == "cycle"), *dead_lines(found.dead)]) + "\n"
+    return "\n".join([*lines, *["may lock up"] * (found.kind == "cycle"), *dead_lines(found.dead), *filled(net, found.fills)]) + "\n"

@@ -8,7 +8,7 @@ from __future__ import annotations
 from collections import deque
 from typing import Callable, Dict, Iterable, List, NamedTuple, Optional, Set, Tuple
 
-from torusmem_tools.model.dead_sets import dead_lines, greatest_dead_set
+from torusmem_tools.model.dead_sets import Fill, dead_lines, fill_lines, greatest_dead_set
 from torusmem_tools.model.network import Network, numbers
 
 
@@ -21,20 +21,22 @@ class Edge(NamedTuple):
 
 class AdaptiveVerdict(NamedTuple):
     """What is judged: the verdict's line; of `rising` numbers, and how far packets can go; of a cycle its edges, each with
-    the channel that it leads from and that to which it leads; of a cycle or a missing escape the greatest dead set."""
+    the channel that it leads from and that to which it leads; of a cycle or a missing escape the greatest dead set, and
+    channels of it that fill up."""
 
     kind: str
     numbers: List[int] = []
     travel: str = ""
     turns: List[Tuple[int, Edge, int]] = []
     dead: Optional[List[int]] = None
+    fills: List[Fill] = []
 
     def text(self) -> str:
         """The lines of `torusmem network`, but for the numbers."""
         if self.kind == "rising":
             return f"{self.travel}\nrising\n"
         lines = [self.kind, *(line_of(x, edge, y) for x, edge, y in self.turns), *["may lock up"] * (self.kind == "cycle"),
-                 *dead_lines(self.dead)]
+                 *dead_lines(self.dead), *fill_lines(self.fills)]
         return "\n".join(lines) + "\n"
 
 

@@ -5,20 +5,12 @@ ejection channel, one on which its receiver answers is. Where no channel is in o
 filling: an order of a dead set's channels, and for each a way over channels that aren't filled yet; then they do."""
 from __future__ import annotations
 
-from typing import Dict, Iterable, List, NamedTuple, Optional, Set, Tuple
+from typing import Dict, Iterable, List, Optional, Set, Tuple
 
 from torusmem_tools.model.adaptive_walk import Walk
-from torusmem_tools.model.dead_sets import cases, left_of
-from torusmem_tools.model.network import Network
+from torusmem_tools.model.dead_sets import LOCKS, Fill, cases, left_of
+from torusmem_tools.model.network import Network, number_of
 from torusmem_tools.model.wormhole import Move
-
-
-class Fill(NamedTuple):
-    """A channel that packets to an ejection channel fill, and the channels that they come over, the injection channel first."""
-
-    at: int
-    to: int
-    way: Tuple[int, ...]
 
 
 class DeadSets:
@@ -47,31 +39,58 @@ class DeadSets:
         return set(left_of(len(self.net.kinds), [it for it in self.cases if it[0] in allowed]))
 
     def filled(self, dead: Set[int]) -> List[Fill]:
-        """An order of filling of all these channels, the first to be filled first; empty where this finds none."""
-        left, found = set(dead), []
-        while left:
-            new = next((it for it in self.able(dead, left)), None)
-            if new is None:
-                return []
-            left.remove(new.at)
-            found.append(new)
-        return found[::-1]
+        """An order of filling of channels of a set, the first to be filled first; empty where this finds none of all."""
+        found, left = self.taken_off(dead)
+        return [] if left else self.fewest(found[::-1])
 
-    def able(self, dead: Set[int], left: Set[int]) -> Iterable[Fill]:
-        """The channels of those that are left that packets come to over channels that aren't, and stay in."""
-        for j, starts in sorted(self.walk.starts.items()):
-            before: Dict[int, Optional[int]] = {x: None for x in sorted(starts)}
-            queue = list(before)
-            while queue:
-                x = queue.pop(0)
-                if x in left:
-                    if self.stays(x, j, dead):
-                        yield Fill(x, j, self.way(before, x))
+    def taken_off(self, dead: Set[int]) -> Tuple[List[Fill], Set[int]]:
+        """The channels of a set that are taken off, each once packets come to it over channels that aren't left, and stay in
+        the set; and those that are left then."""
+        found: List[Fill] = []
+        left = set(dead)
+        while True:
+            before = len(found)
+            for j in sorted(self.walk.starts):
+                if any(j in self.goals[x] and self.stays(x, j, dead) for x in left):
+                    found += self.taken_to(j, dead, left)
+            if len(found) == before:
+                return found, left
+
+    def taken_to(self, j: int, dead: Set[int], left: Set[int]) -> Iterable[Fill]:
+        """The channels that packets to one ejection channel have taken off those that are left."""
+        before: Dict[int, Optional[int]] = {x: None for x in sorted(self.walk.starts[j])}
+        queue = list(before)
+        for x in queue:
+            if x in left:
+                if not self.stays(x, j, dead):
                     continue
-                for y in self.walk.after(x, j):
-                    if y not in before:
-                        before[y] = x
-                        queue.append(y)
+                left.remove(x)
+                yield Fill(x, j, self.way(before, x))
+            for y in self.walk.after(x, j):
+                if y not in before:
+                    before[y] = x
+                    queue.append(y)
+
+    def fewest(self, fills: List[Fill]) -> List[Fill]:
+        """The fewest of these channels that wait for no others, by what the packets of each wait for."""
+        goals = {it.at: it.to for it in fills}
+        awaited = {x: self.awaited(x, j, set(goals)) for x, j in goals.items()}
+        least = set(goals)
+        for start in goals:
+            seen, queue = {start}, [start]
+            for x in queue:
+                if len(seen) >= len(least):
+                    break
+                queue += awaited[x] - seen
+                seen |= awaited[x]
+            least = seen if len(seen) < len(least) else least
+        return [it for it in fills if it.at in least]
+
+    def awaited(self, x: int, j: int, full: Set[int]) -> Set[int]:
+        """What packets to an ejection channel that fill a channel wait for: all choices, or one channel on which they are answered."""
+        if self.net.kinds[x] == "eject":
+            return {next(y for y in self.answers[x] if y in full)}
+        return set(self.walk.after(x, j))
 
     def way(self, before: Dict[int, Optional[int]], x: int) -> Tuple[int, ...]:
         """The channels from a sender to a channel, it not counted."""
@@ -89,7 +108,7 @@ class DeadSets:
             best = self.filled(dead)
             if best:
                 break
-            dead = self.greatest(dead - {self.stuck(dead)})
+            dead = self.greatest(dead - {min(self.taken_off(dead)[1])})
         else:
             return []
         for x in sorted(dead):
@@ -97,15 +116,6 @@ class DeadSets:
             shorter = self.filled(fewer) if fewer and x in {it.at for it in best} else []
             best = shorter or best
         return best
-
-    def stuck(self, dead: Set[int]) -> int:
-        """The first channel that stays when those are taken that can be."""
-        left = set(dead)
-        while True:
-            new = next((it for it in self.able(dead, left)), None)
-            if new is None:
-                return min(left)
-            left.remove(new.at)
 
     def is_dead(self, fills: List[Fill]) -> bool:
         """Whether these can be filled in turn, and all packets wait then: by the definition, once more."""
@@ -137,3 +147,15 @@ class DeadSets:
                 if packet == 0 and self.net.kinds[it.at] != "eject":
                     found += [("take", it.at), ("credit", it.at)]
         return found
+
+
+def fills_read(lines: List[str]) -> Optional[List[Fill]]:
+    """The channels of lines `fill TO X0 .. Y`, behind which `locks up` stands; none where they aren't such."""
+    fills = []
+    for line in lines[:-1]:
+        word, *others = line.split() or [""]
+        values = [number_of(it) for it in others]
+        if word != "fill" or len(values) < 2 or min(values) < 0:
+            return None
+        fills.append(Fill(values[-1], values[0], tuple(values[1:-1])))
+    return fills if lines[-1:] == [LOCKS] and fills else None

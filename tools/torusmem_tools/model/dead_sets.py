@@ -3,13 +3,22 @@ could choose (Duato, IEEE TPDS 4(12), 1993, and 6(10), 1995). Where there is non
 of one flit never deadlock. Nothing here is proved."""
 from __future__ import annotations
 
-from typing import Dict, Iterator, List, Optional, Set, Tuple
+from typing import Dict, Iterator, List, NamedTuple, Optional, Sequence, Set, Tuple
 
 from torusmem_tools.model.network import Network
 
 NEVER = "never locks up with packets of one flit"
+LOCKS = "locks up"
 # A channel in which packets wait, and the channels by which they can leave it.
 Case = Tuple[int, Set[int]]
+
+
+class Fill(NamedTuple):
+    """A channel that packets to an ejection channel fill, and the channels that they come over, the injection channel first."""
+
+    at: int
+    to: int
+    way: Tuple[int, ...]
 
 
 def cases(net: Network) -> Iterator[Case]:
@@ -61,6 +70,11 @@ def greatest_dead_set(net: Network) -> List[int]:
 def dead_lines(dead: Optional[List[int]]) -> List[str]:
     """What `torusmem network` says of dead sets, but for numbers; nothing where it doesn't look for them."""
     return [] if dead is None else [f"dead {x}" for x in dead] or [NEVER]
+
+
+def fill_lines(fills: Sequence[Fill]) -> List[str]:
+    """What stands behind the greatest dead set where channels are filled, the first of them first."""
+    return [f"fill {' '.join(map(str, (it.to, *it.way, it.at)))}" for it in fills] + [LOCKS] * bool(fills)
 
 
 def fault_of_dead_lines(net: Network, dead: Optional[List[int]], lines: List[str]) -> str:

@@ -5,8 +5,8 @@ from dataclasses import dataclass, field
 from typing import Dict, List, Optional
 
 from torusmem_tools.command import Refusal
-from torusmem_tools.model.adaptive_verdict import found_in
-from torusmem_tools.model.adaptive_walk import AdaptiveVerdict, duato_verdict
+from torusmem_tools.model.adaptive_verdict import found_in, walked_verdict
+from torusmem_tools.model.adaptive_walk import AdaptiveVerdict
 from torusmem_tools.model.deadlock import Fill, Held, held_by, jam_of, label_of
 from torusmem_tools.model.network import Network, channel_dependencies, cycle, number_of, numbers
 
@@ -29,7 +29,7 @@ class Verdict:
 def verdict_of(net: Network) -> Verdict:
     """The verdict of the plain walk."""
     if net.is_adaptive():
-        found = duato_verdict(net)
+        found = walked_verdict(net)
         return Verdict(found.kind, WALKED, chosen=found)
     kind, edges = channel_dependencies(net)
     fills = jam_of(net, cycle(edges)) if kind == "cycle" else []

@@ -57,13 +57,13 @@ def network_of_one_class(given: Namespace) -> Network:
     if given.what == "up-down":
         return adaptive_networks.up_down(*anynet(text_of(given.which), given.which))
     if given.what == "from-table":
-        return from_table(text_of(given.which), given.which)
+        return from_table(text_of(given.which), given.which, lambda it: command.say("network", it))
     return of_size(given)
 
 
 def of_size(given: Namespace) -> Network:
     """The network of a size that the command line gives."""
-    most = {"mesh": 2, "fat-tree": 2, "torus": 3, "hyperx": 3}.get(given.what, 1)
+    most = {"mesh": 2, "fat-tree": 2, "torus": 3, "hyperx": 3, "dragonfly": 3}.get(given.what, 1)
     size = sizes(given.which, most)
     if given.what == "mesh":
         return mesh(given, *(*size, *size)[:2])
@@ -76,7 +76,8 @@ def of_size(given: Namespace) -> Network:
     if given.what == "hypercube":
         return cubes.hypercube(size[0], given.adaptive)
     if given.what == "dragonfly":
-        return adaptive_networks.dragonfly(size[0])
+        routers, nodes, links = [*size, 1, 1][:3]
+        return adaptive_networks.dragonfly(routers, nodes, links, given.minimal)
     return deterministic_networks.ring(size[0], given.dateline) if given.what == "ring" else deterministic_networks.tree(size[0])
 
 

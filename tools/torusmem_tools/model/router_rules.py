@@ -77,10 +77,11 @@ def lengths_of(word: str) -> Tuple[int, ...]:
     return tuple(map(command.whole(1, MOST_FLITS), word.split(",")))
 
 
-def add_words(words: ArgumentParser, of: str) -> None:
-    """The words of the command line."""
+def add_words(words: ArgumentParser, of: str, many: bool = False) -> None:
+    """The words of the command line; of one that takes many arbiters, `arbiter` is a list."""
     add = words.add_argument
-    add("--arbiter", choices=ARBITERS, metavar="NAME", help=f"{of}which head an output takes, of {', '.join(ARBITERS)}; {ARBITERS[0]} if not given")
+    arbiter = f"{of}which head an output takes, of {', '.join(ARBITERS)}; {'may be given more than once; ' * many}{ARBITERS[0]} if not given"
+    add("--arbiter", choices=ARBITERS, metavar="NAME", action="append" if many else "store", help=arbiter)
     unit = f"0 to {MOST_DELAY}; 0 if not given"
     add("--router-delay", metavar="R", type=command.whole(0, MOST_DELAY), help=f"{of}so many rounds more in each router, one flit behind the other, {unit}")
     add("--link-delay", metavar="R", type=command.whole(0, MOST_DELAY), help=f"{of}so many rounds more on each hop, and for its credit on the way back, {unit}")
@@ -89,7 +90,7 @@ def add_words(words: ArgumentParser, of: str) -> None:
     add("--outstanding", metavar="K", type=command.whole(1, MOST_OUT), help=f"{of}a sender has at most K packets under way that aren't delivered and answered")
 
 
-def rules_of(given: Namespace, rounds: int = 1) -> Rules:
-    """The rules of the command line, whose delays are in units of so many rounds."""
+def rules_of(given: Namespace, arbiter: Optional[str], rounds: int = 1) -> Rules:
+    """The rules of the command line with this arbiter, or the usual one; its delays are in units of so many rounds."""
     router, link = ((getattr(given, it) or 0) * rounds for it in OPTIONS[:2])
-    return Rules(given.arbiter or ARBITERS[0], router, link, given.replies or (), given.outstanding or 0)
+    return Rules(arbiter or ARBITERS[0], router, link, given.replies or (), given.outstanding or 0)

@@ -41,6 +41,11 @@ def maker(point: Point) -> str:
     return TOOLS if isinstance(point, offered_packets.Point) and not offered_packets.is_by_program(point) else PROGRAM
 
 
+def arbiter(point: Point) -> Optional[str]:
+    """The arbiter of a network's routers."""
+    return point.rules.arbiter if isinstance(point, offered_packets.Point) else None
+
+
 def is_saturated(point: Point, found: offered_load.Found) -> bool:
     """Whether one run is: its latency is high, or not all that is measured is answered."""
     zero = zero_load(point)
@@ -66,7 +71,8 @@ def saturation_row(point: Point, found: List[float]) -> Row:
     mean, within = mean_within(found)
     zero = zero_load(point)
     row: Row = {"shape": point.shape(), "traffic": point.traffic, "zero_load": zero and round(zero, 2)}
-    return {**row, "saturation": round(mean, 4), "saturation_within": round(within, 4), "seeds": len(found), "by": maker(point)}
+    row.update(saturation=round(mean, 4), saturation_within=round(within, 4), seeds=len(found), by=maker(point))
+    return {**row, "unit": unit(point.cycle), "arbiter": arbiter(point)}
 
 
 def row_of(point: Point, found: List[offered_load.Found]) -> Row:
@@ -82,7 +88,7 @@ def row_of(point: Point, found: List[offered_load.Found]) -> Row:
     least, most = min(found, key=lambda it: it.least), max(it.most for it in found)
     row.update(least=round(least.least, 5), most=round(most, 5), longest=max(it.longest for it in found))
     lengths = lengths_said(point) if isinstance(point, offered_packets.Point) else None
-    return {**row, "worst": least.worst, "by": maker(point), "length": lengths, "depth": point.depth, "unit": unit(point.cycle)}
+    return {**row, "worst": least.worst, "by": maker(point), "length": lengths, "depth": point.depth, "unit": unit(point.cycle), "arbiter": arbiter(point)}
 
 
 def lengths_said(point: offered_packets.Point) -> str:

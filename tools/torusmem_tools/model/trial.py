@@ -86,12 +86,12 @@ def built_driver(folder: str) -> str:
 
 
 def has_command(torusmem: str, name: str) -> bool:
-    """Whether the program has a command: it then prints its help, with the status 2 that help has."""
+    """Whether the program has a command: it then prints its help, with the status 2 that help has, whatever it calls itself."""
     try:
         said = subprocess.run([torusmem, name, "--help"], stdin=subprocess.DEVNULL, capture_output=True, check=False)
     except OSError as fault:
         raise command.Refusal(f"cannot run {torusmem}: {fault.strerror or fault}") from None
-    return f"Usage: torusmem {name}".encode() in said.stdout
+    return re.search(rf"Usage: \S+ {name}\b".encode(), said.stdout) is not None
 
 
 def write(case: Case, folder: str) -> None:

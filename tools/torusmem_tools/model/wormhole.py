@@ -198,14 +198,15 @@ class Wormhole:
 
 
 def replay_moves(net: Network, depth: int, text: str, path: str) -> List[str]:
-    """What stands after the moves of a text. Refused with the first line that is no move that may happen."""
-    run = Wormhole(net, depth)
+    """What stands after the moves of a text. Refused with the first line that is no move that may happen. Where routers choose,
+    a put may name the channel that it takes."""
+    run, sizes = Wormhole(net, depth), {"send": (3,), "put": (1, 2) if net.is_adaptive() else (1,)}
     for number, line in enumerate(text.split("\n"), 1):
         word, *others = line.partition("#")[0].split() or [""]
         if not word:
             continue
         values = [number_of(it) for it in others]
-        if word not in ("send", *MOVES) or len(values) != (3 if word == "send" else 1) or min(values) < 0:
+        if word not in ("send", *MOVES) or len(values) not in sizes.get(word, (1,)) or min(values) < 0:
             raise Refusal(f"{path}, line {number}: no move is written so")
         if max(values[:2]) >= len(net.kinds):
             raise Refusal(f"{path}, line {number}: the channel is out of range")

@@ -1,8 +1,8 @@
-"""What the columns of a table are called elsewhere: for a first line that doesn't name them as they are wanted."""
+"""What the columns and the operations of a table are called elsewhere: for one that doesn't name them as they are wanted."""
 from __future__ import annotations
 
 import difflib
-from typing import Dict, List, Sequence
+from typing import Collection, Dict, List, Sequence
 
 ELSEWHERE: Dict[str, Sequence[str]] = {
     "processor": ("core", "thread", "proc", "cpu", "hart", "client", "process", "worker", "tid", "pid", "source", "id"),
@@ -15,6 +15,14 @@ ELSEWHERE: Dict[str, Sequence[str]] = {
     "served": ("service", "effect", "commit", "committed", "time"),
     "index": ("number", "sequence", "seq"),
     "bank": ("slice", "home", "controller"),
+}
+
+OPERATIONS: Dict[str, Sequence[str]] = {
+    "load": ("read", "get", "rd", "ld", "r"),
+    "store": ("write", "put", "wr", "st", "w", "set"),
+    "swap": ("exchange", "xchg"),
+    "cas": ("compare_and_swap", "compare_exchange", "cmpxchg"),
+    "add": ("fetch_add", "fetch_and_add", "increment"),
 }
 
 
@@ -38,3 +46,10 @@ def hint(missing: Sequence[str], columns: Sequence[str], wanted: Sequence[str]) 
     found = guess_columns(missing, columns, wanted)
     pairs = [f"`{found[it]}` for {it}" for it in missing if it in found]
     return f"; did you write {', '.join(pairs)}?" if pairs else ""
+
+
+def operation_hint(kind: str, kinds: Collection[str]) -> str:
+    """Which of these operations was probably meant, to stand behind a line; empty where none is known."""
+    plain = kind.lower().replace(" ", "_").replace("-", "_")
+    found = [it for it in kinds if plain == it or plain in OPERATIONS.get(it, ())]
+    return f"; did you write `{kind}` for {found[0]}?" if found else ""

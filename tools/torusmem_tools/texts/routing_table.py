@@ -2,7 +2,7 @@
 channel that a packet came by."""
 from __future__ import annotations
 
-from typing import Dict, List, NamedTuple, Optional, Set, Tuple
+from typing import Callable, Dict, List, NamedTuple, Optional, Set, Tuple
 
 from torusmem_tools.command import Refusal
 from torusmem_tools.model.adaptive_networks import ends, inputs
@@ -104,10 +104,27 @@ def fits(row: Row, net: Network, x: int) -> bool:
     return row.came is None or (not is_own and row.came == link.virtual)
 
 
-def from_table(text: str, path: str) -> Network:
-    """The network of a routing table, with a sender and a receiver at each router."""
+def widened(table: Table, names: Dict[int, str]) -> str:
+    """What the text makes of channels that only some of their rows call escapes, as a sentence; nothing where there are none."""
+    said: Dict[Tuple[int, int, int], Set[bool]] = {}
+    for it in table.rows:
+        said.setdefault((it.router, it.after, it.virtual), set()).add(it.escapes)
+    mixed = [hop for hop, both in said.items() if len(both) > 1]
+    if not mixed:
+        return ""
+    start, end, virtual = mixed[0]
+    first = f"from router {names[start]} to router {names[end]}, virtual channel {virtual},"
+    more = f" (and {len(mixed) - 1} more)" if mixed[1:] else ""
+    return f"{table.path}: some rows of the channel {first} say escape and others don't{more}: the text makes it one for all destinations"
+
+
+def from_table(text: str, path: str, say: Callable[[str], None]) -> Network:
+    """The network of a routing table, with a sender and a receiver at each router. What the text can't say of it is told."""
     table, net = Table(text, path), Network()
     names = {r: str(r) if number_of(it) >= 0 else it for it, r in table.places.items()}
+    wide = widened(table, names)
+    if wide:
+        say(wide)
     routers = sorted(names)
     inject, eject = ends(net, routers)
     net.routers = {r: Router(names[r]) for r in routers}

@@ -144,7 +144,7 @@ def refuse_count(count: int, wanted: int) -> None:
 def values_of(kind: str, words: list[str], is_hex: bool) -> tuple[int, ...]:
     """The values of an operation, as many as it has."""
     if kind not in VALUES:
-        raise BadLine(f"there is no operation `{kind}`" if kind else "there is no operation")
+        raise BadLine(f"there is no operation `{kind}`{column_names.operation_hint(kind, VALUES)}" if kind else "there is no operation")
     if len(words) != VALUES[kind]:
         wanted = ("no value", "one value", "two values")[VALUES[kind]]
         raise BadLine(f"{kind} takes {wanted}, and here {'is' if len(words) == 1 else 'are'} {len(words)}")

@@ -226,9 +226,11 @@ class Looks(unittest.TestCase):
             other = machine.clone()
             self.assertEqual(again.step(0, Choice.SEND), other.step(0, Choice.SEND))
             self.assertEqual((again.finish(), again.report()), (other.finish(), other.report()))
+        first_version = machine.save()[:8] + b"\1" + machine.save()[9:-8]  # has no checksum
         for bytes_of_none, why in [
-            (b"", "byte 0 "), (machine.save()[:-1], f"byte {len(machine.save()) - 1} "), (b"T" + machine.save()[1:], "byte 0 "),
-            (machine.save()[:-4] + b"\x0f\0\0\0", "action 2 "), (machine.save().replace(b"radix", b"Radix"), "line 1: .*F4"),
+            (b"", "byte 0 "), (machine.save()[:-1], f"byte {len(machine.save()) - 9} "), (b"T" + machine.save()[1:], "byte 0 "),
+            (machine.save().replace(b"radix", b"Radix"), f"byte {len(machine.save()) - 8} "),
+            (first_version[:-4] + b"\x0f\0\0\0", "action 2 "), (first_version.replace(b"radix", b"Radix"), "line 1: .*F4"),
         ]:
             with self.assertRaisesRegex(ValueError, why):
                 Machine.restored(bytes_of_none)

@@ -274,7 +274,10 @@ fn machines_that_are_restored() {
     assert_eq!((again.report(), again.save()), (machine.report(), machine.save()));
     assert_eq!((again.finish(), again.report()), (other.finish(), other.report()));
     assert_eq!(Machine::restored(&bytes[..9]).err(), Some(torusmem::Unrestored::Byte(9)));
-    let no_action = [&bytes[..bytes.len() - 4], &[15, 0, 0, 0]].concat();
+    let changed = [&bytes[..40], &[bytes[40] ^ 1], &bytes[41..]].concat();
+    assert_eq!(Machine::restored(&changed).err(), Some(torusmem::Unrestored::Byte(bytes.len() as u64 - 8)), "the checksum differs");
+    let first_version = [&bytes[..8], &[1], &bytes[9..bytes.len() - 8]].concat();
+    let no_action = [&first_version[..first_version.len() - 4], &[15, 0, 0, 0]].concat();
     assert_eq!(Machine::restored(&no_action).err(), Some(torusmem::Unrestored::Action(0)));
     assert_eq!((first().save(), first().cloned().map(|it| it.is_none())), (Ok(None), Ok(true)));
     let mut numbered = Machine::open_recorded(&machine.shape(), &[7]).expect("a machine");

@@ -113,12 +113,3 @@ farthest-requires-clause-rising g c =
     let order : IsOrderOrCircuit {A = g.row.A.Denot} graph (Rising c.in-Rising.numbers) =
     subst (λ z. IsOrderOrCircuit {A = g.row.A.Denot} graph z) c.in-Rising.is c.in_ok-numbers.ensures in
     subst (λ (v : List ℕ). RisesAlong graph (slice_index v)) (sym c.deref-in-Rising.ensures.value) order.1
-
-pub most_from-most-requires : goal.most_from-most-requires
-most_from-most-requires g c =
-    let within : (i j : ℕ) → joins_of (table_of [] c.args.joins.now []) i j ≡ true → i < length c.deref-in-Rising-2.result.now = λ i j joined.
-    (let inside = c.requires.within i j joined in
-    let size = c.in_ok-far-in-Rising.ensures.size in
-    let same : length c.deref-in-Rising-2.result.now ≡ length c.in_ok-far-in-Rising.far.items = ap length c.deref-in-Rising-2.ensures.value in
-    omega arith) in
-    record { within = within }

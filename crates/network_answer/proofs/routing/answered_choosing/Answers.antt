@@ -15,23 +15,26 @@ behind_text-requires-clause-read g c = subst (λ r. IsRead {A = g.row.A.Denot} r
 
 pub behind_text-requires-clause-judged : goal.behind_text-requires-clause-judged
 behind_text-requires-clause-judged g c =
-    judged_moved c.args.network.now c.judgement_of.new.network.fixed c.deref.result.now c.in_ok-it.it.judged c.in_ok-it.ensures.fixed
-    (c.deref.ensures.value ∙ c.in_ok-it.ensures.choices) c.in_ok-it.ensures.judged
+    judged_moved c.args.network.now c.judgement_of.new.network.fixed c.deref.result.now c.deref-2.result.now c.in_ok-it.it.marks.items
+    c.in_ok-it.it.judged c.in_ok-it.ensures.fixed (c.deref.ensures.value ∙ c.in_ok-it.ensures.choices) c.deref-2.ensures.value
+    c.in_ok-it.ensures.judged
 
 pub returns : goal.returns
 returns g c =
     let n = c.args.network.now in
     let t = choosing_text_of n in
     let judged = c.in_ok-it.it.judged in
-    let behind = c.in_ok-behind_text.field-0.items in
+    let marks = c.in_ok-it.it.marks.items in
+    let behind = c.in_ok-behind.behind.items in
     let some : 0 < length t.fixed.table.joins = grind (arith, nat_tests, c.if-is_empty.ensures, n.fixed.joins.ok) in
     told_of_pairs t.fixed.table.joins t _ some (record {
       judged = judged;
+      marks = marks;
       holds = c.in_ok-it.ensures.judged;
       behind = behind;
-      stands = behind_moved c.judgement_of.new.network.fixed n.fixed (n.layers + 1) c.deref.result.now (choice_list t) judged behind
-          c.in_ok-it.ensures.fixed (c.deref.ensures.value ∙ c.in_ok-it.ensures.choices) c.in_ok-behind_text.ensures;
-      text = c.in_ok-extend_from_slice.ensures.items ∙ (ap (λ s. c.in_ok-text.text.items ++ s) c.deref-2.ensures.value
+      stands = behind_moved c.judgement_of.new.network.fixed n.fixed (n.layers + 1) c.deref.result.now (choice_list t) c.deref-2.result.now marks judged
+          behind c.in_ok-it.ensures.fixed (c.deref.ensures.value ∙ c.in_ok-it.ensures.choices) c.deref-2.ensures.value c.in_ok-behind.ensures;
+      text = c.in_ok-extend_from_slice.ensures.items ∙ (ap (λ s. c.in_ok-text.text.items ++ s) c.deref-3.ensures.value
           ∙ ap (λ s. s ++ behind) (c.in_ok-text.ensures ∙ ap (λ f. judgement_text (reading_of f) judged) c.in_ok-it.ensures.fixed));
       rising = c.judgement_rises.ensures;
     })

@@ -1,8 +1,9 @@
-use Rattle.std.proofs.Common.{◌≡◌, ◌<◌, ℕ, List, length, slice_get, arith}
+use Rattle.std.proofs.Common.{◌≡◌, ◌<◌, ℕ, List, length, slice_get, Some, arith}
 use Rattle.std.specs.Option.{unwrap_or}
 use Rattle.core_laws.specs.Row.{row_of}
 use Rattle.core_laws.specs.Machine.{built_to}
-use Rattle.torusmem_c.proofs.Rows.{puts_more}
+use Rattle.torusmem_c.proofs.Fronts.{puts_more}
+use Rattle.torusmem_c.proofs.Rows.{word_at}
 use Rattle.torusmem_c.proofs.reading.put_row.Goals as goal
 
 pub loop-at-preserved : goal.loop-at-preserved
@@ -16,6 +17,7 @@ loop-at-preserved c =
     let low : c.loop-at.at < length c.loop-at.out = omega (arith, room, test, size) in
     let found = c.row.ensures.value in
     let told = c.unwrap_or.ensures in
-    let read : c.unwrap_or.result ≡ unwrap_or (slice_get row c.loop-at.at) 0 = cc in
-    let more = puts_more row c.args.out.now c.loop-at.out c.loop-at.at c.unwrap_or.result there size low c.loop-at.invariant.words read in
+    let word = word_at row c.loop-at.at there in
+    let read : slice_get row c.loop-at.at ≡ Some c.unwrap_or.result = cc in
+    let more = puts_more row c.args.out.now c.loop-at.out c.loop-at.at c.unwrap_or.result read size low c.loop-at.invariant.words in
     record { size = more.0; words = more.1 }
