@@ -228,7 +228,7 @@ class Looks(unittest.TestCase):
             self.assertEqual((again.finish(), again.report()), (other.finish(), other.report()))
         first_version = machine.save()[:8] + b"\1" + machine.save()[9:-8]  # has no checksum
         for bytes_of_none, why in [
-            (b"", "byte 0 "), (machine.save()[:-1], f"byte {len(machine.save()) - 9} "), (b"T" + machine.save()[1:], "byte 0 "),
+            (b"", "byte 0 "), (machine.save()[:-1], f"byte {len(machine.save()) - 9} "), (b"T" + first_version[1:], "byte 0 "),
             (machine.save().replace(b"radix", b"Radix"), f"byte {len(machine.save()) - 8} "),
             (first_version[:-4] + b"\x0f\0\0\0", "action 2 "), (first_version.replace(b"radix", b"Radix"), "line 1: .*F4"),
         ]:
