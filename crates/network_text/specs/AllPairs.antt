@@ -1,5 +1,6 @@
 -- Which channels `join all` joins (this project's own format).
-use Rattle.std.specs.Prelude.{ℕ, Bool, Option, if◌then◌else◌, List, [], ◌∷◌, ◌*◌, map, length, slice_get}
+use Rattle.std.specs.Prelude.{ℕ, ◌*◌, Bool, Option, if◌then◌else◌, List, [], ◌∷◌, map, length}
+use Rattle.std.specs.Prelude.{slice_get, codes}
 use Rattle.std.specs.List.{flat_map}
 use Rattle.network_judge.specs.declared.table.Kind.{Kind}
 use Rattle.network_judge.specs.declared.table.Join.{Join}
@@ -36,3 +37,7 @@ all_joins kinds = every_join (channels_with Sender kinds) (channels_with Receive
 -- how many those are
 abbrev pub pairs_in : List Kind → ℕ
 pairs_in kinds = length (channels_with Sender kinds) * length (channels_with Receiver kinds)
+
+-- the lines of two tiles, each with a sender and a receiver
+abbrev pub two_tiles : List ℕ
+two_tiles = codes "channels 4\ninject 0\neject 1\ninject 2\neject 3\n"

@@ -1,6 +1,6 @@
-use Rattle.std.proofs.Common.{◌+◌, ◌∙◌, ℕ, Vec, [], sym, ap, subst, refl, arith}
+use Rattle.std.proofs.Common.{◌∙◌, ℕ, Vec, sym, ap}
 use Rattle.network_text.specs.AllPairs.{is_end}
-use Rattle.network_text.proofs.AllPairs.{AreSoFar, end_put, end_passed}
+use Rattle.network_text.proofs.AllPairs.{end_put, end_passed}
 use Rattle.network_text.proofs.all_pairs.channels_with.Goals as goal
 use Rattle.network_text.proofs.all_pairs.channels_with.Goals.{then-is_end+in_ok-push, else-is_end}
 
