@@ -5,12 +5,12 @@ use Rattle.std.proofs.lemmas.List.{length_push}
 use Rattle.network_judge.specs.declared.table.Kind.{Kind}
 use Rattle.network_text.specs.Lines.{first_lines}
 use Rattle.network_text.specs.declared.all_pairs.End.{End}
-use Rattle.network_text.specs.AllPairs.{is_end, end_at}
+use Rattle.network_text.specs.AllPairs.{is_end, channel_at_end}
 use Rattle.network_text.proofs.Pieces.{line_put}
 
 -- those so far, of which there are no more than channels
 pub record AreSoFar (end : End) (kinds : List Kind) (x : ℕ) (found : List ℕ) : Type 0 where
-  pub so_far : found ≡ first_lines (end_at end kinds) x
+  pub so_far : found ≡ first_lines (channel_at_end end kinds) x
   pub few : length found ≤ x
 
 -- one more
@@ -21,7 +21,7 @@ end_put end kinds x old new are is put =
     let size = length_push old x in
     let few = are.few in
     record {
-      so_far = line_put [] old new (end_at end kinds) x are.so_far (put ∙ ap (λ b. old ++ (if b then x ∷ [] else [])) (sym is));
+      so_far = line_put [] old new (channel_at_end end kinds) x are.so_far (put ∙ ap (λ b. old ++ (if b then x ∷ [] else [])) (sym is));
       few = omega arith;
     }
 
@@ -32,6 +32,7 @@ end_passed end kinds x old new are is same =
     let more = ap length same in
     let few = are.few in
     record {
-      so_far = line_put [] old new (end_at end kinds) x are.so_far (same ∙ (sym (append-nil old) ∙ ap (λ b. old ++ (if b then x ∷ [] else [])) (sym is)));
+      so_far = line_put [] old new (channel_at_end end kinds) x are.so_far
+          (same ∙ (sym (append-nil old) ∙ ap (λ b. old ++ (if b then x ∷ [] else [])) (sym is)));
       few = omega arith;
     }

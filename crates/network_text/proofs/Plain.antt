@@ -108,11 +108,12 @@ join_mapped s r i j = unless_mapped s (lacks r 1 i) _ _ (unless_mapped s (lacks 
 
 join_all_mapped : (s : List GivenNames) (r : Reading) → after_join_all (forget s r) ≡ mapped s (after_join_all r)
 join_all_mapped s r =
-    three_tests_mapped s (count_of r == 0) (nat_lt 4194304 (length r.table.joins + pairs_in r.table.kinds)) (Err reason.ChannelsFirst) (Err reason.AllJoinsLimits)
+    three_tests_mapped s (count_of r == 0) (nat_lt 4194304 (length r.table.joins + pairs_in r.table.kinds))
+    (Err reason.ChannelsFirst) (Err reason.AllJoinsLimits)
     (Ok (reading_with (table_of r.table.kinds (r.table.joins ++ all_joins r.table.kinds) r.table.choices) r.replies r.begun r.names))
 
-join_words_mapped : (s : List GivenNames) (f h : ℕ → ℕ → Read) (a b : Read) (ws : List (List ℕ)) → ((x y : ℕ) → h x y ≡ mapped s (f x y)) → b ≡ mapped s a
-    → after_join_words h b ws ≡ mapped s (after_join_words f a ws)
+join_words_mapped : (s : List GivenNames) (f h : ℕ → ℕ → Read) (a b : Read) (ws : List (List ℕ))
+    → ((x y : ℕ) → h x y ≡ mapped s (f x y)) → b ≡ mapped s a → after_join_words h b ws ≡ mapped s (after_join_words f a ws)
 join_words_mapped s f h a b [] each every = refl
 join_words_mapped s f h a b (w ∷ []) each every =
     ap (λ (o : Read). if bytes_eq w (codes "all") then o else Err (reason.NumberCount key.Join)) every
@@ -171,7 +172,8 @@ goes_by s r next false (Some key.Eject) ws plain made =
 goes_by s r next false (Some key.Join) ws plain made =
     record {
       names = s;
-      made = join_words_mapped s (after_join r) (after_join (forget s r)) (after_join_all r) (after_join_all (forget s r)) ws (join_mapped s r) (join_all_mapped s r)
+      made = join_words_mapped s (after_join r) (after_join (forget s r)) (after_join_all r) (after_join_all (forget s r)) ws
+          (join_mapped s r) (join_all_mapped s r)
           ∙ ap (mapped s) made;
     }
 goes_by s r next false (Some key.Next) ws plain made =

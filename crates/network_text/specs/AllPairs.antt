@@ -15,12 +15,12 @@ is_end Sender kind = is_sender kind
 is_end Receiver kind = is_receiver kind
 
 -- a channel, if such an end stands there
-abbrev pub end_at : End → List Kind → ℕ → List ℕ
-end_at end kinds x = if is_end end (slice_get kinds x) then x ∷ [] else []
+abbrev pub channel_at_end : End → List Kind → ℕ → List ℕ
+channel_at_end end kinds x = if is_end end (slice_get kinds x) then x ∷ [] else []
 
 -- the channels of such ends, in their order
 abbrev pub channels_with : End → List Kind → List ℕ
-channels_with end kinds = first_lines (end_at end kinds) (length kinds)
+channels_with end kinds = first_lines (channel_at_end end kinds) (length kinds)
 
 -- a sender with each of these receivers
 abbrev pub joins_from : List ℕ → ℕ → List Join

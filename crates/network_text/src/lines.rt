@@ -182,8 +182,8 @@ impl<A: Allocator + Copy> Reading<A> {
     fn join_words(&mut self, alloc: A, values: &[&[u8]]) -> Result<(), NetworkReason>
         requires { IsRead self.old }
         ensures value { Makes NetworkReason.Memory (reading_of self.new) result
-            (after_join_words (after_join (reading_of self.old)) (after_join_all (reading_of self.old))
-            (map (λ value. value.now) values.now)) }
+            (after_join_words (after_join (reading_of self.old))
+            (after_join_all (reading_of self.old)) (map (λ value. value.now) values.now)) }
         ensures read { OnOk result (IsRead self.new) }
     {
         match values {
