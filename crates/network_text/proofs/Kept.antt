@@ -1,6 +1,6 @@
 -- Once choices are given, a line of a text of fixed routes keeps their number.
 use Rattle.std.proofs.Common.{◌≡◌, ℕ, ◌+◌, Bool, true, false, List, [], ◌∷◌, length, refl, ◌∙◌, ap, subst}
-use Rattle.std.specs.Prelude.{Result, Ok, Err, Option, Some, None, if◌then◌else◌, not, replicate, nat_le, nat_lt, ◌==◌, ◌&&◌, ◌*◌, ◌^◌, slice_get, slice_index, slice_index_or}
+use Rattle.std.specs.Prelude.{Result, Ok, Err, Option, Some, None, if◌then◌else◌, not, replicate, nat_le, nat_lt, ◌==◌, ◌&&◌, ◌*◌, ◌^◌, slice_get, slice_index, slice_index_or, codes}
 use Rattle.std.proofs.lemmas.List.{length-set}
 use Rattle.lexer.specs.Words.{begins_comment}
 use Rattle.lexer.specs.Outcome.{◌>>=◌}
@@ -11,9 +11,11 @@ use Rattle.network_text.specs.declared.reason.Keyword.{Keyword}
 use Rattle.network_text.specs.declared.reason.Keyword.TheVariants as key
 use Rattle.network_text.specs.declared.reason.NetworkReason.{NetworkReason}
 use Rattle.network_text.specs.Reasons.{network_keyword_of}
-use Rattle.network_text.specs.Shapes.{unless, number_at, after_one, after_two, after_three, after_router_words, after_link_words, after_name_words}
+use Rattle.network_text.specs.Shapes.{unless, number_at, after_one, after_two, after_three, after_join_words, after_router_words, after_link_words, after_name_words}
+use Rattle.network_text.specs.AllPairs.{pairs_in}
+use Rattle.std.specs.Str.{bytes_eq}
 use Rattle.network_text.specs.Network.{Reading, reading_with, lacks, count_of, is_hop, has_reply, begun, started, cell_of, unnamed, names_at, with_names}
-use Rattle.network_text.specs.Network.{after_channels, after_inject, after_eject, after_join, after_choice, after_next, after_reply}
+use Rattle.network_text.specs.Network.{after_channels, after_inject, after_eject, after_join, after_join_all, after_choice, after_next, after_reply}
 use Rattle.network_text.specs.Network.{after_router, after_link, after_name, after_first, after_words}
 
 abbrev Read : Type 0
@@ -135,6 +137,17 @@ join_keeps r i j given =
     keeps_unless r (lacks r 1 i) _ (keeps_unless r (lacks r 2 j) _
     (keeps_if r (nat_le 4194304 (length r.table.joins)) _ _ (keeps_err r _) (keeps_ok r _ (given, refl))))
 
+join_all_keeps : (r : Reading) → r.begun ≡ true → Keeps r (after_join_all r)
+join_all_keeps r given =
+    keeps_if r (count_of r == 0) _ _ (keeps_err r _)
+    (keeps_if r (nat_lt 4194304 (length r.table.joins + pairs_in r.table.kinds)) _ _ (keeps_err r _) (keeps_ok r _ (given, refl)))
+
+join_words_keep : (r : Reading) (f : ℕ → ℕ → Read) (all : Read) (ws : List (List ℕ)) → ((x y : ℕ) → Keeps r (f x y)) → Keeps r all
+    → Keeps r (after_join_words f all ws)
+join_words_keep r f all [] each every = keeps_err r _
+join_words_keep r f all (a ∷ []) each every = keeps_if r (bytes_eq a (codes "all")) _ _ every (keeps_err r _)
+join_words_keep r f all (a ∷ b ∷ more) each every = two_keeps r key.Join f (a ∷ b ∷ more) each
+
 reply_keeps : (r : Reading) (x y : ℕ) → r.begun ≡ true → Keeps r (after_reply r x y)
 reply_keeps r x y given =
     keeps_unless r (lacks r 1 x) _ (keeps_if r (not (is_receiver (slice_get r.table.kinds x))) _ _ (keeps_err r _)
@@ -163,7 +176,7 @@ first_keeps r None ws given = keeps_err r _
 first_keeps r (Some key.Channels) ws given = one_keeps r key.Channels (after_channels r) ws (λ x. channels_keeps r x given)
 first_keeps r (Some key.Inject) ws given = one_keeps r key.Inject (after_inject r) ws (λ x. inject_keeps r x given)
 first_keeps r (Some key.Eject) ws given = one_keeps r key.Eject (after_eject r) ws (λ x. eject_keeps r x given)
-first_keeps r (Some key.Join) ws given = two_keeps r key.Join (after_join r) ws (λ i j. join_keeps r i j given)
+first_keeps r (Some key.Join) ws given = join_words_keep r (after_join r) (after_join_all r) ws (λ i j. join_keeps r i j given) (join_all_keeps r given)
 first_keeps r (Some key.Next) ws given = three_keeps r key.Next (after_next r) ws (λ x j y. next_keeps r x j y given)
 first_keeps r (Some key.Reply) ws given = two_keeps r key.Reply (after_reply r) ws (λ x y. reply_keeps r x y given)
 first_keeps r (Some key.Router) ws given = router_words_keep r (after_router r) ws (λ x. router_keeps r x given)

@@ -1,4 +1,5 @@
 pub mod SevenWords
+pub mod AllPairs
 pub mod Hops
 pub mod Added
 pub mod Fresh

@@ -1,6 +1,6 @@
 -- Lines that give no names go as with other names.
 use Rattle.std.proofs.Common.{◌≡◌, ℕ, Bool, true, false, List, [], ◌∷◌, ◌++◌, refl, ◌∙◌, ap}
-use Rattle.std.specs.Prelude.{Result, Ok, Err, Option, Some, None, if◌then◌else◌, not, replicate, slice_get, slice_set, slice_index_or, slice_index, nat_le, length, ◌==◌, ◌&&◌}
+use Rattle.std.specs.Prelude.{Result, Ok, Err, Option, Some, None, if◌then◌else◌, not, replicate, slice_get, slice_set, slice_index_or, slice_index, nat_le, nat_lt, ◌+◌, length, ◌==◌, ◌&&◌, codes}
 use Rattle.lexer.specs.Words.{begins_comment}
 use Rattle.lexer.specs.Outcome.{◌>>=◌}
 use Rattle.network_judge.specs.declared.table.Kind.TheVariants.{Injection, Hop, Ejection}
@@ -11,9 +11,11 @@ use Rattle.network_text.specs.declared.reason.Keyword.TheVariants as key
 use Rattle.network_text.specs.declared.reason.NetworkReason.{NetworkReason}
 use Rattle.network_text.specs.declared.reason.NetworkReason.TheVariants as reason
 use Rattle.network_text.specs.Reasons.{network_keyword_of}
-use Rattle.network_text.specs.Shapes.{unless, after_one, after_two, after_three, number_at}
+use Rattle.network_text.specs.Shapes.{unless, after_one, after_two, after_three, after_join_words, number_at}
+use Rattle.network_text.specs.AllPairs.{all_joins, pairs_in}
+use Rattle.std.specs.Str.{bytes_eq}
 use Rattle.network_text.specs.Network.{Reading, reading_with, lacks, is_hop, with_kind, count_of, begun, started, cell_of, has_reply}
-use Rattle.network_text.specs.Network.{after_channels, after_inject, after_eject, after_join, after_choice, after_next, after_reply}
+use Rattle.network_text.specs.Network.{after_channels, after_inject, after_eject, after_join, after_join_all, after_choice, after_next, after_reply}
 use Rattle.network_text.specs.Network.{after_first, after_words}
 use Rattle.network_text.specs.Names.{is_naming, words_name}
 
@@ -93,10 +95,30 @@ eject_mapped s r x =
     unless_mapped s (lacks r 1 x) _ _
     (four_mapped s r.begun (not (is_hop (slice_index_or r.table.kinds x Hop))) _ (Err reason.EjectionLate) (Err reason.KindTwice) (Err reason.EjectionsLimits) (Ok (with_kind r x Ejection)))
 
+three_tests_mapped : (s : List GivenNames) (b c : Bool) (x y z : Read)
+    → (if b then mapped s x else (if c then mapped s y else mapped s z)) ≡ mapped s (if b then x else (if c then y else z))
+three_tests_mapped s true c x y z = refl
+three_tests_mapped s false true x y z = refl
+three_tests_mapped s false false x y z = refl
+
 join_mapped : (s : List GivenNames) (r : Reading) (i j : ℕ) → after_join (forget s r) i j ≡ mapped s (after_join r i j)
 join_mapped s r i j = unless_mapped s (lacks r 1 i) _ _ (unless_mapped s (lacks r 2 j) _ _
     (if_mapped s (nat_le 4194304 (length r.table.joins)) (Err reason.JoinsLimits)
     (Ok (reading_with (table_of r.table.kinds (r.table.joins ++ record { from = i; to = j } ∷ []) r.table.choices) r.replies r.begun r.names))))
+
+join_all_mapped : (s : List GivenNames) (r : Reading) → after_join_all (forget s r) ≡ mapped s (after_join_all r)
+join_all_mapped s r =
+    three_tests_mapped s (count_of r == 0) (nat_lt 4194304 (length r.table.joins + pairs_in r.table.kinds))
+    (Err reason.ChannelsFirst) (Err reason.AllJoinsLimits)
+    (Ok (reading_with (table_of r.table.kinds (r.table.joins ++ all_joins r.table.kinds) r.table.choices) r.replies r.begun r.names))
+
+join_words_mapped : (s : List GivenNames) (f h : ℕ → ℕ → Read) (a b : Read) (ws : List (List ℕ))
+    → ((x y : ℕ) → h x y ≡ mapped s (f x y)) → b ≡ mapped s a → after_join_words h b ws ≡ mapped s (after_join_words f a ws)
+join_words_mapped s f h a b [] each every = refl
+join_words_mapped s f h a b (w ∷ []) each every =
+    ap (λ (o : Read). if bytes_eq w (codes "all") then o else Err (reason.NumberCount key.Join)) every
+    ∙ if_mapped s (bytes_eq w (codes "all")) a (Err (reason.NumberCount key.Join))
+join_words_mapped s f h a b (v ∷ w ∷ more) each every = two_mapped s key.Join f h (v ∷ w ∷ more) each
 
 begun_by : (s : List GivenNames) (r : Reading) (b : Bool) → (if b then forget s r else started (forget s r)) ≡ forget s (if b then r else started r)
 begun_by s r true = refl
@@ -148,7 +170,12 @@ goes_by s r next false (Some key.Inject) ws plain made =
 goes_by s r next false (Some key.Eject) ws plain made =
     record { names = s; made = one_mapped s key.Eject (after_eject r) (after_eject (forget s r)) ws (eject_mapped s r) ∙ ap (mapped s) made }
 goes_by s r next false (Some key.Join) ws plain made =
-    record { names = s; made = two_mapped s key.Join (after_join r) (after_join (forget s r)) ws (join_mapped s r) ∙ ap (mapped s) made }
+    record {
+      names = s;
+      made = join_words_mapped s (after_join r) (after_join (forget s r)) (after_join_all r) (after_join_all (forget s r)) ws
+          (join_mapped s r) (join_all_mapped s r)
+          ∙ ap (mapped s) made;
+    }
 goes_by s r next false (Some key.Next) ws plain made =
     record { names = s; made = three_mapped s key.Next (after_next r) (after_next (forget s r)) ws (next_mapped s r) ∙ ap (mapped s) made }
 goes_by s r next false (Some key.Reply) ws plain made =

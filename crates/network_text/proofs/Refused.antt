@@ -27,6 +27,7 @@ at_line reason.KindTwice n = inr refl
 at_line reason.EjectionLate n = inr refl
 at_line reason.EjectionsLimits n = inr refl
 at_line reason.JoinsLimits n = inr refl
+at_line reason.AllJoinsLimits n = inr refl
 at_line (reason.NotEjection p) n = inr refl
 at_line (reason.NotInjection p) n = inr refl
 at_line reason.ChoiceTwice n = inr refl

@@ -1,5 +1,6 @@
 pub mod Reasons
 pub mod Lines
+pub mod AllPairs
 pub mod Shapes
 pub mod Network
 pub mod Reading

@@ -17,7 +17,8 @@ use Rattle.network_text.specs.declared.reason.NetworkReason.TheVariants as reaso
 use Rattle.network_text.specs.declared.reading.GivenNames.{GivenNames}
 use Rattle.network_text.specs.Reasons.{network_fault_of, network_keyword_of}
 use Rattle.network_text.specs.Shapes.{unless, after_one, after_two, after_three, after_router_words}
-use Rattle.network_text.specs.Shapes.{after_link_words, after_name_words}
+use Rattle.network_text.specs.Shapes.{after_join_words, after_link_words, after_name_words}
+use Rattle.network_text.specs.AllPairs.{all_joins, pairs_in}
 use Rattle.network_judge.specs.declared.table.Kind.{Kind}
 use Rattle.network_judge.specs.declared.table.Kind.TheVariants.{Injection, Hop, Ejection}
 use Rattle.network_judge.specs.declared.table.Reply.{Reply}
@@ -94,6 +95,15 @@ after_join r i j = unless (lacks r 1 i) (unless (lacks r 2 j)
     else Ok (reading_with (table_of r.table.kinds
     (r.table.joins ++ record { from = i; to = j } ∷ []) r.table.choices)
     r.replies r.begun r.names)))
+
+-- packets go from each sender so far to each receiver so far
+abbrev pub after_join_all : Reading → Result Reading NetworkReason
+after_join_all r =
+    if count_of r == 0 then Err reason.ChannelsFirst
+    else (if nat_lt 4194304 (length r.table.joins + pairs_in r.table.kinds)
+    then Err reason.AllJoinsLimits
+    else Ok (reading_with (table_of r.table.kinds (r.table.joins ++ all_joins r.table.kinds)
+    r.table.choices) r.replies r.begun r.names))
 
 -- with choices: none yet behind any channel for any ejection channel
 abbrev pub started : Reading → Reading
@@ -204,7 +214,7 @@ abbrev pub after_keyword : Reading → Keyword → List (List ℕ) → Result Re
 after_keyword r key.Channels values = after_one key.Channels (after_channels r) values
 after_keyword r key.Inject values = after_one key.Inject (after_inject r) values
 after_keyword r key.Eject values = after_one key.Eject (after_eject r) values
-after_keyword r key.Join values = after_two key.Join (after_join r) values
+after_keyword r key.Join values = after_join_words (after_join r) (after_join_all r) values
 after_keyword r key.Next values = after_three key.Next (after_next r) values
 after_keyword r key.Reply values = after_two key.Reply (after_reply r) values
 after_keyword r key.Router values = after_router_words (after_router r) values

@@ -25,6 +25,7 @@ network_fault_of reason.KindTwice = fault.Setting
 network_fault_of reason.EjectionLate = fault.Setting
 network_fault_of reason.EjectionsLimits = fault.Length
 network_fault_of reason.JoinsLimits = fault.Length
+network_fault_of reason.AllJoinsLimits = fault.Length
 network_fault_of (reason.NotEjection place) = fault.Range
 network_fault_of (reason.NotInjection place) = fault.Range
 network_fault_of reason.ChoiceTwice = fault.Setting

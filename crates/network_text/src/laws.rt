@@ -1,8 +1,10 @@
 //! Laws of network texts, each the contract of a function that does nothing.
 
-ghost use Rattle.std.specs.Prelude.{◌≡◌, ℕ, List, Ok};
+ghost use Rattle.std.specs.Prelude.{◌≡◌, ◌++◌, ℕ, List, Ok, codes};
+ghost use Rattle.std.specs.Str.Lines.{lines};
 ghost use Rattle.network_text.specs.Network.{NetworkSpec, network_of, network_or_why};
 ghost use Rattle.network_text.specs.Names.{without_names};
+ghost use Rattle.network_text.specs.AllPairs.{two_tiles};
 ghost use Rattle.network_text.specs.Routing.{Fixed, routing_or_why};
 
 /// Names change no network, and so no verdict: where the lines of a text give one, the same lines but
@@ -21,4 +23,10 @@ pub fn fixed_routes_are_the_case_of_one_choice()
         → routing_or_why lines ≡ Ok (Fixed n) }
     ensures back { (lines : List (List ℕ)) (n : NetworkSpec) → routing_or_why lines ≡ Ok (Fixed n)
         → network_or_why lines ≡ Ok n }
+{}
+
+/// `join all` says what a line `join` says for each sender and each receiver, here of two tiles.
+pub fn join_all_is_each_join()
+    ensures { network_or_why (lines (two_tiles ++ codes "join all\n"))
+        ≡ network_or_why (lines (two_tiles ++ codes "join 0 1\njoin 0 3\njoin 2 1\njoin 2 3\n")) }
 {}

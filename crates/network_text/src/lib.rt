@@ -2,6 +2,7 @@
 //! names; where and why it is refused, and the sentence that says so.
 #![tactic(auto)]
 
+mod all_pairs;
 pub mod before;
 mod choice_lists;
 pub mod choosing;

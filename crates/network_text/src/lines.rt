@@ -5,9 +5,10 @@ ghost use Rattle.network_text.specs.declared.reason.NetworkReason.{NetworkReason
 ghost use Rattle.lexer.specs.Outcome.{Makes};
 ghost use Rattle.network_text.specs.Network.{Reading as ReadSpec};
 ghost use Rattle.network_text.specs.Network.{after_channels, after_inject, after_eject, after_join};
-ghost use Rattle.network_text.specs.Network.{after_next, after_reply};
+ghost use Rattle.network_text.specs.Network.{after_join_all, after_next, after_reply};
 ghost use Rattle.network_text.specs.Network.{after_keyword, after_words};
 ghost use Rattle.network_text.specs.Shapes.{after_one, after_two, after_three, number_at, three_at};
+ghost use Rattle.network_text.specs.Shapes.{after_join_words};
 ghost use Rattle.network_text.specs.Reading.{reading_of, IsRead};
 
 use crate::reading::Reading;
@@ -119,7 +120,7 @@ impl<A: Allocator + Copy> Reading<A> {
             Keyword::Channels => self.channels_line(alloc, values),
             Keyword::Inject => self.inject_line(values),
             Keyword::Eject => self.eject_line(values),
-            Keyword::Join => self.join_line(values),
+            Keyword::Join => self.join_words(alloc, values),
             Keyword::Next => self.next_line(alloc, values),
             Keyword::Reply => self.reply_line(values),
             Keyword::Router => self.router_line(alloc, values),
@@ -175,6 +176,26 @@ impl<A: Allocator + Copy> Reading<A> {
     {
         let (i, j) = two_indexes(Keyword::Join, values)?;
         self.take_join(i, j)
+    }
+
+    /// Takes the words after `join`.
+    fn join_words(&mut self, alloc: A, values: &[&[u8]]) -> Result<(), NetworkReason>
+        requires { IsRead self.old }
+        ensures value { Makes NetworkReason.Memory (reading_of self.new) result
+            (after_join_words (after_join (reading_of self.old))
+            (after_join_all (reading_of self.old)) (map (λ value. value.now) values.now)) }
+        ensures read { OnOk result (IsRead self.new) }
+    {
+        match values {
+            [] => self.join_line(values),
+            [word] => {
+                if *word == b"all".as_slice() {
+                    return self.take_join_all(alloc);
+                }
+                Err(NetworkReason::NumberCount(Keyword::Join))
+            }
+            [_, _, ..] => self.join_line(values),
+        }
     }
 
     /// Takes the numbers after `next`.

@@ -49,6 +49,8 @@ pub enum NetworkReason {
     EjectionsLimits,
     /// There are 4194304 source-destination pairs already.
     JoinsLimits,
+    /// The pairs of each sender with each receiver, beside those so far, are more than 4194304.
+    AllJoinsLimits,
     /// The channel at this place is no ejection channel.
     NotEjection(u32),
     /// The channel at this place is no injection channel.
@@ -96,6 +98,7 @@ impl Reason for NetworkReason {
             NetworkReason::EjectionLate => Fault::Setting,
             NetworkReason::EjectionsLimits => Fault::Length,
             NetworkReason::JoinsLimits => Fault::Length,
+            NetworkReason::AllJoinsLimits => Fault::Length,
             NetworkReason::NotEjection(_) => Fault::Range,
             NetworkReason::NotInjection(_) => Fault::Range,
             NetworkReason::ChoiceTwice => Fault::Setting,

@@ -72,7 +72,7 @@ fn numbers_text(keyword: Keyword) -> &'static str {
         Keyword::Channels => "stands one number",
         Keyword::Inject => "stands one channel",
         Keyword::Eject => "stands one channel",
-        Keyword::Join => "stand two channels",
+        Keyword::Join => "stand two channels, or the word all",
         Keyword::Next => "stand three channels",
         Keyword::Reply => "stand two channels",
         Keyword::Router => "stand a number, a name of one word, and a place of two numbers or none",
@@ -103,6 +103,7 @@ fn text_of(reason: NetworkReason) -> &'static str {
             "eject B: channels times ejection channels are at most 134217728"
         }
         NetworkReason::JoinsLimits => "join B C: a network has at most 4194304 joins",
+        NetworkReason::AllJoinsLimits => "join all: a network has at most 4194304 joins",
         NetworkReason::NotEjection(_) => "channel W: it is no ejection channel",
         NetworkReason::NotInjection(_) => "channel W: it is no injection channel",
         NetworkReason::ChoiceTwice => "next B C: it is given at line N already",

@@ -3,10 +3,11 @@
 ghost use Rattle.std.specs.Prelude.{◌≡◌, ◌<◌, length, OnOk, IfSome};
 ghost use Rattle.lexer.specs.Outcome.{Makes};
 ghost use Rattle.network_text.specs.Network.{after_channels, after_inject, after_eject, after_join};
-ghost use Rattle.network_text.specs.Network.{after_choice, after_next, after_reply};
+ghost use Rattle.network_text.specs.Network.{after_join_all, after_choice, after_next, after_reply};
 ghost use Rattle.network_text.specs.Network.{taken_cell};
 ghost use Rattle.network_text.specs.Reading.{reading_of, IsRead};
 
+use crate::all_pairs::{End, channels_with, put_every_join};
 use crate::reading::{Reading, has_reply, is_hop};
 use crate::reason::NetworkReason;
 use network_judge::{Join, Kind, Reply};
@@ -103,6 +104,25 @@ impl<A: Allocator + Copy> Reading<A> {
         if self.joins.push(Join { from, to }).is_err() {
             return Err(NetworkReason::Memory);
         }
+        Ok(())
+    }
+
+    /// Takes each pair of a sender so far and a receiver so far.
+    pub(crate) fn take_join_all(&mut self, alloc: A) -> Result<(), NetworkReason>
+        requires { IsRead self.old }
+        ensures value { Makes NetworkReason.Memory (reading_of self.new) result
+            (after_join_all (reading_of self.old)) }
+        ensures read { OnOk result (IsRead self.new) }
+    {
+        if self.kinds.is_empty() {
+            return Err(NetworkReason::ChannelsFirst);
+        }
+        let senders = channels_with(alloc, &self.kinds, End::Sender)?;
+        let receivers = channels_with(alloc, &self.kinds, End::Receiver)?;
+        if self.joins.len() + senders.len() * receivers.len() > MOST_JOINS {
+            return Err(NetworkReason::AllJoinsLimits);
+        }
+        put_every_join(&mut self.joins, &senders, &receivers)?;
         Ok(())
     }
 

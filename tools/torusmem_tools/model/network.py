@@ -143,6 +143,9 @@ class Reader:
         if kind in NAMES:
             self.take_name(kind, words)
             return
+        if (kind, words) == ("join", ["all"]):
+            self.join_all()
+            return
         numbers = [number_of(word) for word in words]
         if SHAPES.get(kind) != len(numbers) or min(numbers) < 0:
             raise ValueError("no line of a network begins so, or it hasn't so many numbers")
@@ -206,6 +209,14 @@ class Reader:
     def join(self, i: int, j: int) -> None:
         self.net.joins.append((i, j))
         self.below(len(self.net.joins) - 1, MOST_PAIRS, "the number of `join` lines")
+
+    def join_all(self) -> None:
+        """Joins each sender so far with each receiver so far."""
+        if not self.net.kinds:
+            raise ValueError("`channels` is the first line, and stands once")
+        senders, receivers = ([x for x, kind in enumerate(self.net.kinds) if kind == it] for it in ("inject", "eject"))
+        self.below(len(self.net.joins) + len(senders) * len(receivers) - 1, MOST_PAIRS, "the number of `join` lines")
+        self.net.joins += [(i, j) for i in senders for j in receivers]
 
     def next(self, x: int, j: int, y: int) -> None:
         if self.net.kinds[j] != "eject":

@@ -1,0 +1,38 @@
+-- The channels with an end, one after another.
+use Rattle.std.proofs.Common.{◌≡◌, ℕ, ◌+◌, ◌≤◌, true, false, List, [], ◌∷◌, ◌++◌, length, sym, ◌∙◌, ap, append-nil, arith}
+use Rattle.std.specs.Prelude.{slice_get, if◌then◌else◌}
+use Rattle.std.proofs.lemmas.List.{length_push}
+use Rattle.network_judge.specs.declared.table.Kind.{Kind}
+use Rattle.network_text.specs.Lines.{first_lines}
+use Rattle.network_text.specs.declared.all_pairs.End.{End}
+use Rattle.network_text.specs.AllPairs.{is_end, channel_at_end}
+use Rattle.network_text.proofs.Pieces.{line_put}
+
+-- those so far, of which there are no more than channels
+pub record AreSoFar (end : End) (kinds : List Kind) (x : ℕ) (found : List ℕ) : Type 0 where
+  pub so_far : found ≡ first_lines (channel_at_end end kinds) x
+  pub few : length found ≤ x
+
+-- one more
+pub end_put : (end : End) (kinds : List Kind) (x : ℕ) (old new : List ℕ) → AreSoFar end kinds x old → is_end end (slice_get kinds x) ≡ true
+    → new ≡ old ++ x ∷ [] → AreSoFar end kinds (x + 1) new
+end_put end kinds x old new are is put =
+    let more = ap length put in
+    let size = length_push old x in
+    let few = are.few in
+    record {
+      so_far = line_put [] old new (channel_at_end end kinds) x are.so_far (put ∙ ap (λ b. old ++ (if b then x ∷ [] else [])) (sym is));
+      few = omega arith;
+    }
+
+-- another channel
+pub end_passed : (end : End) (kinds : List Kind) (x : ℕ) (old new : List ℕ) → AreSoFar end kinds x old → is_end end (slice_get kinds x) ≡ false
+    → new ≡ old → AreSoFar end kinds (x + 1) new
+end_passed end kinds x old new are is same =
+    let more = ap length same in
+    let few = are.few in
+    record {
+      so_far = line_put [] old new (channel_at_end end kinds) x are.so_far
+          (same ∙ (sym (append-nil old) ∙ ap (λ b. old ++ (if b then x ∷ [] else [])) (sym is)));
+      few = omega arith;
+    }
