@@ -8,8 +8,9 @@ ghost use Rattle.network_text.specs.Tiles.{tile_line, tile_lines, IsTile, IsTile
 use crate::choosing::Choosing;
 use std::alloc::{AllocError, Allocator};
 
-/// The most ejection channels of a tile: a line of a cache has as many choices.
-const MOST_WIDTH: usize = 16;
+/// The most ejection channels of a tile: with fewer each line of the table's memory is fetched more often,
+/// with more each line of the tile's.
+const MOST_WIDTH: usize = 4;
 
 /// The choices for packets to some ejection channels in a row, those behind a channel side by side: so each
 /// line of the table's memory is fetched once for all of them.
