@@ -44,7 +44,7 @@ pub fn network_text_once<A: Allocator + Copy, W: Out>(
     ensures { PrintsNetwork A (lines network.items) (output (W.taken out.old) (W.failures out.old))
         (output (W.taken out.new) (W.failures out.new)) result }
 {
-    let answer = routing_answer_once(alloc, network)?;
-    put_all(out, &answer.text)?;
-    Ok(answer.rising)
+    let told = routing_answer_once(alloc, network)?;
+    put_all(out, &told.text)?;
+    Ok(told.rising)
 }

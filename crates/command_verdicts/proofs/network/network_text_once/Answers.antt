@@ -6,15 +6,15 @@ use Rattle.command_verdicts.proofs.network.network_text_once.Goals as goal
 pub returns-in_err-put_all : goal.returns-in_err-put_all
 returns-in_err-put_all g c =
     let p = err_from_is_err_and c.from_residual-in_err-put_all.result c.from_residual-in_err-put_all.ensures.1 in
-    let told = c.in_ok-answer.ensures in
+    let told = c.in_ok-told.ensures in
     rw (p.1, p.2) (
-      c.in_ok-answer.answer.rising,
+      c.in_ok-told.told.rising,
       (
         c.deref.result.now,
         record {
           network = told.0;
           read = told.1;
-          answer = c.in_ok-answer.answer;
+          answer = c.in_ok-told.told;
           tells = told.2;
           is = c.deref.ensures.value;
           rises = refl;
@@ -25,12 +25,12 @@ returns-in_err-put_all g c =
 
 pub returns : goal.returns
 returns g c =
-    let told = c.in_ok-answer.ensures in (
+    let told = c.in_ok-told.ensures in (
       c.deref.result.now,
       record {
         network = told.0;
         read = told.1;
-        answer = c.in_ok-answer.answer;
+        answer = c.in_ok-told.told;
         tells = told.2;
         is = c.deref.ensures.value;
         rises = refl;
