@@ -4,7 +4,7 @@ ghost use Rattle.std.specs.Str.Lines.{lines};
 ghost use Rattle.program_fault.specs.Done.{output};
 ghost use Rattle.command_verdicts.specs.Printed.{PrintsNetwork};
 
-use network_answer::routing_answer;
+use network_answer::{routing_answer, routing_answer_once};
 use program_fault::ProgramFault;
 use report_lines::Out;
 use report_lines::output::put_all;
@@ -29,4 +29,22 @@ pub fn network_text<A: Allocator + Copy, W: Out>(
     let answer = routing_answer(alloc, network)?;
     put_all(out, &answer.text)?;
     Ok(answer.rising)
+}
+
+/// Prints the verdict on the network of a text as `network_text` does, and gives up the text once it is
+/// read: so it takes no memory while the network is judged.
+///
+/// Errors: the text's first fault, or out of memory; and nothing was written then. If the output
+/// fails, a beginning was written.
+pub fn network_text_once<A: Allocator + Copy, W: Out>(
+    alloc: A,
+    network: Vec<u8, A>,
+    out: &mut W,
+) -> Result<bool, ProgramFault>
+    ensures { PrintsNetwork A (lines network.items) (output (W.taken out.old) (W.failures out.old))
+        (output (W.taken out.new) (W.failures out.new)) result }
+{
+    let told = routing_answer_once(alloc, network)?;
+    put_all(out, &told.text)?;
+    Ok(told.rising)
 }

@@ -11,20 +11,9 @@ use Rattle.network_adaptive.proofs.Bases.{count_same, count_more}
 use Rattle.network_text.specs.Network.{count_of}
 use Rattle.network_text.specs.Lines.{first_lines}
 use Rattle.network_text.proofs.Pieces.{first_lines-more}
+use Rattle.network_text.proofs.Tiles.{lines_length}
 use Rattle.network_text.specs.Choosing.{ChoosingText}
 use Rattle.network_text.specs.ChoiceLists.{choice_toward, choice_row, block_of, block_toward, choice_list}
-
--- so many in all, if each gives so many
-lines_length : (line : ℕ → List ℕ) (w n : ℕ) → ((k : ℕ) → length (line k) ≡ w) → length (first_lines line n) ≡ n * w
-lines_length line w zero each = let none : length (first_lines line 0) ≡ 0 = refl in omega arith
-lines_length line w (suc n) each =
-    let e : suc n ≡ n + 1 = omega arith in
-    let before = lines_length line w n each in
-    let here = each n in
-    let both = length-append (first_lines line n) (line n) in
-    let more = ap length (first_lines-more line n) in
-    let all = ap (λ m. length (first_lines line m)) e in
-    omega arith
 
 block_length : (t : ChoosingText) (j : ℕ) → length (block_of t j) ≡ count_of t.fixed * (t.layers + 1)
 block_length t j =

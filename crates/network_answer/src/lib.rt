@@ -17,5 +17,5 @@ pub use cause_sentence::CauseSentence;
 pub use causes::{Cause, Wait, judged_causes, verdict_causes};
 pub use jam::judged_text;
 pub use judging::judged_of;
-pub use routing::routing_answer;
+pub use routing::{routing_answer, routing_answer_once};
 pub use verdict::verdict_text;

@@ -5,11 +5,17 @@ ghost use Rattle.std.specs.Str.Lines.{lines};
 ghost use Rattle.network_text.specs.ChoosingRead.{choosing_text_of, IsChoosingRead};
 ghost use Rattle.network_answer.specs.Routing.{AnswersRouting, TellsChoosing, TellsRouting};
 ghost use Rattle.network_text.specs.Routing.{routing_of_all};
+ghost use Rattle.lexer.specs.Outcome.{Gives};
+ghost use Rattle.network_text.specs.Choosing.{text_or_why};
+ghost use Rattle.network_text.specs.declared.reason.NetworkReason.{NetworkReason};
+ghost use Rattle.network_text.specs.declared.choosing.Routers.{Routers};
 
 use crate::answer::{Answer, answered, no_pair};
 use crate::judgement::judgement_text;
 use crate::judging::{judgement_of, judgement_rises};
 use crate::one_flit::behind_text;
+use lexer::Refusal;
+use network_text::NetworkReason;
 use network_text::choosing::{Choosing, Routers};
 use network_text::choosing_text::read_text_or_why;
 use network_text::network::network_read;
@@ -66,6 +72,38 @@ fn answered_routing<A: Allocator + Copy>(
         return answered(alloc, &network_read(network));
     }
     answered_choosing(alloc, &mut network)
+}
+
+/// Reads a network text, and gives it up.
+///
+/// Errors: where and why its first bad line is refused, or that a request for memory was.
+fn read_and_dropped<A: Allocator + Copy>(
+    alloc: A,
+    text: Vec<u8, A>,
+) -> Result<Choosing<A>, Refusal<NetworkReason>>
+    ensures value { Gives NetworkReason.Memory choosing_text_of result
+        (text_or_why Routers.AnyChoices (lines text.items)) }
+    ensures read { IfOk result IsChoosingRead }
+    ensures begun { IfOk result (λ c. c.fixed.begun ≡ true) }
+{
+    read_text_or_why(alloc, &text, Routers::AnyChoices)
+}
+
+/// Answers as `routing_answer` does, and gives up the text once it is read: so it takes no memory while
+/// the network is judged.
+///
+/// Errors: the first fault of the text and its line, or `Fault::Memory` at line 0.
+pub fn routing_answer_once<A: Allocator + Copy>(
+    alloc: A,
+    text: Vec<u8, A>,
+) -> Result<Answer<A>, LineFault>
+    ensures { AnswersRouting (lines text.items) result }
+{
+    let network = read_and_dropped(alloc, text)?;
+    match answered_routing(alloc, network) {
+        Ok(answer) => Ok(answer),
+        Err(_) => Err(MEMORY),
+    }
 }
 
 /// Reads a network text, judges the network and answers with the text of what is judged: as

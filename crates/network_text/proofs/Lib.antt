@@ -16,6 +16,7 @@ pub mod ChoosingWords
 pub mod Layers
 pub mod Fixed
 pub mod Placed
+pub mod Tiles
 pub mod Three
 pub mod OneChoice
 pub mod Alike

@@ -11,4 +11,5 @@ pub mod Names
 pub mod Choosing
 pub mod ChoosingRead
 pub mod ChoiceLists
+pub mod Tiles
 pub mod Routing

@@ -5,15 +5,18 @@ ghost use Rattle.network_text.specs.Network.{count_of};
 ghost use Rattle.network_text.specs.ChoosingRead.{choosing_text_of, IsChoosingRead};
 ghost use Rattle.network_text.specs.ChoiceLists.{choice_toward, choice_row, block_toward, choice_list};
 ghost use Rattle.network_text.specs.ChoiceLists.{is_made_escape, AreEscapesOf};
+ghost use Rattle.network_text.specs.Tiles.{IsTileFor};
 
 use crate::choosing::{Choosing, is_escape};
+use crate::tile::Tile;
 use std::alloc::{AllocError, Allocator};
 
 impl<A: Allocator + Copy> Choosing<A> {
-    /// The choice behind a channel for packets to another one that comes after so many others.
-    fn choice(&self, to: usize, at: usize, place: usize) -> u32
+    /// The choice behind a channel for packets to another one that comes after so many others, by a tile.
+    fn choice(&self, tile: &Tile<A>, to: usize, at: usize, place: usize) -> u32
         requires read { IsChoosingRead self.now }
         requires begun { self.now.fixed.begun ≡ true }
+        requires tile { IsTileFor (choosing_text_of self.now) tile.now to }
         requires at { at < length self.now.fixed.kinds.items }
         requires place { place ≤ self.now.layers }
         ensures { result ≡ choice_toward (choosing_text_of self.now) to at place }
@@ -21,32 +24,36 @@ impl<A: Allocator + Copy> Choosing<A> {
         if !self.fixed.ejects(to) {
             return self.fixed.kinds.len() as u32;
         }
-        let cell = at * self.fixed.ejections + self.fixed.columns[to];
-        if place == 0 {
-            self.fixed.choices[cell]
-        } else {
-            self.further[(place - 1) * self.fixed.choices.len() + cell]
-        }
+        let k = self.fixed.columns[to] - tile.from;
+        tile.cells[at * ((self.layers + 1) * tile.width) + (place * tile.width + k)]
     }
 
     /// Adds the choices behind a channel for packets to another one.
-    fn put_row(&self, out: &mut Vec<u32, A>, to: usize, at: usize) -> Result<(), AllocError>
+    fn put_row(
+        &self,
+        out: &mut Vec<u32, A>,
+        tile: &Tile<A>,
+        to: usize,
+        at: usize,
+    ) -> Result<(), AllocError>
         requires read { IsChoosingRead self.now }
         requires begun { self.now.fixed.begun ≡ true }
+        requires tile { IsTileFor (choosing_text_of self.now) tile.now to }
         requires at { at < length self.now.fixed.kinds.items }
         ensures { OnOk result
             (out.new.items ≡ out.old.items ++ choice_row (choosing_text_of self.now) to at) }
     {
         for place in 0..self.layers + 1 {
-            out.push(self.choice(to, at, place))?;
+            out.push(self.choice(tile, to, at, place))?;
         }
         Ok(())
     }
 
     /// Adds the choices for packets to a channel, if it is an ejection channel.
-    fn put_block(&self, out: &mut Vec<u32, A>, to: usize) -> Result<(), AllocError>
+    fn put_block(&self, out: &mut Vec<u32, A>, tile: &Tile<A>, to: usize) -> Result<(), AllocError>
         requires read { IsChoosingRead self.now }
         requires begun { self.now.fixed.begun ≡ true }
+        requires tile { IsTileFor (choosing_text_of self.now) tile.now to }
         ensures { OnOk result
             (out.new.items ≡ out.old.items ++ block_toward (choosing_text_of self.now) to) }
     {
@@ -54,7 +61,7 @@ impl<A: Allocator + Copy> Choosing<A> {
             return Ok(());
         }
         for at in 0..self.fixed.kinds.len() {
-            self.put_row(out, to, at)?;
+            self.put_row(out, tile, to, at)?;
         }
         Ok(())
     }
@@ -70,8 +77,11 @@ impl<A: Allocator + Copy> Choosing<A> {
     {
         let all = self.fixed.choices.len() + self.further.len();
         let mut out = Vec::with_capacity(alloc, all)?;
+        let mut tile = self.tile_from(alloc, 0)?;
         for to in 0..self.fixed.kinds.len() {
-            self.put_block(&mut out, to)?;
+            let found = self.tile_for(alloc, tile, to)?;
+            self.put_block(&mut out, &found, to)?;
+            tile = found;
         }
         Ok(out)
     }

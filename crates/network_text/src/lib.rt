@@ -16,6 +16,7 @@ pub mod reading;
 pub mod reason;
 pub mod sentence;
 pub mod taking;
+mod tile;
 pub mod title;
 
 pub use before::earlier_line;

@@ -17,11 +17,13 @@ use command_jobs::{
     RunEnd, commands_told, done, fault_told, flushed, tell_end_of, texts_of, version_told, writer,
 };
 use command_line::{Job, Request, asks_commands, asks_version, name_of, request_told, words_told};
+use command_verdicts::network_text_once;
 use judging::Judging;
 use model_answer::MemoryModel;
 use network_rounds::Arbiter;
 use program_fault::{ProgramFault, Texts};
 use report_lines::Piped;
+use std::alloc::Global;
 use std::io::{Input, IsTerminal};
 use std::process::ExitCode;
 use std::rt::{Clock, Env, Files};
@@ -128,6 +130,11 @@ fn other_done<R: Files + Input + Print + Eprint + Clock + AllocGlobal + Threads 
         Ok(texts) => texts,
         Err(status) => return status,
     };
+    if let Job::Network { .. } = request.job
+        && !is_explained
+    {
+        return network_told(rt, texts.first);
+    }
     match printed(rt, request, &texts, is_seen) {
         Ok(outcome) => {
             let status = status_told(rt, &outcome);
@@ -144,6 +151,26 @@ fn other_done<R: Files + Input + Print + Eprint + Clock + AllocGlobal + Threads 
             status
         }
     }
+}
+
+/// Prints the verdict on the network of a text that nothing is to be said of, and answers the exit status.
+fn network_told<R: Print + Eprint + AllocGlobal>(rt: &R, text: Vec<u8, Global>) -> u8 {
+    match network_printed(rt, text) {
+        Ok(outcome) => status_told(rt, &outcome),
+        Err(fault) => fault_told(rt, &fault),
+    }
+}
+
+/// The verdict on the network of a text, which is given up once it is read, and whose output was written
+/// to its last byte.
+fn network_printed<R: Print + AllocGlobal>(
+    rt: &R,
+    text: Vec<u8, Global>,
+) -> Result<Outcome, ProgramFault> {
+    let mut writer = writer(rt)?;
+    let rising = network_text_once(rt.alloc(), text, &mut Piped::new(&mut writer))?;
+    flushed(&mut writer)?;
+    Ok(Outcome::Sound(rising))
 }
 
 /// The word of the command, where its answer is to be a JSON object.
