@@ -501,11 +501,11 @@ torusmem_outcome torusmem_next(torusmem_machine *m, uint32_t at, uint32_t input,
 /* Judges the network of a network text with one choice for each channel and destination (docs/FORMATS.md, "Network text"):
    whether each pair that it joins has a route, and numbers of its channels can rise along every route and every reply,
    so that it is free of deadlock. Needs no machine. The verdict's text, which the program prints, is put into a buffer.
-   OK: the numbers rise; a line for each channel with its number, then `rising`.
+   OK: the numbers rise; a line for each channel with its number, then `rising`; last the line on what packets go over.
    NO_ROUTE: the line of the first pair without a route, with the step and the reason.
    CYCLE: the line `cycle`, then a line for each channel of a cycle, with the packets that go on to the next one; then a
    line for each channel that fills up, and `locks up`: a run leads from the empty network to full channels of which
-   nothing can go.
+   nothing can go; last the line on what packets go over.
    Of these three, value is the length of the text: it is the first `value` bytes of out, and those behind them are as
    they were.
    SHORT: value is that length, and out is as it was; so is it on a fault of the text, where value is its line, and on

@@ -93,9 +93,9 @@ def network(text: Text, file: str = "network text") -> Verdict:
         raise TextFault(file, said.value, said.code, "network", NETWORK_REASONS.get(said.code, ""))
     lines = out.raw[: said.value].decode("ascii").splitlines()
     if said.code == _library.OK:
-        return Rising(tuple(int(line.split()[2]) for line in lines[:-1]))
+        return Rising(tuple(int(line.split()[2]) for line in lines if line.startswith("number ")))
     if said.code == _library.CYCLE:
-        said_of = [line.split() for line in lines[1:] if line != "locks up"]
+        said_of = [line.split() for line in lines[1:] if line != "locks up" and not line.startswith("pairs ")]
         links = tuple(link_from(*words) for words in said_of if words[0] != "fill")
         return Cycle(links, tuple(Fill(*map(int, words[1:])) for words in said_of if words[0] == "fill"))
     pair, _, why = lines[0].partition(": ")

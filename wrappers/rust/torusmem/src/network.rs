@@ -118,7 +118,8 @@ fn link(line: &str) -> Link {
 
 /// The lines of a cycle, and of the channels that fill up behind it.
 fn cycle(text: &str) -> Verdict {
-    let lines = text.lines().filter(|line| *line != "cycle" && *line != "locks up");
+    let is_told = |line: &&str| *line != "cycle" && *line != "locks up" && !line.starts_with("pairs ");
+    let lines = text.lines().filter(is_told);
     let (fills, links): (Vec<_>, Vec<_>) = lines.partition(|line| line.starts_with("fill "));
     let fill = |line: &str| Fill { from: channel(line, 1), to: channel(line, 2), step: last(line) };
     Verdict::Cycle { links: links.into_iter().map(link).collect(), jam: fills.into_iter().map(fill).collect() }
