@@ -444,6 +444,7 @@ static void networks_are_judged(void) {
   MUST(sscanf((const char *)written.bytes, "number 0 %u\nnumber 1 %u\nnumber 2 %u\n%7s", &numbers[0], &numbers[1],
               &numbers[2], rising) == 4);
   MUST(numbers[0] < numbers[1] && numbers[1] < numbers[2] && strcmp(rising, "rising") == 0);
+  judges("channels 2\ninject 0\neject 1\nnext 0 1 1\n", TORUSMEM_NO_PAIR, "no pair\n", "");
   judges(pair, TORUSMEM_NO_ROUTE, "no route 0 1: no channel at step 1\n", "");
   judges("channels 2\ninject 0\neject 1\njoin 0 0\n", TORUSMEM_NO_ROUTE,
          "no route 0 0: the second is no ejection channel\n", "");
