@@ -444,16 +444,17 @@ static void networks_are_judged(void) {
   MUST(sscanf((const char *)written.bytes, "number 0 %u\nnumber 1 %u\nnumber 2 %u\n%7s", &numbers[0], &numbers[1],
               &numbers[2], rising) == 4);
   MUST(numbers[0] < numbers[1] && numbers[1] < numbers[2] && strcmp(rising, "rising") == 0);
+  judges("channels 2\ninject 0\neject 1\nnext 0 1 1\n", TORUSMEM_NO_PAIR, "no pair\n", "");
   judges(pair, TORUSMEM_NO_ROUTE, "no route 0 1: no channel at step 1\n", "");
   judges("channels 2\ninject 0\neject 1\njoin 0 0\n", TORUSMEM_NO_ROUTE,
          "no route 0 0: the second is no ejection channel\n", "");
   judges("channels 6\ninject 0\ninject 1\neject 4\neject 5\njoin 0 5\njoin 1 4\nnext 0 5 2\nnext 2 5 3\n"
          "next 3 5 5\nnext 1 4 3\nnext 3 4 2\nnext 2 4 4\n",
-         TORUSMEM_CYCLE, "cycle\n2 to 5\n3 to 4\nfill 1 4 1\nfill 0 5 1\nlocks up\n",
-         "cycle\n3 to 4\n2 to 5\nfill 0 5 1\nfill 1 4 1\nlocks up\n");
+         TORUSMEM_CYCLE, "cycle\n2 to 5\n3 to 4\nfill 1 4 1\nfill 0 5 1\nlocks up\npairs 2 of 4, hops 2 of 2, longest route 4\n",
+         "cycle\n3 to 4\n2 to 5\nfill 0 5 1\nfill 1 4 1\nlocks up\npairs 2 of 4, hops 2 of 2, longest route 4\n");
   judges("channels 2\ninject 0\neject 1\njoin 0 1\nnext 0 1 1\nreply 1 0\n", TORUSMEM_CYCLE,
-         "cycle\n0 to 1\n1 replies 0\nfill 0 1 1\nfill 0 1 0\nlocks up\n",
-         "cycle\n1 replies 0\n0 to 1\nfill 0 1 1\nfill 0 1 0\nlocks up\n");
+         "cycle\n0 to 1\n1 replies 0\nfill 0 1 1\nfill 0 1 0\nlocks up\npairs 1 of 1, hops 0 of 0, longest route 2\n",
+         "cycle\n1 replies 0\n0 to 1\nfill 0 1 1\nfill 0 1 0\nlocks up\npairs 1 of 1, hops 0 of 0, longest route 2\n");
   MUST(says(judge("channels 2\ninject 0\n\ninject 2\n", 100), 6, 4) && written.bytes[0] == 0xAA);
   MUST(says(judge("lanes 2\n", 100), 4, 1) && says(judge("inject 0\n", 0), 5, 1) && says(judge("", 0), 5, 1));
   MUST(says(torusmem_network(NULL, 0, NULL, 0), 5, 1));

@@ -91,6 +91,7 @@ void judges() {
   torusmem::verdict rises = torusmem::network("channels 3\ninject 0\neject 2\njoin 0 2\nnext 0 2 1\nnext 1 2 2\n");
   MUST(rises.code == TORUSMEM_OK && rises.text.find("rising") != std::string::npos);
   MUST(torusmem::network("channels 2\ninject 0\neject 1\njoin 0 1\n").code == TORUSMEM_NO_ROUTE);
+  MUST(torusmem::network("channels 2\ninject 0\neject 1\n").code == TORUSMEM_NO_PAIR);
   std::vector<torusmem_log_entry> log(3, torusmem_log_entry());
   log[0].kind = TORUSMEM_LOG_MADE;
   log[1].kind = TORUSMEM_LOG_READ_OPENING;

@@ -125,7 +125,8 @@ enum {
   TORUSMEM_NO_RECORD = 27,   /* the machine keeps no record of what is done to it */
   TORUSMEM_BAD_RECORD = 28,  /* bytes are no record; value: the place of the first byte that is wrong, or missing, from 0 */
   TORUSMEM_BAD_ACTION = 29,  /* an action of a record can't be done; value: the action, from 0 */
-  TORUSMEM_WRONG_REPLY = 30  /* of a log: a reply isn't what its operation does to the word that it finds */
+  TORUSMEM_WRONG_REPLY = 30, /* of a log: a reply isn't what its operation does to the word that it finds */
+  TORUSMEM_NO_PAIR = 31      /* no packets go anywhere in a network; value: the length of the verdict's text */
 };
 
 /* What a code says, in a few words of ASCII, as "an address is not below the number of words". For any number. */
@@ -501,12 +502,13 @@ torusmem_outcome torusmem_next(torusmem_machine *m, uint32_t at, uint32_t input,
 /* Judges the network of a network text with one choice for each channel and destination (docs/FORMATS.md, "Network text"):
    whether each pair that it joins has a route, and numbers of its channels can rise along every route and every reply,
    so that it is free of deadlock. Needs no machine. The verdict's text, which the program prints, is put into a buffer.
-   OK: the numbers rise; a line for each channel with its number, then `rising`.
+   OK: the numbers rise; a line for each channel with its number, then `rising`; last the line on what packets go over.
    NO_ROUTE: the line of the first pair without a route, with the step and the reason.
    CYCLE: the line `cycle`, then a line for each channel of a cycle, with the packets that go on to the next one; then a
    line for each channel that fills up, and `locks up`: a run leads from the empty network to full channels of which
-   nothing can go.
-   Of these three, value is the length of the text: it is the first `value` bytes of out, and those behind them are as
+   nothing can go; last the line on what packets go over.
+   NO_PAIR: the line `no pair`: no line of the network says join, so nothing is judged.
+   Of these four, value is the length of the text: it is the first `value` bytes of out, and those behind them are as
    they were.
    SHORT: value is that length, and out is as it was; so is it on a fault of the text, where value is its line, and on
    FAULT_MEMORY. A verdict takes time; where a buffer was short, it is made again. */

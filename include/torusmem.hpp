@@ -328,7 +328,7 @@ class watch {
   uint64_t next_ = 0;
 };
 
-// The verdict on a network: OK, NO_ROUTE or CYCLE, and the text that the program prints.
+// The verdict on a network: OK, NO_ROUTE, CYCLE or NO_PAIR, and the text that the program prints.
 struct verdict {
   uint32_t code;
   std::string text;
@@ -337,7 +337,8 @@ inline verdict network(text network) {
   verdict made{TORUSMEM_OK, ""};
   made.text = filled<std::string>("network", 65536, [&](char *at, size_t room) {
     torusmem_outcome said = torusmem_network(network.data(), network.size(), reinterpret_cast<uint8_t *>(at), room);
-    if (said.code == TORUSMEM_NO_ROUTE || said.code == TORUSMEM_CYCLE) made.code = said.code, said.code = TORUSMEM_OK;
+    if (said.code == TORUSMEM_NO_ROUTE || said.code == TORUSMEM_CYCLE || said.code == TORUSMEM_NO_PAIR)
+      made.code = said.code, said.code = TORUSMEM_OK;
     return said;
   });
   return made;

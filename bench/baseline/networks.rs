@@ -1,7 +1,7 @@
 //! The reader and the judge of networks in plain Rust, of the same design as the crates `network_text` and
 //! `network_judge`:
 //!
-//!     networks FILE            prints the text of the verdict, as `torusmem network FILE` does
+//!     networks FILE            prints the text of the verdict, as `torusmem network FILE` does, but for what stands behind it
 //!     networks FILE ROUNDS     prints a line `NAME NANOSECONDS` for each time, and what was found as numbers
 pub mod rising;
 

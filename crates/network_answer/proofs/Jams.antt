@@ -16,7 +16,7 @@ use Rattle.network_judge.specs.declared.fill.Fill.{Fill}
 use Rattle.network_judge.proofs.Both.{never}
 use Rattle.network_judge.proofs.Jammed.{jams_lock}
 use Rattle.network_text.specs.Network.{NetworkSpec}
-use Rattle.network_answer.specs.Answer.{verdict_text, jam_text, IsFoundVerdict, IsJudgedText}
+use Rattle.network_answer.specs.Answer.{verdict_text, jam_text, IsFoundVerdict, IsJammedText}
 
 -- with numbers no jam is found, and the network is free of deadlock
 pub none_found : {A : Type 0} (n : NetworkSpec) (v : Verdict A) (numbers : Vec ℕ A) → v ≡ Rising numbers → AreReplies n.table n.replies
@@ -62,7 +62,7 @@ jam_put head before text lent jam put is same = put ∙ ap (λ t. t ++ jam_text 
 
 -- a jam that is found stands there
 pub judged_with_jam : {A : Type 0} (n : NetworkSpec) (v : Verdict A) (found : Option (Vec Fill A)) (jam : Vec Fill A) (text : List ℕ)
-    → found ≡ Some jam → IsFoundVerdict n v found → text ≡ verdict_text v ++ jam_text jam.items → IsJudgedText n v text
+    → found ≡ Some jam → IsFoundVerdict n v found → text ≡ verdict_text v ++ jam_text jam.items → IsJammedText n v text
 judged_with_jam n (Rising numbers) found jam text some is told = absurd (let no : Some jam ≡ None = sym some ∙ is.0 in cc)
 judged_with_jam n (NoRoute r) found jam text some is told = absurd (let no : Some jam ≡ None = sym some ∙ is in cc)
 judged_with_jam n (Cycle links) (Some fills) jam text some is told = record {
@@ -80,7 +80,7 @@ judged_with_jam n (Cycle links) None jam text some is told = absurd (let no : No
 
 -- where none is found, nothing does
 pub judged_alone : {A : Type 0} (n : NetworkSpec) (v : Verdict A) (found : Option (Vec Fill A)) (text : List ℕ)
-    → found ≡ None → IsFoundVerdict n v found → text ≡ verdict_text v → IsJudgedText n v text
+    → found ≡ None → IsFoundVerdict n v found → text ≡ verdict_text v → IsJammedText n v text
 judged_alone n (Rising numbers) found text none is told =
     record { behind = []; follows = (refl, is.1); is = told ∙ sym (append-nil _) }
 judged_alone n (NoRoute r) found text none is told =

@@ -1,4 +1,5 @@
 pub mod Jams
+mod Totalled
 pub mod Counted
 mod Mapped
 mod OneFlit

@@ -20,6 +20,9 @@ use Rattle.network_judge.specs.TableNet.{Flits}
 use Rattle.network_judge.specs.Verdicts.{IsVerdict}
 use Rattle.network_judge.specs.declared.fill.Fill.{Fill}
 use Rattle.network_judge.specs.Jams.{IsJam}
+use Rattle.network_judge.specs.Table.{Table}
+use Rattle.network_totals.specs.Totals.{HasTotals}
+use Rattle.network_totals.specs.declared.totals.Totals.{Totals}
 use Rattle.network_judge.specs.LockUps.{LocksUp, HasOneFlitPackets}
 use Rattle.network_judge.specs.Clear.{fill_at}
 use Rattle.network_answer.specs.declared.answer.Answer.{Answer}
@@ -124,12 +127,40 @@ IsBehind n (Rising numbers) behind = (behind ≡ []) × NeverLocksUp n
 IsBehind n (NoRoute r) behind = behind ≡ []
 IsBehind n (Cycle links) behind = IsJamText n behind
 
--- what is written of a network with a verdict: the text of the verdict, and what stands behind it
-pub record IsJudgedText {A : Type 0} (n : NetworkSpec) (v : Verdict A) (text : List ℕ) : Type 0
+-- the text of a verdict, and what stands behind it
+pub record IsJammedText {A : Type 0} (n : NetworkSpec) (v : Verdict A) (text : List ℕ) : Type 0
   where
     pub behind : List ℕ
     pub follows : IsBehind n v behind
     pub is : text ≡ verdict_text v ++ behind
+
+-- the line on what packets go over
+abbrev pub totals_line : Totals → List ℕ
+totals_line s = pair_line (codes "pairs ") s.pairs (codes " of ") s.all_pairs (codes ", hops ")
+    ++ (pair_line [] s.hops (codes " of ") s.all_hops (codes ", longest route ")
+    ++ (decimal s.longest ++ codes "\n"))
+
+-- a text is that line of a table
+pub record TellsTotals (t : Table) (text : List ℕ) : Type 0 where
+  pub totals : Totals
+  pub holds : HasTotals t totals
+  pub is : text ≡ totals_line totals
+
+-- what stands last: that line, and nothing where a pair has no route
+abbrev pub IsTotalsText : {A : Type 0} → Table → Verdict A → List ℕ → Type 0
+IsTotalsText t (Rising numbers) last = TellsTotals t last
+IsTotalsText t (NoRoute r) last = last ≡ []
+IsTotalsText t (Cycle links) last = TellsTotals t last
+
+-- what is written of a network with a verdict: the text of the verdict with what stands behind it, and
+-- what packets go over
+pub record IsJudgedText {A : Type 0} (n : NetworkSpec) (v : Verdict A) (text : List ℕ) : Type 0
+  where
+    pub jammed : List ℕ
+    pub first : IsJammedText n v jammed
+    pub last : List ℕ
+    pub totals : IsTotalsText n.table v last
+    pub is : text ≡ jammed ++ last
 
 -- what the verdict of a network says, and whether its numbers rise
 pub record TellsNetworkVerdict {A : Type 0} (n : NetworkSpec) (a : Answer A) : Type 0 where

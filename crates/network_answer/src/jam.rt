@@ -4,8 +4,9 @@ ghost use Rattle.std.specs.Prelude.{◌≡◌, ◌++◌, length, codes, IfOk, On
 ghost use Rattle.network_judge.specs.Verdicts.{IsVerdict};
 ghost use Rattle.network_text.specs.Lines.{first_lines};
 ghost use Rattle.network_answer.specs.Answer.{fill_line, fill_line_at, jam_text};
-ghost use Rattle.network_answer.specs.Answer.{IsFoundVerdict, IsJudgedText};
+ghost use Rattle.network_answer.specs.Answer.{IsFoundVerdict, IsJammedText, IsJudgedText};
 
+use crate::going::totals_text;
 use crate::verdict::{put_number, put_pair, verdict_text};
 use network_judge::{Fill, Verdict, find_jam};
 use network_text::network::Network;
@@ -65,7 +66,26 @@ pub(crate) fn jam_of<A: Allocator + Copy>(
     }
 }
 
-/// The text of what is judged of a network: that of its verdict, and behind a cycle that of a jam.
+/// The text of a verdict, and behind a cycle that of a jam.
+///
+/// Errors: out of memory.
+fn jammed_text<A: Allocator + Copy>(
+    alloc: A,
+    network: &Network<A>,
+    verdict: &Verdict<A>,
+) -> Result<Vec<u8, A>, AllocError>
+    requires { IsVerdict network.now.table network.now.replies verdict.now }
+    ensures { IfOk result (λ text. IsJammedText network.now verdict.now text.items) }
+{
+    let mut text = verdict_text(alloc, verdict)?;
+    if let Some(fills) = jam_of(alloc, network, verdict)? {
+        put_jam(&mut text, &fills)?;
+    }
+    Ok(text)
+}
+
+/// The text of what is judged of a network: that of its verdict, behind a cycle that of a jam, and
+/// where each pair has a route, what its packets go over.
 ///
 /// Errors: out of memory.
 pub fn judged_text<A: Allocator + Copy>(
@@ -76,9 +96,8 @@ pub fn judged_text<A: Allocator + Copy>(
     requires { IsVerdict network.now.table network.now.replies verdict.now }
     ensures { IfOk result (λ text. IsJudgedText network.now verdict.now text.items) }
 {
-    let mut text = verdict_text(alloc, verdict)?;
-    if let Some(fills) = jam_of(alloc, network, verdict)? {
-        put_jam(&mut text, &fills)?;
-    }
+    let mut text = jammed_text(alloc, network, verdict)?;
+    let last = totals_text(alloc, network, verdict)?;
+    text.extend_from_slice(&last)?;
     Ok(text)
 }

@@ -5,6 +5,7 @@
 pub mod answer;
 pub mod cause_sentence;
 pub mod causes;
+mod going;
 pub mod jam;
 pub mod judgement;
 pub mod judging;

@@ -1,6 +1,7 @@
 -- The verdict on a network, as C sees it (this project's own format).
-use Rattle.std.specs.Prelude.{◌≡◌, ◌⊎◌, ℕ, List, Result, Ok, Err}
+use Rattle.std.specs.Prelude.{◌≡◌, ◌⊎◌, ℕ, List, [], ◌∷◌, Result, Ok, Err, codes}
 use Rattle.script.specs.declared.fault.LineFault.{LineFault}
+use Rattle.network_judge.specs.declared.table.Join.{Join}
 use Rattle.network_judge.specs.declared.table.Verdict.{Verdict}
 use Rattle.network_judge.specs.declared.table.Verdict.TheVariants as verdict
 use Rattle.network_judge.specs.Verdicts.{IsVerdict}
@@ -27,10 +28,20 @@ pub record PutsVerdict {A : Type 0} (n : NetworkSpec) (v : Verdict A) (before af
   pub buffer : after ≡ put_over text before
   pub answer : r ≡ put_as (verdict_code v) text before
 
--- what is told of a network: the verdict that holds of it
-abbrev pub TellsNetwork : Type 0 → NetworkSpec → List ℕ → List ℕ → Outcome → Type 0
-TellsNetwork A n before after r =
+-- it is told that a network has no source-destination pair
+pub record PutsNoPair (before after : List ℕ) (r : Outcome) : Type 0 where
+  pub buffer : after ≡ put_over (codes "no pair\n") before
+  pub answer : r ≡ put_as code.NoPair (codes "no pair\n") before
+
+-- what is told of a network with these pairs
+abbrev pub TellsOfPairs : Type 0 → List Join → NetworkSpec → List ℕ → List ℕ → Outcome → Type 0
+TellsOfPairs A [] n before after r = PutsNoPair before after r
+TellsOfPairs A (join ∷ joins) n before after r =
     (v : Verdict A) × IsVerdict n.table n.replies v × PutsVerdict n v before after r
+
+-- what is told of a network: the verdict that holds of it, if it has pairs
+abbrev pub TellsNetwork : Type 0 → NetworkSpec → List ℕ → List ℕ → Outcome → Type 0
+TellsNetwork A n before after r = TellsOfPairs A n.table.joins n before after r
 
 -- what is told of a network text: of the network that it gives, or its first fault
 abbrev pub TellsText : Type 0 → Result NetworkSpec LineFault → List ℕ → List ℕ → Outcome → Type 0

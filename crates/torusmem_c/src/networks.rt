@@ -4,7 +4,7 @@ ghost use Rattle.std.specs.Prelude.{◌≡◌, ◌⊎◌};
 ghost use Rattle.std.specs.Str.Lines.{lines};
 ghost use Rattle.network_judge.specs.Verdicts.{IsVerdict};
 ghost use Rattle.network_text.specs.Network.{network_of};
-ghost use Rattle.torusmem_c.specs.Networks.{PutsVerdict, TellsText, verdict_code};
+ghost use Rattle.torusmem_c.specs.Networks.{PutsVerdict, TellsNetwork, TellsText, verdict_code};
 ghost use Rattle.torusmem_c.specs.Room.{LacksMemory};
 
 use crate::outcome::{Code, Outcome, fault_outcome, no_memory};
@@ -42,8 +42,23 @@ fn put_verdict(
     }
 }
 
+/// Judges a network, and puts the text of what is judged into a buffer: that it has no
+/// source-destination pair, or else its verdict.
+fn put_judged(alloc: Global, network: &Network<Global>, out: &mut [u8]) -> Outcome
+    ensures { TellsNetwork Global network.now out.old out.new result
+        ⊎ LacksMemory out.old out.new result }
+{
+    if network.joins().is_empty() {
+        return put_as(Code::NoPair, b"no pair\n", out);
+    }
+    match judge_network(alloc, network) {
+        Ok(verdict) => put_verdict(alloc, network, &verdict, out),
+        Err(_) => no_memory(),
+    }
+}
+
 /// Judges the network of a text, and puts the text of the verdict into a buffer, and behind a cycle
-/// that of a jam.
+/// that of a jam; or that the network has no source-destination pair.
 ///
 /// Errors: the text's first fault, or out of memory. The buffer is as it was then.
 #[unsafe(no_mangle)]
@@ -51,12 +66,8 @@ pub extern "C" fn torusmem_network(alloc: Global, network: &[u8], out: &mut [u8]
     ensures { TellsText Global (network_of (lines network.now)) out.old out.new result
         ⊎ LacksMemory out.old out.new result }
 {
-    let network = match read_network(alloc, network) {
-        Ok(network) => network,
-        Err(fault) => return fault_outcome(fault),
-    };
-    match judge_network(alloc, &network) {
-        Ok(verdict) => put_verdict(alloc, &network, &verdict, out),
-        Err(_) => no_memory(),
+    match read_network(alloc, network) {
+        Ok(network) => put_judged(alloc, &network, out),
+        Err(fault) => fault_outcome(fault),
     }
 }

@@ -46,13 +46,15 @@ pub enum Code {
     BadAction,
     /// A reply of a log isn't what its operation does to the word that it finds.
     WrongReply,
+    /// A network has no source-destination pair.
+    NoPair,
 }
 
 impl Code {
     /// The number by which C knows it.
     pub fn number(self) -> u32
         ensures value { result ≡ c_code self }
-        ensures small { result ≤ 30 }
+        ensures small { result ≤ 31 }
     {
         match self {
             Code::Done => 0,
@@ -73,6 +75,7 @@ impl Code {
             Code::BadRecord => 28,
             Code::BadAction => 29,
             Code::WrongReply => 30,
+            Code::NoPair => 31,
         }
     }
 }

@@ -15,7 +15,7 @@ import warnings
 
 import torusmem
 from torusmem import Answer, Answered, BadReport, Channel, Choice, Closed, Cycle, Entry, EventFault, Fill, Issued, Kind
-from torusmem import Linearizable, Link, Machine, NoRoute, NotLinearizable, Operation, Rising, Spin, TextFault
+from torusmem import Linearizable, Link, Machine, NoPair, NoRoute, NotLinearizable, Operation, Rising, Spin, TextFault
 from torusmem import Init, LogFault, Made, Model, Read, Replied, Served, Steps, TooMany, Undecided, Watch, WrongReply, Wrote
 from torusmem import linearize, model, network
 
@@ -391,6 +391,7 @@ class Networks(unittest.TestCase):
             self.assertIsInstance(network(self.PAIR + lines), NoRoute)
         text = "channels 4\ninject 0\neject 3\njoin 0 3\nnext 0 3 1\nnext 1 3 2\nnext 2 3 1\n"
         self.assertEqual(network(text), NoRoute(0, 3, "round for ever", None))
+        self.assertIsInstance(network("channels 2\ninject 0\neject 1\n"), NoPair)
 
     def test_cycles(self):
         there, back = Link(2, 5, None), Link(3, 4, None)
@@ -715,7 +716,7 @@ class Words(unittest.TestCase):
         names = "OK FAULT_MEMORY BAD_REPORT EMPTY FULL NONE SHORT NO_ROUTE CYCLE".split()
         names += ["NO_TEXT", "MACHINE_TEXT", "SCRIPTS_TEXT", "ISSUE", "ANSWER"]
         names += ["NOT_LINEARIZABLE", "TOO_MANY", "TOO_OPEN", "BEHIND_SPIN", "NOT_YET"]
-        names += ["NO_RECORD", "BAD_RECORD", "BAD_ACTION", "WRONG_REPLY", "ISSUED", "SERVED", "ANSWERED"]
+        names += ["NO_RECORD", "BAD_RECORD", "BAD_ACTION", "WRONG_REPLY", "NO_PAIR", "ISSUED", "SERVED", "ANSWERED"]
         names += ["LOG_INIT", "LOG_MADE", "LOG_WROTE", "LOG_READ", "LOG_READ_OPENING", "LOG_SERVED", "LOG_REPLIED"]
         names += ["FENCE", "SPIN", "FIRST_IS_LAST", "SECOND_IS_LAST"]
         codes = {name: getattr(library, name) for name in names}

@@ -29,7 +29,7 @@ from __future__ import annotations
 
 from ._faults import BadReport, Closed, EVENT_REASONS, EventFault, LOG_REASONS, LogFault, NETWORK_REASONS, REASONS
 from ._faults import TextFault, TooMany
-from ._judges import Answered, Cycle, Event, Fill, Issued, Judged, Linearizable, Link, NoRoute, NotLinearizable
+from ._judges import Answered, Cycle, Event, Fill, Issued, Judged, Linearizable, Link, NoPair, NoRoute, NotLinearizable
 from ._judges import Rising, Undecided, Verdict, check, linearize, network
 from ._library import LibraryNotFound
 from ._machine import Machine
@@ -69,6 +69,7 @@ __all__ = [
     "Made",
     "Model",
     "NETWORK_REASONS",
+    "NoPair",
     "NoRoute",
     "NotLinearizable",
     "Obeyed",

@@ -41,6 +41,10 @@ class NoRoute(NamedTuple):
     step: Optional[int]
 
 
+class NoPair(NamedTuple):
+    """A network that joins no pair: no packets go anywhere, so nothing is judged."""
+
+
 class Link(NamedTuple):
     """A channel of a cycle, which waits for the next one: by packets to the ejection channel `to`, or, where that is
     None, by replies on the injection channel `replies`."""
@@ -67,7 +71,7 @@ class Cycle(NamedTuple):
     jam: Tuple[Fill, ...] = ()
 
 
-Verdict = Union[Rising, NoRoute, Cycle]
+Verdict = Union[Rising, NoRoute, NoPair, Cycle]
 
 
 def network(text: Text, file: str = "network text") -> Verdict:
@@ -89,13 +93,15 @@ def network(text: Text, file: str = "network text") -> Verdict:
         said = calls.network(given, len(given), out, len(out))
     if said.code == _library.FAULT_MEMORY:
         raise MemoryError(f"torusmem: {REASONS[12]} (F12)")
-    if said.code not in (_library.OK, _library.NO_ROUTE, _library.CYCLE):
+    if said.code not in (_library.OK, _library.NO_ROUTE, _library.CYCLE, _library.NO_PAIR):
         raise TextFault(file, said.value, said.code, "network", NETWORK_REASONS.get(said.code, ""))
+    if said.code == _library.NO_PAIR:
+        return NoPair()
     lines = out.raw[: said.value].decode("ascii").splitlines()
     if said.code == _library.OK:
-        return Rising(tuple(int(line.split()[2]) for line in lines[:-1]))
+        return Rising(tuple(int(line.split()[2]) for line in lines if line.startswith("number ")))
     if said.code == _library.CYCLE:
-        said_of = [line.split() for line in lines[1:] if line != "locks up"]
+        said_of = [line.split() for line in lines[1:] if line != "locks up" and not line.startswith("pairs ")]
         links = tuple(link_from(*words) for words in said_of if words[0] != "fill")
         return Cycle(links, tuple(Fill(*map(int, words[1:])) for words in said_of if words[0] == "fill"))
     pair, _, why = lines[0].partition(": ")

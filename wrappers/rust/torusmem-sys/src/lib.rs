@@ -62,6 +62,7 @@ pub const TORUSMEM_NO_RECORD: u32 = 27;
 pub const TORUSMEM_BAD_RECORD: u32 = 28;
 pub const TORUSMEM_BAD_ACTION: u32 = 29;
 pub const TORUSMEM_WRONG_REPLY: u32 = 30;
+pub const TORUSMEM_NO_PAIR: u32 = 31;
 
 pub const TORUSMEM_SEND: u32 = 0;
 pub const TORUSMEM_TAKE: u32 = 1;

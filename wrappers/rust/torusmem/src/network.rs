@@ -9,6 +9,8 @@ pub enum Verdict {
     Rising(Vec<u64>),
     /// The first pair of a `join` line that has no route, and why.
     NoRoute { from: u32, to: u32, why: Why },
+    /// No line says `join`: no packets go anywhere, so nothing is judged.
+    NoPair,
     /// Channels that wait for one another in a circle: each for the next one, and the last one for the first. And the
     /// channels that fill up where the network deadlocks, the first to be filled first; none where they weren't found.
     Cycle { links: Vec<Link>, jam: Vec<Fill> },
@@ -76,6 +78,7 @@ pub fn network(text: &[u8]) -> Result<Verdict, Fault> {
     match said.code {
         sys::TORUSMEM_NO_ROUTE => Ok(no_route(&read(&room))),
         sys::TORUSMEM_CYCLE => Ok(cycle(&read(&room))),
+        sys::TORUSMEM_NO_PAIR => Ok(Verdict::NoPair),
         _ => {
             granted(said)?;
             let text = read(&room);
@@ -118,7 +121,8 @@ fn link(line: &str) -> Link {
 
 /// The lines of a cycle, and of the channels that fill up behind it.
 fn cycle(text: &str) -> Verdict {
-    let lines = text.lines().filter(|line| *line != "cycle" && *line != "locks up");
+    let is_told = |line: &&str| *line != "cycle" && *line != "locks up" && !line.starts_with("pairs ");
+    let lines = text.lines().filter(is_told);
     let (fills, links): (Vec<_>, Vec<_>) = lines.partition(|line| line.starts_with("fill "));
     let fill = |line: &str| Fill { from: channel(line, 1), to: channel(line, 2), step: last(line) };
     Verdict::Cycle { links: links.into_iter().map(link).collect(), jam: fills.into_iter().map(fill).collect() }

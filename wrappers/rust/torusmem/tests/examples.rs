@@ -419,6 +419,7 @@ fn networks_are_judged() {
     let cycles = [vec![asked, answered], vec![answered, asked]].map(|links| Verdict::Cycle { links, jam: jam.clone() });
     assert!(cycles.contains(&judged(&format!("{line}reply 1 0\n"))));
     assert!(matches!(judged(line), Verdict::Rising(numbers) if numbers.len() == 2 && numbers[0] < numbers[1]));
+    assert_eq!(judged("channels 2\ninject 0\neject 1\n"), Verdict::NoPair);
     assert_eq!(network(b"channels 2\ninject 2\n"), Err(Fault::Text { fault: 6, line: 2 }));
     assert_eq!(network(b""), Err(Fault::Text { fault: 5, line: 1 }));
 }

@@ -1,0 +1,7 @@
+use Rattle.network_judge.specs.Table.{table_of}
+use Rattle.network_totals.specs.Totals.{IsLongestOf}
+use Rattle.network_totals.proofs.totals.longest_route.Given as goal
+
+-- the longest so far
+abbrev pub invariant-loop-place : goal.invariant-loop-place
+invariant-loop-place l = IsLongestOf (table_of l.kinds l.joins l.choices) l.place l.most

@@ -1,0 +1,22 @@
+"""What the packets of a network of fixed routes go over: the last line of `torusmem network`, by a plain walk."""
+from __future__ import annotations
+
+from typing import Set
+
+from torusmem_tools.model.network import Network
+
+
+def totals_line(net: Network) -> str:
+    """The line `pairs P of Q, hops H of G, longest route N`, for a network in which each pair has a route."""
+    used: Set[int] = set()
+    longest = 0
+    for i, j in set(net.joins):
+        at, channels = i, 1
+        while at != j:
+            at, channels = net.choices[at, j][0], channels + 1
+            used.add(at)
+        longest = max(longest, channels)
+    count = {kind: net.kinds.count(kind) for kind in ("inject", "hop", "eject")}
+    hops = sum(net.kinds[x] == "hop" for x in used)
+    return (f"pairs {len(set(net.joins))} of {count['inject'] * count['eject']}, hops {hops} of {count['hop']}, "
+            f"longest route {longest}")
