@@ -1,4 +1,5 @@
 pub mod Jams
+mod Counting
 mod Totalled
 pub mod Counted
 mod Mapped

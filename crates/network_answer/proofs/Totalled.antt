@@ -7,9 +7,9 @@ use Rattle.network_judge.specs.declared.table.Verdict.{Verdict}
 use Rattle.network_judge.specs.declared.table.Verdict.TheVariants.{Rising, NoRoute, Cycle}
 use Rattle.network_judge.specs.Table.{Table, table_of}
 use Rattle.network_judge.specs.Verdicts.{AllArrive, IsVerdict}
-use Rattle.network_totals.specs.Totals.{HasTotals}
-use Rattle.network_totals.specs.declared.totals.Totals.{Totals}
-use Rattle.network_totals.proofs.Counting.{some_lost}
+use Rattle.network_answer.specs.Totals.{HasTotals}
+use Rattle.network_answer.specs.declared.totals.Totals.{Totals}
+use Rattle.network_answer.proofs.Counting.{some_lost}
 use Rattle.network_answer.specs.Answer.{totals_line, IsTotalsText}
 
 -- three lists that are those of a table

@@ -21,8 +21,8 @@ use Rattle.network_judge.specs.Verdicts.{IsVerdict}
 use Rattle.network_judge.specs.declared.fill.Fill.{Fill}
 use Rattle.network_judge.specs.Jams.{IsJam}
 use Rattle.network_judge.specs.Table.{Table}
-use Rattle.network_totals.specs.Totals.{HasTotals}
-use Rattle.network_totals.specs.declared.totals.Totals.{Totals}
+use Rattle.network_answer.specs.Totals.{HasTotals}
+use Rattle.network_answer.specs.declared.totals.Totals.{Totals}
 use Rattle.network_judge.specs.LockUps.{LocksUp, HasOneFlitPackets}
 use Rattle.network_judge.specs.Clear.{fill_at}
 use Rattle.network_answer.specs.declared.answer.Answer.{Answer}

@@ -7,7 +7,7 @@ ghost use Rattle.network_answer.specs.Answer.{totals_line, IsTotalsText};
 use crate::verdict::{put_number, put_pair};
 use network_judge::Verdict;
 use network_text::network::Network;
-use network_totals::{Totals, totals_of};
+use crate::totals::{Totals, totals_of};
 use std::alloc::{AllocError, Allocator};
 
 /// Adds the line on what packets go over.

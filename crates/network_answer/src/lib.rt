@@ -11,6 +11,7 @@ pub mod judgement;
 pub mod judging;
 pub mod one_flit;
 pub mod routing;
+pub mod totals;
 pub mod verdict;
 
 pub use answer::{Answer, judge_network, network_answer};
@@ -19,4 +20,5 @@ pub use causes::{Cause, Wait, judged_causes, verdict_causes};
 pub use jam::judged_text;
 pub use judging::judged_of;
 pub use routing::{routing_answer, routing_answer_once};
+pub use totals::{Totals, totals_of};
 pub use verdict::verdict_text;

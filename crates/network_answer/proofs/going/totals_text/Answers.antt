@@ -2,7 +2,7 @@ use Rattle.std.proofs.Common.{◌≡◌, ◌++◌, ◌∙◌, ap, subst}
 use Rattle.std.specs.Prelude.{IfSome, IfNone}
 use Rattle.network_judge.specs.Table.{Table, table_of}
 use Rattle.network_judge.specs.Verdicts.{AllArrive}
-use Rattle.network_totals.specs.Totals.{HasTotals}
+use Rattle.network_answer.specs.Totals.{HasTotals}
 use Rattle.network_answer.specs.Answer.{totals_line}
 use Rattle.network_answer.proofs.Totalled.{same_table, totals_put, totals_none}
 use Rattle.network_answer.proofs.going.totals_text.Goals as goal

@@ -1,7 +1,7 @@
 use Rattle.std.proofs.Common.{◌≤◌}
 use Rattle.network_judge.specs.Table.{table_of}
-use Rattle.network_totals.specs.Totals.{IsCountOf, IsHopUsed}
-use Rattle.network_totals.proofs.totals.hops_marked.Given as goal
+use Rattle.network_answer.specs.Totals.{IsCountOf, IsHopUsed}
+use Rattle.network_answer.proofs.totals.hops_marked.Given as goal
 
 -- those so far
 abbrev pub invariant-loop-x : goal.invariant-loop-x

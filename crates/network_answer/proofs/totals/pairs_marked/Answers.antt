@@ -5,10 +5,10 @@ use Rattle.std.specs.Prelude.{slice_get}
 use Rattle.network_judge.specs.declared.table.Kind.TheVariants.{Ejection}
 use Rattle.network_judge.specs.Table.{Table, table_of, ejects, is_receiver}
 use Rattle.network_judge.proofs.Tracing.{column_of_end}
-use Rattle.network_totals.specs.Totals.{pairs_to}
-use Rattle.network_totals.proofs.Counting.{sum_more, receiver_kind, ends_more, ends_no_more, low_more, column_count, no_pairs_to}
-use Rattle.network_totals.proofs.totals.pairs_marked.Goals as goal
-use Rattle.network_totals.proofs.totals.pairs_marked.Goals.{then-is_receiver, else-is_receiver}
+use Rattle.network_answer.specs.Totals.{pairs_to}
+use Rattle.network_answer.proofs.Counting.{sum_more, receiver_kind, ends_more, ends_no_more, low_more, column_count, no_pairs_to}
+use Rattle.network_answer.proofs.totals.pairs_marked.Goals as goal
+use Rattle.network_answer.proofs.totals.pairs_marked.Goals.{then-is_receiver, else-is_receiver}
 
 pub loop-to-preserved : goal.loop-to-preserved
 loop-to-preserved c =

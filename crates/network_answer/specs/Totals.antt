@@ -10,7 +10,7 @@ use Rattle.network_judge.specs.Table.{Table, table_of, channels_of, kind_of, joi
 use Rattle.network_judge.specs.Ways.{IsWay}
 use Rattle.network_judge.specs.Marks.{Passes}
 use Rattle.network_judge.specs.Verdicts.{AllArrive, join_at}
-use Rattle.network_totals.specs.declared.totals.Totals.{Totals}
+use Rattle.network_answer.specs.declared.totals.Totals.{Totals}
 
 -- of how many of the first n numbers this is true
 abbrev pub count_below : (ℕ → Bool) → ℕ → ℕ

@@ -2,8 +2,8 @@ use Rattle.std.proofs.Common.{◌≡◌, ◌≤◌, ◌*◌, take, length}
 use Rattle.std.specs.List.{count_by}
 use Rattle.wormhole.specs.Weight.{sum_below}
 use Rattle.network_judge.specs.Table.{ejects}
-use Rattle.network_totals.specs.Totals.{pairs_to}
-use Rattle.network_totals.proofs.totals.pairs_marked.Given as goal
+use Rattle.network_answer.specs.Totals.{pairs_to}
+use Rattle.network_answer.proofs.totals.pairs_marked.Given as goal
 
 -- those to the channels so far
 abbrev pub invariant-loop-to : goal.invariant-loop-to

@@ -1,6 +1,6 @@
 use Rattle.network_judge.specs.Table.{table_of}
-use Rattle.network_totals.specs.Totals.{IsLongestOf}
-use Rattle.network_totals.proofs.totals.longest_route.Given as goal
+use Rattle.network_answer.specs.Totals.{IsLongestOf}
+use Rattle.network_answer.proofs.totals.longest_route.Given as goal
 
 -- the longest so far
 abbrev pub invariant-loop-place : goal.invariant-loop-place

@@ -1,7 +1,7 @@
 use Rattle.std.proofs.Common.{arith}
 use Rattle.network_judge.specs.Table.{Table, table_of}
-use Rattle.network_totals.proofs.Counting.{used_is_marked}
-use Rattle.network_totals.proofs.totals.is_hop_marked.Goals as goal
+use Rattle.network_answer.proofs.Counting.{used_is_marked}
+use Rattle.network_answer.proofs.totals.is_hop_marked.Goals as goal
 
 pub returns-clause-no : goal.returns-clause-no
 returns-clause-no c =

@@ -21,7 +21,7 @@ use Rattle.network_judge.proofs.Nets.{some_step, open_before}
 use Rattle.network_judge.proofs.Failing.{no_way}
 use Rattle.network_judge.proofs.Marking.{place_of, joined_at}
 use Rattle.network_judge.proofs.Still.{on_way, sender, hop, receiver}
-use Rattle.network_totals.specs.Totals.{count_below, pairs_to, IsCountOf, OneMore, NotThis, IsHopUsed, IsLongestOf, IsLongestRoute}
+use Rattle.network_answer.specs.Totals.{count_below, pairs_to, IsCountOf, OneMore, NotThis, IsHopUsed, IsLongestOf, IsLongestRoute}
 
 -- one number more
 pub count_more : (p : ℕ → Bool) (n : ℕ) → count_below p (n + 1) ≡ count_below p n + (if p n then 1 else 0)

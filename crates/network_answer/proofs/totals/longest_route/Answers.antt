@@ -1,8 +1,8 @@
 use Rattle.std.proofs.Common.{arith}
 use Rattle.network_judge.specs.Table.{Table, table_of}
-use Rattle.network_totals.proofs.Counting.{longer, no_longer, longest_of_all}
-use Rattle.network_totals.proofs.totals.longest_route.Goals as goal
-use Rattle.network_totals.proofs.totals.longest_route.Goals.{then-channels-most, else-channels-most}
+use Rattle.network_answer.proofs.Counting.{longer, no_longer, longest_of_all}
+use Rattle.network_answer.proofs.totals.longest_route.Goals as goal
+use Rattle.network_answer.proofs.totals.longest_route.Goals.{then-channels-most, else-channels-most}
 
 pub loop-place-preserved : goal.loop-place-preserved
 loop-place-preserved c =

@@ -1,9 +1,9 @@
 use Rattle.std.proofs.Common.{arith}
 use Rattle.network_judge.specs.Table.{Table, table_of}
-use Rattle.network_totals.specs.Totals.{IsHopUsed, OfNone}
-use Rattle.network_totals.proofs.Counting.{one_more, not_this}
-use Rattle.network_totals.proofs.totals.hops_marked.Goals as goal
-use Rattle.network_totals.proofs.totals.hops_marked.Goals.{then-is_hop_marked, else-is_hop_marked}
+use Rattle.network_answer.specs.Totals.{IsHopUsed, OfNone}
+use Rattle.network_answer.proofs.Counting.{one_more, not_this}
+use Rattle.network_answer.proofs.totals.hops_marked.Goals as goal
+use Rattle.network_answer.proofs.totals.hops_marked.Goals.{then-is_hop_marked, else-is_hop_marked}
 
 pub loop-x-init : goal.loop-x-init
 loop-x-init c = record { value = OfNone; low = omega arith }

@@ -10,8 +10,8 @@ ghost use Rattle.network_judge.specs.Verdicts.{AllArrive, join_at};
 ghost use Rattle.network_judge.specs.Marks.{MarksRoutes};
 ghost use Rattle.network_judge.specs.Ways.{IsWay};
 ghost use Rattle.network_judge.specs.Graph.{flag_at};
-ghost use Rattle.network_totals.specs.Totals.{count_below, pair_count, injects, is_hop};
-ghost use Rattle.network_totals.specs.Totals.{IsHopUsed, IsCountOf, IsLongestRoute, HasTotals};
+ghost use Rattle.network_answer.specs.Totals.{count_below, pair_count, injects, is_hop};
+ghost use Rattle.network_answer.specs.Totals.{IsHopUsed, IsCountOf, IsLongestRoute, HasTotals};
 
 use network_judge::columns::{columns_of, ends_of};
 use network_judge::spans::step_of;

@@ -3,9 +3,9 @@ use Rattle.network_judge.specs.Table.{Table, table_of}
 use Rattle.network_judge.proofs.Marking.{all_arrive}
 use Rattle.network_judge.proofs.Ends.{width_is}
 use Rattle.std.specs.List.{count_by}
-use Rattle.network_totals.specs.Totals.{injects}
-use Rattle.network_totals.proofs.Counting.{some_lost}
-use Rattle.network_totals.proofs.totals.totals_of.Goals as goal
+use Rattle.network_answer.specs.Totals.{injects}
+use Rattle.network_answer.proofs.Counting.{some_lost}
+use Rattle.network_answer.proofs.totals.totals_of.Goals as goal
 
 pub returns-in-Err-clause-none : goal.returns-in-Err-clause-none
 returns-in-Err-clause-none g c =

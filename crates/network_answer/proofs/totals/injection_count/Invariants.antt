@@ -1,7 +1,7 @@
 use Rattle.std.proofs.Common.{◌≡◌, ◌≤◌, take}
 use Rattle.std.specs.List.{count_by}
-use Rattle.network_totals.specs.Totals.{injects}
-use Rattle.network_totals.proofs.totals.injection_count.Given as goal
+use Rattle.network_answer.specs.Totals.{injects}
+use Rattle.network_answer.proofs.totals.injection_count.Given as goal
 
 -- those so far
 abbrev pub invariant-loop-x : goal.invariant-loop-x
