@@ -7,8 +7,6 @@ ghost use Rattle.network_answer.specs.Routing.{AnswersRouting, TellsChoosing, Te
 ghost use Rattle.network_text.specs.Routing.{routing_of_all};
 ghost use Rattle.lexer.specs.Outcome.{Gives};
 ghost use Rattle.network_text.specs.Choosing.{text_or_why};
-ghost use Rattle.network_text.specs.declared.reason.NetworkReason.{NetworkReason};
-ghost use Rattle.network_text.specs.declared.choosing.Routers.{Routers};
 
 use crate::answer::{Answer, answered, no_pair};
 use crate::judgement::judgement_text;
