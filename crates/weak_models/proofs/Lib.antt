@@ -1,0 +1,4 @@
+pub mod Kept
+pub mod Edges
+pub mod Exact
+pub mod Steps
