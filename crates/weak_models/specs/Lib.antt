@@ -3,3 +3,4 @@ pub mod Preserved
 pub mod Order
 pub mod Arcs
 pub mod Verdict
+pub mod Laws

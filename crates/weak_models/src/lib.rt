@@ -4,6 +4,7 @@
 pub mod arcs;
 pub mod depending;
 pub mod judging;
+pub mod laws;
 pub mod notes;
 pub mod pairs;
 pub mod preserved;
