@@ -4,10 +4,10 @@ ghost use Rattle.std.specs.Prelude.{◌≡◌, ◌++◌, IfOk, OnOk};
 ghost use Rattle.network_judge.specs.Verdicts.{IsVerdict};
 ghost use Rattle.network_answer.specs.Answer.{totals_line, IsTotalsText};
 
+use crate::totals::{Totals, totals_of};
 use crate::verdict::{put_number, put_pair};
 use network_judge::Verdict;
 use network_text::network::Network;
-use crate::totals::{Totals, totals_of};
 use std::alloc::{AllocError, Allocator};
 
 /// Adds the line on what packets go over.

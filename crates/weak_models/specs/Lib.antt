@@ -1,0 +1,6 @@
+pub mod Notes
+pub mod Preserved
+pub mod Order
+pub mod Arcs
+pub mod Verdict
+pub mod Laws

@@ -1,0 +1,17 @@
+//! RISC-V's memory model: preserved program order rule by rule, and whether a trace obeys it, judged.
+#![tactic(auto)]
+
+pub mod arcs;
+pub mod depending;
+pub mod judging;
+pub mod laws;
+pub mod notes;
+pub mod pairs;
+pub mod preserved;
+pub mod rules;
+pub mod verdict;
+
+pub use judging::judge_rvwmo;
+pub use notes::{Accesses, Dependency, DependencyKind, FenceOrder, Note};
+pub use preserved::rule_of;
+pub use verdict::{PreservedRule, Reason, ReasonedStep, RvwmoVerdict};
