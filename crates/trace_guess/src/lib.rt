@@ -3,6 +3,8 @@
 
 mod again;
 mod choices;
+pub mod deep;
+mod depth;
 mod due;
 pub mod explained;
 pub mod guess;
@@ -11,9 +13,11 @@ mod near;
 mod needs;
 pub mod pairs;
 mod plan;
+mod row;
 mod search;
 mod seen;
 mod slots;
+mod turns;
 mod uses;
 mod values;
 mod walk;

@@ -21,7 +21,11 @@ pub(crate) fn scattered(number: u64) -> u64 {
 
 /// A table for a trace of so many events.
 pub(crate) fn seen_of<A: Allocator>(alloc: A, events: usize) -> Result<Seen<A>, AllocError> {
-    let places = events.saturating_mul(16).min(PLACES);
+    seen_with(alloc, events.saturating_mul(16).min(PLACES))
+}
+
+/// A table with so many places.
+pub(crate) fn seen_with<A: Allocator>(alloc: A, places: usize) -> Result<Seen<A>, AllocError> {
     Ok(Seen {
         table: vec![in alloc; 0u64; places]?,
     })

@@ -7,6 +7,7 @@ ghost use Rattle.trace_laws.specs.Orders.{IsOrder, IsLinearizable};
 ghost use Rattle.trace_judge.specs.Stops.{IsBeginning, IsUndecided, TellsMany};
 ghost use Rattle.trace_judge.specs.Verdicts.{IsGoodUntil};
 
+use crate::in_turns::{deep_within, find_in_turns};
 use crate::likely::{are_all_answered, is_silent, likely, try_guess};
 use crate::order::{Ended, find_order};
 use crate::trace::is_trace;
@@ -17,6 +18,9 @@ use trace_laws::{Call, Event};
 
 /// How many configurations of a word a likely trace may have at once.
 const LIKELY: usize = 10_000;
+
+/// With as many looks as so many configurations get, an order is searched depth first before a likely trace is made.
+const EARLY: usize = 1 << 14;
 
 /// An order that explains the trace, if a likely one has an order.
 fn try_likely<A: Allocator + Copy>(
@@ -49,8 +53,8 @@ fn try_likely<A: Allocator + Copy>(
     }
 }
 
-/// An order that explains the trace: none of its operations, if nothing is answered; or one that is guessed; or one
-/// of a likely trace, if operations are never answered and that has one.
+/// An order that explains the trace: none of its operations, if nothing is answered; or one that is guessed; or, if
+/// operations are never answered, one that is soon found depth first, or one of a likely trace, if that has one.
 fn likely_order<A: Allocator + Copy>(
     alloc: A,
     opening: &[u64],
@@ -69,6 +73,9 @@ fn likely_order<A: Allocator + Copy>(
     }
     if are_all_answered(events) {
         return Ok(None);
+    }
+    if let Some(order) = deep_within(alloc, opening, events, bound.min(EARLY))? {
+        return Ok(Some(order));
     }
     if let Some(order) = try_likely(alloc, opening, events, false, bound)? {
         return Ok(Some(order));
@@ -143,7 +150,7 @@ pub(crate) fn explain<A: Allocator + Copy>(
     if let Some(order) = choose(alloc, opening, events, bound, seen.order)? {
         return Ok(Some(order));
     }
-    find_order(alloc, opening, events, events, bound, ended)
+    find_in_turns(alloc, opening, events, bound, ended)
 }
 
 /// How beginnings of a trace are looked at: whether by zones, and then with how many guesses that may still be in vain.

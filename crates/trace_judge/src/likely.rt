@@ -138,6 +138,9 @@ pub fn likely<A: Allocator + Copy>(
     Ok(other)
 }
 
+/// How many slots and kinds of operations are looked at for a guess at most.
+const MOST_LOOKS: u64 = 1 << 30;
+
 /// With fewer configurations of a word no order is guessed, and no zones are looked at.
 pub(crate) const GUESSED: usize = 1024;
 
@@ -155,5 +158,5 @@ pub fn try_guess<A: Allocator + Copy>(
     if bound < GUESSED {
         return Ok(None);
     }
-    guessed_order(alloc, opening, events)
+    guessed_order(alloc, opening, events, MOST_LOOKS)
 }

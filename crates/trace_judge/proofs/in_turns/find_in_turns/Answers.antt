@@ -1,5 +1,5 @@
 use Rattle.trace_judge.proofs.Boundary.{whole_beginning}
-use Rattle.trace_judge.proofs.explain.explain.Goals as goal
+use Rattle.trace_judge.proofs.in_turns.find_in_turns.Goals as goal
 
 pub find_order-requires-clause-beginning : goal.find_order-requires-clause-beginning
 find_order-requires-clause-beginning g c = whole_beginning c.args.events.now

@@ -1,0 +1,249 @@
+//! A search over one word, depth first, with a memo of the configurations where it has been (Lowe, Testing for
+//! linearizability, Concurrency and Computation 29(4), 2017).
+
+ghost use Rattle.std.specs.Prelude.{◌<◌, ◌≤◌, length};
+
+use crate::row::{Asked, Row};
+use crate::seen::{Seen, scattered};
+use crate::slots::is_store;
+use crate::turns::Turns;
+use packet::apply;
+use std::alloc::{AllocError, Allocator};
+
+/// How many configurations are gone on from at most.
+const STEPS: u64 = 1 << 40;
+
+/// An operation that took effect, by its place in the row, and the word that it found.
+#[derive(Clone, Copy)]
+struct Taken {
+    place: usize,
+    found: u64,
+}
+
+/// An operation that is to be tried, by its place, where so many had taken effect; the least due is tried first.
+#[derive(Clone, Copy)]
+struct Try {
+    place: usize,
+    behind: usize,
+    due: usize,
+}
+
+/// What is tried first: the operation that was issued first, or that which is answered first.
+#[derive(Clone, Copy, PartialEq, Eq)]
+pub enum First {
+    Issued,
+    Answered,
+}
+
+/// The search: what is still to come, what took effect and what is to be tried, the word, a number for the operations
+/// that took effect, how many are answered and did not, and how many may still be looked at.
+#[derive(Drop)]
+pub(crate) struct Depth<A: Allocator> {
+    row: Row<A>,
+    taken: Vec<Taken, A>,
+    tries: Vec<Try, A>,
+    word: u64,
+    mark: u64,
+    left: usize,
+    first: First,
+    pub looks: u64,
+}
+
+/// The search before the first event of a word.
+pub(crate) fn depth_of<A: Allocator + Copy>(
+    alloc: A,
+    word: u64,
+    row: Row<A>,
+    first: First,
+    looks: u64,
+) -> Depth<A> {
+    let left = row.count_answered();
+    let mark = scattered(row.event_at(1) as u64);
+    Depth {
+        row,
+        taken: Vec::new(alloc),
+        tries: Vec::new(alloc),
+        word,
+        mark,
+        left,
+        first,
+        looks,
+    }
+}
+
+/// Whether an operation leaves this word as it is, and its reply tells so. A store may be of use later.
+fn is_idle(asked: Asked, word: u64) -> bool {
+    let (new, reply) = apply(asked.op, word);
+    asked.reply == Some(reply) && new == word && !is_store(asked.op)
+}
+
+/// Whether an operation may take effect at this word, and is of use if it is never answered.
+fn may_take(asked: Asked, word: u64) -> bool {
+    let (new, reply) = apply(asked.op, word);
+    match asked.reply {
+        Some(told) => told == reply,
+        None => new != word,
+    }
+}
+
+impl<A: Allocator> Depth<A> {
+    /// An operation takes effect.
+    fn take(&mut self, place: usize, asked: Asked) -> Result<(), AllocError> {
+        let found = self.word;
+        self.taken.push(Taken { place, found })?;
+        let (word, _) = apply(asked.op, found);
+        self.word = word;
+        let number = scattered(self.row.event_at(place) as u64);
+        self.mark = self.mark.wrapping_add(number);
+        self.row.take_out_both(place, asked);
+        if asked.answer.is_some() {
+            self.left = self.left.saturating_sub(1);
+        }
+        Ok(())
+    }
+
+    /// What took effect last hasn't.
+    fn undo(&mut self) {
+        let Some(last) = self.taken.pop() else {
+            return;
+        };
+        self.word = last.found;
+        let number = scattered(self.row.event_at(last.place) as u64);
+        self.mark = self.mark.wrapping_sub(number);
+        let Some(asked) = self.row.asked_at(last.place) else {
+            return;
+        };
+        self.row.put_back_both(last.place, asked);
+        if asked.answer.is_some() {
+            self.left = self.left.saturating_add(1);
+        }
+    }
+
+    /// Goes back to where so many operations had taken effect.
+    fn go_back(&mut self, behind: usize) {
+        for _ in behind..self.taken.len() {
+            self.undo();
+        }
+    }
+
+    /// The operations before the first answer take effect that leave the word as it is. Says whether there was one.
+    fn settle(&mut self) -> Result<bool, AllocError> {
+        let mut place = self.row.next_of(0);
+        let before = self.taken.len();
+        for _ in 0..self.row.len() {
+            let Some(asked) = self.row.asked_at(place) else {
+                return Ok(self.taken.len() > before);
+            };
+            self.looks = self.looks.saturating_sub(1);
+            if is_idle(asked, self.word) {
+                self.take(place, asked)?;
+            }
+            place = self.row.next_of(place);
+        }
+        Ok(self.taken.len() > before)
+    }
+
+    /// All operations take effect that leave the word as it is, as far as the answers let them.
+    fn settle_all(&mut self) -> Result<(), AllocError> {
+        for _ in 0..self.row.len() {
+            if !self.settle()? {
+                return Ok(());
+            }
+        }
+        Ok(())
+    }
+
+    /// Swaps what is to be tried with the one below, if that is due earlier. Says whether it did.
+    fn sink(&mut self, i: usize) -> bool {
+        if i == 0 || i >= self.tries.len() || self.tries[i - 1].due >= self.tries[i].due {
+            return false;
+        }
+        self.tries.swap(i - 1, i);
+        true
+    }
+
+    /// Adds an operation to those from a place on that are to be tried: the one that is due first stands last.
+    fn add_try(&mut self, from: usize, place: usize, asked: Asked) -> Result<(), AllocError> {
+        let due = match self.first {
+            First::Issued => place,
+            First::Answered => asked.answer.unwrap_or(usize::MAX),
+        };
+        let mut at = self.tries.len();
+        let behind = self.taken.len();
+        self.tries.push(Try { place, behind, due })?;
+        for _ in from..at {
+            if !self.sink(at) {
+                return Ok(());
+            }
+            at = at.saturating_sub(1);
+        }
+        Ok(())
+    }
+
+    /// Adds the operations before the first answer that may take effect.
+    fn add_tries(&mut self) -> Result<(), AllocError> {
+        let from = self.tries.len();
+        let mut place = self.row.next_of(0);
+        for _ in 0..self.row.len() {
+            let Some(asked) = self.row.asked_at(place) else {
+                return Ok(());
+            };
+            self.looks = self.looks.saturating_sub(1);
+            if may_take(asked, self.word) {
+                self.add_try(from, place, asked)?;
+            }
+            place = self.row.next_of(place);
+        }
+        Ok(())
+    }
+
+    /// A number for where the search stands.
+    fn number(&self) -> u64 {
+        scattered(scattered(self.word) ^ self.mark)
+    }
+
+    /// Goes on from where the search stands, unless it was there before, or else goes back. Says whether there is
+    /// something to try.
+    fn step(&mut self, seen: &mut Seen<A>) -> Result<bool, AllocError> {
+        if !seen.note(self.number()) {
+            self.add_tries()?;
+        }
+        let Some(next) = self.tries.pop() else {
+            return Ok(false);
+        };
+        self.go_back(next.behind);
+        if let Some(asked) = self.row.asked_at(next.place) {
+            self.take(next.place, asked)?;
+        }
+        self.settle_all()?;
+        Ok(true)
+    }
+
+    /// Searches until all that is answered has taken effect. Says whether it has.
+    pub(crate) fn run(&mut self, seen: &mut Seen<A>) -> Result<bool, AllocError> {
+        self.settle_all()?;
+        for _ in 0..STEPS {
+            if self.left == 0 {
+                return Ok(true);
+            }
+            if self.looks == 0 || !self.step(seen)? {
+                return Ok(false);
+            }
+        }
+        Ok(false)
+    }
+
+    /// Notes the turns in which operations took effect: each before the first answer to it or to a later one.
+    pub(crate) fn note(&self, turns: &mut Turns<A>) {
+        let mut event = usize::MAX;
+        for n in 0..self.taken.len() {
+            let place = self.taken[self.taken.len() - 1 - n].place;
+            if let Some(asked) = self.row.asked_at(place)
+                && let Some(answer) = asked.answer
+            {
+                event = event.min(self.row.event_at(answer));
+            }
+            turns.put(self.row.event_at(place), event);
+        }
+    }
+}
