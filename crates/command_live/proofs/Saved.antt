@@ -10,19 +10,19 @@ use Rattle.machine_record.specs.Recording.{Recording}
 use Rattle.command_live.specs.declared.told.Told.TheVariants as reply
 use Rattle.command_live.specs.declared.said.Said.{Said}
 use Rattle.command_live.specs.declared.said.Said.TheVariants.{Told}
-use Rattle.command_live.specs.Records.{IsTheLine, TellsKept}
+use Rattle.command_live.specs.Records.{IsTheText, TellsKept}
 
 -- its line is told, and its digits load the machine
 pub tells_kept : {A : Type 0} (v : Recorded) (said : Said A) (bytes : List ℕ) (kept : Option Recording) → Some bytes ≡ option_map record_bytes kept
     → decode_of (encode_lower bytes) ≡ Ok bytes → IsRestored bytes v
-    → IsTheLine (codes "saved " ++ encode_lower bytes ++ 10 ∷ []) said ⊎ (said ≡ Told (reply.Refused fault.Memory))
+    → IsTheText (codes "saved " ++ encode_lower bytes ++ 10 ∷ []) said ⊎ (said ≡ Told (reply.Refused fault.Memory))
     → TellsKept v kept said ⊎ (said ≡ Told (reply.Refused fault.Memory))
 tells_kept v said bytes None is back made told = absurd (cc)
 tells_kept v said bytes (Some r) is back made (inr refused) = inr refused
 tells_kept v said bytes (Some r) is back made (inl line) =
     let same : bytes ≡ record_bytes r = cc in
     inl (record {
-      line = subst (λ (bs : List ℕ). IsTheLine (codes "saved " ++ encode_lower bs ++ 10 ∷ []) said) same line;
+      line = subst (λ (bs : List ℕ). IsTheText (codes "saved " ++ encode_lower bs ++ 10 ∷ []) said) same line;
       back = record {
         bytes = record_bytes r;
         spelled = subst (λ (bs : List ℕ). decode_of (encode_lower bs) ≡ Ok bs) same back;

@@ -1,5 +1,7 @@
+pub mod Step
 pub mod Command
 pub mod Text
+pub mod Rows
 pub mod Said
 pub mod Records
 pub mod Obeying

@@ -1,5 +1,5 @@
 -- What a machine does for a line of a dialogue, and what is answered (this project's own format).
-use Rattle.std.specs.Prelude.{◌≡◌, ◌⊎◌, ℕ, nat_lt, List, Option, Some, None, map, slice_get}
+use Rattle.std.specs.Prelude.{◌≡◌, ◌⊎◌, ℕ, nat_lt, Bool, true, false, List, [], ◌∷◌, Option, Some, None, drop, map, slice_get}
 use Rattle.std.specs.Bool.{MatchBool}
 use Rattle.torus.specs.declared.fault.Fault.{Fault}
 use Rattle.torus.specs.declared.fault.Fault.TheVariants as fault
@@ -12,13 +12,19 @@ use Rattle.machine_report.specs.Report.{machine_report}
 use Rattle.core_laws.specs.Core.{Load}
 use Rattle.core_laws.specs.Appended.{load_with}
 use Rattle.core_laws.specs.Handed.{handed, moves_kept, refused}
-use Rattle.core_laws.specs.Machine.{IsAfter, RunsOn, all_finished, core_after, shown}
+use Rattle.torus.specs.declared.step.Stepped.{Stepped}
+use Rattle.torus.specs.declared.step.Stepped.TheVariants.{Moved, Idle}
+use Rattle.core_laws.specs.Machine.{IsAfter, RunsOn, Steps, all_finished, core_after, shown}
 use Rattle.machine_asked.specs.Rounds.{rounds_of, NeedsRounds}
 use Rattle.machine_asked.specs.Asked.{Asked, IsNumberedLine, NeedsToWait, answer_to, has_spin, index_asked, spins_with}
 use Rattle.machine_asked.specs.Asked.{AreFewestFair, fair_rounds_made, fair_rounds_of}
 use Rattle.machine_record.specs.declared.action.Action.TheVariants as action
-use Rattle.machine_record.specs.Machine.{KeepsLine, KeepsRecord, Recorded}
-use Rattle.command_live.specs.Records.{LoadsRecord, SavesKept}
+use Rattle.machine_asked.specs.Opened.{IsOpened}
+use Rattle.machine_asked.specs.GoingOn.{GoesOnFrom}
+use Rattle.machine_record.specs.Calls.{RecordsAnew}
+use Rattle.machine_record.specs.Machine.{KeepsLine, KeepsRecord, KeepsStep, Recorded}
+use Rattle.command_live.specs.Records.{IsTheText, LoadsRecord, SavesKept}
+use Rattle.command_live.specs.Rows.{rows_text}
 use Rattle.command_live.specs.declared.command.Command.{Command}
 use Rattle.command_live.specs.declared.command.Command.TheVariants as command
 use Rattle.command_live.specs.declared.told.Told.{Told as ToldLine}
@@ -54,6 +60,22 @@ AsksMachine p line old new told =
     (TakesLine p line old.asked new.asked told × KeepsLine p line old new)
     ⊎ RefusesLine p line old new told
 
+-- whether a step moved
+abbrev pub is_move : Stepped → Bool
+is_move Moved = true
+is_move Idle = false
+
+-- the machine attempts a choice of an agent, which does exactly what the choice says, and keeps a move; the
+-- answer is whether it moved
+pub record MakesStep (attempt : Step) (old new : Recorded) (told : ToldLine) : Type 0 where
+  pub stepped : Stepped
+  pub step : Steps old.asked.core new.asked.core stepped attempt
+  pub runs_on : RunsOn old.asked.core new.asked.core (attempt ∷ [])
+  pub spins : new.asked.spins ≡ old.asked.spins
+  pub guard : new.asked.guard ≡ old.asked.guard
+  pub kept : KeepsStep attempt stepped old new
+  pub answer : told ≡ reply.Moved (is_move stepped)
+
 -- the machine makes so many rounds, and the answer is their number
 pub record MakesRounds (count : ℕ) (old new : Asked) (told : ToldLine) : Type 0 where
   pub state : new.core ≡ core_after old.core (rounds_of old.core.shape count)
@@ -83,6 +105,30 @@ pub record FinishesScripts (old new : Recorded) (told : ToldLine) : Type 0 where
   pub needed : NeedsRounds old.asked.core rounds
   pub made : MakesRounds rounds old.asked new.asked told
   pub kept : KeepsRecord (action.Rounds rounds) old new
+
+-- the scripts are finished so, and a machine whose opening words are the words then stands in the place of
+-- that one; it keeps a record where that one does, in which nothing is done so far. It goes on as if both were
+-- one: their operations are served by one memory
+pub record GoesOn (between new : Recorded) : Type 0 where
+  pub opened : IsOpened between.asked.core.shape between.asked.core.depth between.asked.core.tags
+      (shown between.asked.core).memory new.asked
+  pub anew : RecordsAnew between.kept new
+  pub law : (l k : Load) (steps more : List Step) → IsAfter l between.asked.core steps
+      → IsAfter k new.asked.core more → GoesOnFrom l steps k more
+
+pub record Reopens (old new : Recorded) (told : ToldLine) : Type 0 where
+  pub between : Recorded
+  pub finishes : FinishesScripts old between told
+  pub goes_on : GoesOn between new
+
+-- the scripts are finished, and memory was refused for the other machine
+pub record FinishesAlone (old new : Recorded) (told : ToldLine) : Type 0 where
+  pub rounds : ToldLine
+  pub finishes : FinishesScripts old new rounds
+  pub answer : told ≡ reply.Refused fault.Memory
+
+abbrev pub ReopensMachine : Recorded → Recorded → ToldLine → Type 0
+ReopensMachine old new told = Reopens old new told ⊎ FinishesAlone old new told
 
 -- the answer at the end of a wait: the reply, or that every script is finished without it
 abbrev pub told_of_wait : ℕ → ℕ → Option Answer → ToldLine
@@ -121,6 +167,11 @@ abbrev pub told_word : ℕ → Option ℕ → ToldLine
 told_word address None = reply.Refused fault.Address
 told_word address (Some word) = reply.Word address word
 
+-- the answer is the rows of the order of operations, from one on, unless there is no memory
+abbrev pub TellsOrder : {A : Type 0} → ℕ → Asked → Said A → Type 0
+TellsOrder first v said =
+    IsTheText (rows_text (drop first v.core.book.rows)) said ⊎ (said ≡ Told (reply.Refused fault.Memory))
+
 -- the answer is the machine's report, a good one, unless there is no memory
 pub record TellsReport {A : Type 0} (v : Asked) (said : Said A) : Type 0 where
   pub is : said ≡ Report (machine_report v.core)
@@ -139,6 +190,7 @@ pub record IsLine {A : Type 0} (is : ToldLine → Type 0) (said : Said A) : Type
 abbrev pub Obeys : {A : Type 0} → Command → List ℕ → Recorded → Recorded → Said A → Type 0
 Obeys command.Nothing digits old new said = TellsDialogue (Told reply.Nothing) old new said
 Obeys (command.Ask p line) digits old new said = IsLine (AsksMachine p line old new) said
+Obeys (command.Step attempt) digits old new said = IsLine (MakesStep attempt old new) said
 Obeys (command.Rounds count) digits old new said = IsLine (MakesKeptRounds count old new) said
 Obeys (command.Clocked most) digits old new said = IsLine (MakesKeptFair most old new) said
 Obeys (command.Wait p index) digits old new said = IsLine (WaitsFor p index old new) said
@@ -147,7 +199,9 @@ Obeys command.Finished digits old new said =
     TellsDialogue (Told (reply.Finished (all_finished old.asked.core.state))) old new said
 Obeys (command.Word address) digits old new said =
     TellsDialogue (Told (told_word address (slice_get (shown old.asked.core).memory address))) old new said
+Obeys (command.Order first) digits old new said = (new ≡ old) × TellsOrder first old.asked said
 Obeys command.Report digits old new said = (new ≡ old) × Reports old.asked said
+Obeys command.Reopen digits old new said = IsLine (ReopensMachine old new) said
 Obeys command.Save digits old new said = (new ≡ old) × SavesKept old said
 Obeys command.Load digits old new said = IsLine (LoadsRecord digits old new) said
 Obeys command.Quit digits old new said = TellsDialogue (Told reply.Nothing) old new said

@@ -16,7 +16,7 @@ use Rattle.machine_record.specs.Recording.{Recording}
 use Rattle.command_live.specs.declared.told.Told.{Told as ToldLine}
 use Rattle.command_live.specs.declared.told.Told.TheVariants as reply
 use Rattle.command_live.specs.declared.said.Said.{Said}
-use Rattle.command_live.specs.declared.said.Said.TheVariants.{Told, Report, Saved}
+use Rattle.command_live.specs.declared.said.Said.TheVariants.{Told, Report, Lines}
 
 -- hexadecimal digits, two for each byte, of the bytes that make a machine
 pub record AreDigitsOf (digits : List ℕ) (v : Recorded) : Type 0 where
@@ -28,15 +28,15 @@ pub record AreDigitsOf (digits : List ℕ) (v : Recorded) : Type 0 where
 abbrev pub saved_line : Recording → List ℕ
 saved_line r = codes "saved " ++ encode_lower (record_bytes r) ++ 10 ∷ []
 
--- it is the line of this text
-abbrev pub IsTheLine : {A : Type 0} → List ℕ → Said A → Type 0
-IsTheLine text (Saved line) = string_bytes line ≡ text
-IsTheLine text (Told told) = ⊥
-IsTheLine text (Report report) = ⊥
+-- it is this text
+abbrev pub IsTheText : {A : Type 0} → List ℕ → Said A → Type 0
+IsTheText text (Lines lines) = string_bytes lines ≡ text
+IsTheText text (Told told) = ⊥
+IsTheText text (Report report) = ⊥
 
 -- the line of a machine's record, whose digits load this machine
 pub record TellsRecord {A : Type 0} (v : Recorded) (r : Recording) (said : Said A) : Type 0 where
-  pub line : IsTheLine (saved_line r) said
+  pub line : IsTheText (saved_line r) said
   pub back : AreDigitsOf (encode_lower (record_bytes r)) v
 
 -- the answer is the machine's record, or that it has none

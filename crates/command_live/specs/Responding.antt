@@ -1,7 +1,6 @@
 -- What a line of a dialogue comes to: what the machine does for it, and what the output takes (this
 -- project's own format).
 use Rattle.std.specs.Prelude.{◌≡◌, ℕ, List, length, Bool, true, false, Result, Ok, Err}
-use Rattle.torus.specs.Shape.{tiles_of}
 use Rattle.lexer.specs.Words.{first_words}
 use Rattle.machine_record.specs.Machine.{Recorded}
 use Rattle.program_fault.specs.Done.{Output, TookAll, TookFront}
@@ -15,7 +14,7 @@ use Rattle.command_live.specs.Obeying.{Obeys}
 -- what a line asks for of a machine
 abbrev pub asked_by : List ℕ → Recorded → Command
 asked_by line v =
-    command_of (tiles_of v.asked.core.shape) (length v.asked.core.opening) (first_words line)
+    command_of v.asked.core.shape (length v.asked.core.opening) (first_words line)
 
 -- the dialogue goes on behind whatever is asked for but its end
 abbrev pub goes_on : Command → Bool

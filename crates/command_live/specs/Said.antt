@@ -4,9 +4,9 @@ use Rattle.std.specs.String.{string_bytes}
 use Rattle.report_lines.specs.Line.{text_of}
 use Rattle.command_live.specs.Text.{told_text}
 use Rattle.command_live.specs.declared.said.Said.{Said as WhatIsSaid}
-use Rattle.command_live.specs.declared.said.Said.TheVariants.{Told, Report, Saved}
+use Rattle.command_live.specs.declared.said.Said.TheVariants.{Told, Report, Lines}
 
 abbrev pub said_text : {A : Type 0} → WhatIsSaid A → List ℕ
 said_text (Told told) = told_text told
 said_text (Report report) = text_of report
-said_text (Saved line) = string_bytes line
+said_text (Lines lines) = string_bytes lines

@@ -28,13 +28,16 @@ fn goes_on(command: Command) -> bool
         Command::Quit => false,
         Command::Nothing => true,
         Command::Ask(_, _) => true,
+        Command::Step(_) => true,
         Command::Rounds(_) => true,
         Command::Clocked(_) => true,
         Command::Wait(_, _) => true,
         Command::Finish => true,
         Command::Finished => true,
         Command::Word(_) => true,
+        Command::Order(_) => true,
         Command::Report => true,
+        Command::Reopen => true,
         Command::Save => true,
         Command::Load => true,
         Command::Refused(_) => true,
@@ -55,8 +58,8 @@ pub fn respond<A: Allocator + Copy, W: Out>(
         (output (W.taken out.old) (W.failures out.old))
         (output (W.taken out.new) (W.failures out.new)) result }
 {
-    let tiles = machine.machine().torus().tiles();
-    let command = read_command(line, tiles, machine.machine().words());
+    let torus = machine.machine().torus();
+    let command = read_command(line, torus, machine.machine().words());
     let said = obey(alloc, machine, command, second_word(line));
     put_said(out, &said)?;
     Ok(goes_on(command))

@@ -6,7 +6,9 @@ pub mod command;
 pub mod dialogue;
 pub mod obeying;
 pub mod reading;
+mod rows;
 pub mod said;
+mod step;
 pub mod text;
 pub mod told;
 

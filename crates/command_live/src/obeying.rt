@@ -1,22 +1,24 @@
 //! What a machine does for a line of a dialogue.
 
-ghost use Rattle.std.specs.Prelude.{◌≡◌, ◌⊎◌, ◌∷◌, ◌++◌, [], IfOk, Ok, codes, slice_get};
+ghost use Rattle.std.specs.Prelude.{◌≡◌, ◌⊎◌, ◌∷◌, ◌++◌, [], IfOk, Ok, codes, drop, slice_get};
 ghost use Rattle.std.specs.String.{string_bytes};
 ghost use Rattle.hex.specs.Hex.{decode_of, encode_lower};
 ghost use Rattle.core_laws.specs.Machine.{RunsOn, core_after, shown};
 ghost use Rattle.machine_asked.specs.Rounds.{rounds_of};
-ghost use Rattle.command_live.specs.Records.{IsTheLine, LoadsRecord, SavesKept, told_unrestored, told_unspelled};
-ghost use Rattle.command_live.specs.Obeying.{AsksMachine, MakesKeptFair, MakesKeptRounds, Obeys};
-ghost use Rattle.command_live.specs.Obeying.{Reports, WaitsFor, told_word};
+ghost use Rattle.command_live.specs.Records.{IsTheText, LoadsRecord, SavesKept, told_unrestored, told_unspelled};
+ghost use Rattle.command_live.specs.Obeying.{AsksMachine, MakesKeptFair, MakesKeptRounds, MakesStep, Obeys};
+ghost use Rattle.command_live.specs.Obeying.{ReopensMachine, Reports, TellsOrder, WaitsFor, is_move, told_word};
 
+use crate::rows::{rows_from, rows_text};
 use crate::said::Said;
 use crate::{Command, Told};
 use hex::FromHexError;
+use machine_asked::laws::reopened_machines_go_on;
 use machine_record::{RecordedMachine, Unrestored};
 use machine_report::of_run;
 use script::Line;
 use std::alloc::{AllocError, Allocator};
-use torus::Fault;
+use torus::{Fault, Step, Stepped};
 
 /// Hands a processor a line.
 fn asked<A: Allocator>(machine: &mut RecordedMachine<A>, processor: u32, line: Line) -> Told
@@ -26,6 +28,23 @@ fn asked<A: Allocator>(machine: &mut RecordedMachine<A>, processor: u32, line: L
         Ok(index) => Told::Asked(processor, index),
         Err(fault) => Told::Refused(fault),
     }
+}
+
+/// Whether a step moved.
+fn is_move(stepped: Stepped) -> bool
+    ensures { result ≡ is_move stepped }
+{
+    match stepped {
+        Stepped::Moved => true,
+        Stepped::Idle => false,
+    }
+}
+
+/// Attempts one choice of one agent.
+fn stepped<A: Allocator>(machine: &mut RecordedMachine<A>, step: Step) -> Told
+    ensures { MakesStep step machine.old machine.new result }
+{
+    Told::Moved(is_move(machine.step(step)))
 }
 
 /// Makes so many rounds.
@@ -60,6 +79,21 @@ fn waited<A: Allocator>(machine: &mut RecordedMachine<A>, processor: u32, index:
     }
 }
 
+/// Makes rounds until every script is finished, and puts a machine that goes on there in the place of this one.
+fn reopened<A: Allocator + Copy>(alloc: A, machine: &mut RecordedMachine<A>) -> Told
+    ensures { ReopensMachine machine.old machine.new result }
+{
+    let rounds = machine.finish();
+    reopened_machines_go_on();
+    match machine.reopened(alloc) {
+        Ok(next) => {
+            *machine = next;
+            Told::Rounds(rounds)
+        }
+        Err(AllocError) => Told::Refused(Fault::Memory),
+    }
+}
+
 /// The word at an address, or that the memory has none there.
 fn word_at<A: Allocator>(machine: &RecordedMachine<A>, address: u32) -> Told
     ensures { result ≡ told_word address (slice_get (shown machine.now.asked.core).memory address) }
@@ -67,6 +101,16 @@ fn word_at<A: Allocator>(machine: &RecordedMachine<A>, address: u32) -> Told
     match machine.machine().word(address) {
         Some(word) => Told::Word(address, word),
         None => Told::Refused(Fault::Address),
+    }
+}
+
+/// The rows of the order of operations, from the one of a number on.
+fn ordered<A: Allocator + Copy>(alloc: A, machine: &RecordedMachine<A>, from: u32) -> Said<A>
+    ensures { TellsOrder from machine.now.asked result }
+{
+    match rows_text(alloc, rows_from(machine.machine().rows(), from)) {
+        Ok(lines) => Said::Lines(lines),
+        Err(AllocError) => Said::Told(Told::Refused(Fault::Memory)),
     }
 }
 
@@ -99,13 +143,13 @@ fn digits_spell(bytes: &[u8])
 
 /// The line of a record, whose bytes make the machine again.
 fn told_record<A: Allocator + Copy>(alloc: A, bytes: &[u8]) -> Said<A>
-    ensures line { IsTheLine (codes "saved " ++ encode_lower bytes.now ++ 10 ∷ []) result
+    ensures line { IsTheText (codes "saved " ++ encode_lower bytes.now ++ 10 ∷ []) result
         ⊎ (result ≡ Said.Told (Told.Refused Fault.Memory)) }
     ensures back { decode_of (encode_lower bytes.now) ≡ Ok bytes.now }
 {
     digits_spell(bytes);
     match saved_line(alloc, bytes) {
-        Ok(line) => Said::Saved(line),
+        Ok(line) => Said::Lines(line),
         Err(AllocError) => Said::Told(Told::Refused(Fault::Memory)),
     }
 }
@@ -175,13 +219,16 @@ pub fn obey<A: Allocator + Copy>(
     match command {
         Command::Nothing => Said::Told(Told::Nothing),
         Command::Ask(processor, line) => Said::Told(asked(machine, processor, line)),
+        Command::Step(step) => Said::Told(stepped(machine, step)),
         Command::Rounds(count) => Said::Told(made(machine, count)),
         Command::Clocked(most) => Said::Told(clocked(machine, most)),
         Command::Wait(processor, index) => Said::Told(waited(machine, processor, index)),
         Command::Finish => Said::Told(Told::Rounds(machine.finish())),
         Command::Finished => Said::Told(Told::Finished(machine.machine().finished())),
         Command::Word(address) => Said::Told(word_at(machine, address)),
+        Command::Order(from) => ordered(alloc, machine, from),
         Command::Report => reported(alloc, machine),
+        Command::Reopen => Said::Told(reopened(alloc, machine)),
         Command::Save => saved(alloc, machine),
         Command::Load => Said::Told(loaded(alloc, machine, digits)),
         Command::Quit => Said::Told(Told::Nothing),

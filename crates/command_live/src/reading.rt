@@ -1,14 +1,17 @@
 //! What a line of a dialogue asks for.
 
 ghost use Rattle.std.specs.Prelude.{◌≡◌, map};
+ghost use Rattle.torus.specs.Shape.{tiles_of};
 ghost use Rattle.lexer.specs.Words.{first_words};
 ghost use Rattle.command_live.specs.Command.{alone, ask_of, command_from, command_of, load_digits};
-ghost use Rattle.command_live.specs.Command.{named, round_count, rounds_asked, second_in, wait_of, word_asked};
+ghost use Rattle.command_live.specs.Command.{named, named_alone, order_from, order_of, round_count};
+ghost use Rattle.command_live.specs.Command.{rounds_asked, second_in, step_of, wait_of, word_asked};
 
 use crate::command::Command;
 use lexer::first_words;
+use crate::step::step_asked;
 use script::{an_index, read_line};
-use torus::Fault;
+use torus::{Fault, Torus};
 
 /// The most rounds that a line asks for.
 const MOST_ROUNDS: u32 = 1000000;
@@ -82,6 +85,36 @@ fn word_asked(words: &[&[u8]], memory: u32) -> Result<Command, Fault>
     }
 }
 
+/// What stands behind `step`.
+fn step_of(words: &[&[u8]], torus: &Torus) -> Result<Command, Fault>
+    ensures { result ≡ step_of torus.now (map (λ word. word.now) words.now) }
+{
+    Ok(Command::Step(step_asked(torus, words)?))
+}
+
+/// What a word and the number of a row behind `order` ask for.
+fn order_from(word: &[u8], first: &[u8]) -> Result<Command, Fault>
+    ensures { result ≡ order_from word.now first.now }
+{
+    if word == b"from".as_slice() {
+        Ok(Command::Order(an_index(first)?))
+    } else {
+        Err(Fault::Line)
+    }
+}
+
+/// What stands behind `order`.
+fn order_of(words: &[&[u8]]) -> Result<Command, Fault>
+    ensures { result ≡ order_of (map (λ word. word.now) words.now) }
+{
+    match words {
+        [word, first] => order_from(word, first),
+        [] => Err(Fault::Line),
+        [_] => Err(Fault::Line),
+        [_, _, _, ..] => Err(Fault::Line),
+    }
+}
+
 /// A keyword behind which nothing stands.
 fn alone(command: Command, words: &[&[u8]]) -> Result<Command, Fault>
     ensures { result ≡ alone command (map (λ word. word.now) words.now) }
@@ -103,12 +136,40 @@ fn load_digits(words: &[&[u8]]) -> Result<Command, Fault>
     }
 }
 
+/// What a keyword asks for behind which nothing stands.
+fn named_alone(keyword: &[u8], rest: &[&[u8]]) -> Result<Command, Fault>
+    ensures { result ≡ named_alone keyword.now (map (λ word. word.now) rest.now) }
+{
+    if keyword == b"finish".as_slice() {
+        return alone(Command::Finish, rest);
+    }
+    if keyword == b"finished".as_slice() {
+        return alone(Command::Finished, rest);
+    }
+    if keyword == b"report".as_slice() {
+        return alone(Command::Report, rest);
+    }
+    if keyword == b"reopen".as_slice() {
+        return alone(Command::Reopen, rest);
+    }
+    if keyword == b"save".as_slice() {
+        return alone(Command::Save, rest);
+    }
+    if keyword == b"quit".as_slice() {
+        return alone(Command::Quit, rest);
+    }
+    Err(Fault::Line)
+}
+
 /// What a keyword and the words behind it ask for.
-fn named(keyword: &[u8], rest: &[&[u8]], tiles: u32, memory: u32) -> Result<Command, Fault>
-    ensures { result ≡ named tiles memory keyword.now (map (λ word. word.now) rest.now) }
+fn named(keyword: &[u8], rest: &[&[u8]], torus: &Torus, memory: u32) -> Result<Command, Fault>
+    ensures { result ≡ named torus.now memory keyword.now (map (λ word. word.now) rest.now) }
 {
     if keyword == b"ask".as_slice() {
-        return ask_of(rest, tiles, memory);
+        return ask_of(rest, torus.tiles(), memory);
+    }
+    if keyword == b"step".as_slice() {
+        return step_of(rest, torus);
     }
     if keyword == b"round".as_slice() {
         return Ok(Command::Rounds(round_count(rest)?));
@@ -119,28 +180,16 @@ fn named(keyword: &[u8], rest: &[&[u8]], tiles: u32, memory: u32) -> Result<Comm
     if keyword == b"wait".as_slice() {
         return wait_of(rest);
     }
-    if keyword == b"finish".as_slice() {
-        return alone(Command::Finish, rest);
-    }
-    if keyword == b"finished".as_slice() {
-        return alone(Command::Finished, rest);
-    }
     if keyword == b"word".as_slice() {
         return word_asked(rest, memory);
     }
-    if keyword == b"report".as_slice() {
-        return alone(Command::Report, rest);
-    }
-    if keyword == b"save".as_slice() {
-        return alone(Command::Save, rest);
+    if keyword == b"order".as_slice() {
+        return order_of(rest);
     }
     if keyword == b"load".as_slice() {
         return load_digits(rest);
     }
-    if keyword == b"quit".as_slice() {
-        return alone(Command::Quit, rest);
-    }
-    Err(Fault::Line)
+    named_alone(keyword, rest)
 }
 
 /// What a line asks for, by what its words ask for or their fault.
@@ -155,23 +204,23 @@ fn command_from(read: Result<Command, Fault>) -> Command
 }
 
 /// What the words of a line ask for.
-fn command_of(words: &[&[u8]], tiles: u32, memory: u32) -> Command
-    ensures { result ≡ command_of tiles memory (map (λ word. word.now) words.now) }
+fn command_of(words: &[&[u8]], torus: &Torus, memory: u32) -> Command
+    ensures { result ≡ command_of torus.now memory (map (λ word. word.now) words.now) }
 {
     match words {
         [] => Command::Nothing,
         [[b'#', ..], ..] => Command::Nothing,
-        [keyword, rest @ ..] => command_from(named(keyword, rest, tiles, memory)),
+        [keyword, rest @ ..] => command_from(named(keyword, rest, torus, memory)),
     }
 }
 
-/// What a line asks for, of a machine of so many tiles and words. It says what it is by its first seven
+/// What a line asks for, of a machine on this torus, of so many words. It says what it is by its first seven
 /// words: no line that asks for something has as many.
-pub fn read_command(line: &[u8], tiles: u32, memory: u32) -> Command
-    ensures { result ≡ command_of tiles memory (first_words line.now) }
+pub fn read_command(line: &[u8], torus: &Torus, memory: u32) -> Command
+    ensures { result ≡ command_of torus.now memory (first_words line.now) }
 {
     let (words, count) = first_words(line);
-    command_of(&words[..count], tiles, memory)
+    command_of(&words[..count], torus, memory)
 }
 
 /// The second word of a line, or nothing.

@@ -15,8 +15,8 @@ pub enum Said<A: Allocator = Global> {
     Told(Told),
     /// The report of the run so far.
     Report(Report<A>),
-    /// The line of the machine's record.
-    Saved(String<A>),
+    /// Lines: that of the machine's record, or the rows of the order of operations.
+    Lines(String<A>),
 }
 
 /// Puts the text of what is answered. It fails only where the output took none of some bytes that it was
@@ -31,6 +31,6 @@ pub fn put_said<W: Out, A: Allocator>(out: &mut W, said: &Said<A>) -> Result<(),
     match said {
         Said::Told(told) => put_all(out, told_text(*told).as_str().as_bytes()),
         Said::Report(report) => write_report(out, report),
-        Said::Saved(line) => put_all(out, line.as_bytes()),
+        Said::Lines(lines) => put_all(out, lines.as_bytes()),
     }
 }

@@ -1,7 +1,7 @@
 ghost use Rattle.std.specs.Prelude.{◌≡◌, ◌≤◌, ◌+◌, ◌∷◌, ◌++◌, [], codes, decimal, length};
 ghost use Rattle.arrayvec.specs.ArrayString.{array_string_len};
 ghost use Rattle.report_lines.specs.Line.{reply_word};
-ghost use Rattle.command_live.specs.Text.{told_text};
+ghost use Rattle.command_live.specs.Text.{told_text, yes_or_no};
 
 use crate::told::Told;
 use arrayvec::ArrayString;
@@ -10,10 +10,10 @@ use packet::Reply;
 use script::LineFault;
 
 /// The text of an answer, with its line feed.
-pub type ToldText = ArrayString<64>;
+pub type ToldText = ArrayString<96>;
 
 /// These words, which begin a line.
-fn begun(words: &str) -> ToldText
+pub(crate) fn begun(words: &str) -> ToldText
     requires { length words.now ≤ 10 }
     ensures text { result.bytes ≡ words.now }
     ensures len { array_string_len result ≤ 10 }
@@ -24,8 +24,8 @@ fn begun(words: &str) -> ToldText
 }
 
 /// Adds a space and a word.
-fn put_word(text: &mut ToldText, word: &str)
-    requires { array_string_len text.old + length word.now + 1 ≤ 64 }
+pub(crate) fn put_word(text: &mut ToldText, word: &str)
+    requires { array_string_len text.old + length word.now + 1 ≤ 96 }
     ensures text { text.new.bytes ≡ text.old.bytes ++ (32 ∷ word.now) }
     ensures len { array_string_len text.new ≡ array_string_len text.old + length word.now + 1 }
 {
@@ -34,8 +34,8 @@ fn put_word(text: &mut ToldText, word: &str)
 }
 
 /// Adds a space and a number of 32 bits.
-fn put_index(text: &mut ToldText, n: u32)
-    requires { array_string_len text.old + 11 ≤ 64 }
+pub(crate) fn put_index(text: &mut ToldText, n: u32)
+    requires { array_string_len text.old + 11 ≤ 96 }
     ensures text { text.new.bytes ≡ text.old.bytes ++ (32 ∷ decimal n) }
     ensures len { array_string_len text.new ≤ array_string_len text.old + 11 }
 {
@@ -45,7 +45,7 @@ fn put_index(text: &mut ToldText, n: u32)
 
 /// Adds a space and a number of 64 bits.
 fn put_value(text: &mut ToldText, n: u64)
-    requires { array_string_len text.old + 21 ≤ 64 }
+    requires { array_string_len text.old + 21 ≤ 96 }
     ensures text { text.new.bytes ≡ text.old.bytes ++ (32 ∷ decimal n) }
     ensures len { array_string_len text.new ≤ array_string_len text.old + 21 }
 {
@@ -55,7 +55,7 @@ fn put_value(text: &mut ToldText, n: u64)
 
 /// Adds a space and a reply.
 fn put_reply(text: &mut ToldText, reply: Reply)
-    requires { array_string_len text.old + 21 ≤ 64 }
+    requires { array_string_len text.old + 21 ≤ 96 }
     ensures text { text.new.bytes ≡ text.old.bytes ++ (32 ∷ reply_word reply) }
     ensures len { array_string_len text.new ≤ array_string_len text.old + 21 }
 {
@@ -66,8 +66,8 @@ fn put_reply(text: &mut ToldText, reply: Reply)
 }
 
 /// Ends the line.
-fn ended(mut text: ToldText) -> ToldText
-    requires { array_string_len text ≤ 63 }
+pub(crate) fn ended(mut text: ToldText) -> ToldText
+    requires { array_string_len text ≤ 95 }
     ensures { result.bytes ≡ text.bytes ++ (10 ∷ []) }
 {
     text.push_str("\n");
@@ -117,11 +117,12 @@ fn word_at(address: u32, word: u64) -> ToldText
     ended(text)
 }
 
-/// Whether every script is finished.
-fn finished(is: bool) -> ToldText
-    ensures { result.bytes ≡ told_text (Told.Finished is) }
+/// These words, and `yes` or `no`.
+fn flagged(words: &str, is: bool) -> ToldText
+    requires { length words.now ≤ 10 }
+    ensures { result.bytes ≡ words.now ++ (32 ∷ yes_or_no is) ++ (10 ∷ []) }
 {
-    let mut text = begun("finished");
+    let mut text = begun(words);
     put_word(&mut text, if is { "yes" } else { "no" });
     ended(text)
 }
@@ -136,9 +137,9 @@ fn bad_text(fault: LineFault) -> ToldText
     ended(text)
 }
 
-/// The text of an answer: `asked 0 3`, `answer 0 3 17`, `rounds 12`, `idle`, `finished yes`, `word 5 17`, `loaded`,
-/// `no record`, `bad byte 8`, `bad action 3`, `bad text F4 1`, `fault F7` or `bad line`, with a line feed. `asked`
-/// has no index where none is known; where nothing is answered, it is empty.
+/// The text of an answer: `asked 0 3`, `answer 0 3 17`, `moved yes`, `rounds 12`, `idle`, `finished yes`,
+/// `word 5 17`, `rows 4`, `loaded`, `no record`, `bad byte 8`, `bad action 3`, `bad text F4 1`, `fault F7` or
+/// `bad line`, with a line feed. `asked` has no index where none is known; where nothing is answered, it is empty.
 pub fn told_text(told: Told) -> ToldText
     ensures { result.bytes ≡ told_text told }
 {
@@ -147,9 +148,11 @@ pub fn told_text(told: Told) -> ToldText
         Told::Asked(processor, index) => asked(processor, index),
         Told::Answered(processor, index, reply) => answered(processor, index, reply),
         Told::Idle => ended(begun("idle")),
+        Told::Moved(is) => flagged("moved", is),
         Told::Rounds(count) => numbered("rounds", count),
-        Told::Finished(is) => finished(is),
+        Told::Finished(is) => flagged("finished", is),
         Told::Word(address, word) => word_at(address, word),
+        Told::Rows(count) => numbered("rows", count),
         Told::Loaded => ended(begun("loaded")),
         Told::NoRecord => ended(begun("no record")),
         Told::BadByte(place) => numbered("bad byte", place),

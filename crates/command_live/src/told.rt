@@ -13,12 +13,16 @@ pub enum Told {
     Answered(u32, u32, Reply),
     /// Every script is finished, and what was waited for has no answer.
     Idle,
+    /// Whether a step moved.
+    Moved(bool),
     /// So many rounds were made.
     Rounds(u64),
     /// Whether every script is finished.
     Finished(bool),
     /// The word at an address.
     Word(u32, u64),
+    /// So many rows of the order of operations follow.
+    Rows(u64),
     /// A record's machine stands in the place of this one.
     Loaded,
     /// There is no record: memory for it was refused.
