@@ -78,7 +78,7 @@ fn take_turns<A: Allocator + Copy>(
     ensures { IfOk result (λ some. MatchOption some (Unit {0}) (λ found.
         (found ≡ None → IsGoodUntil opening.now events.now ended.new.event)
         × MatchOption found (IsLinearizable opening.now events.now → ⊥)
-            (λ order. IsOrder opening.now events.now order.items))) }
+        (λ order. IsOrder opening.now events.now order.items))) }
 {
     let mut share = LEAST;
     for _ in 0..TURNS {
