@@ -8,8 +8,8 @@ ghost use Rattle.command_live.specs.Command.{named, named_alone, order_from, ord
 ghost use Rattle.command_live.specs.Command.{rounds_asked, second_in, step_of, wait_of, word_asked};
 
 use crate::command::Command;
-use lexer::first_words;
 use crate::step::step_asked;
+use lexer::first_words;
 use script::{an_index, read_line};
 use torus::{Fault, Torus};
 
