@@ -223,7 +223,6 @@ impl<A: Allocator> AskedMachine<A> {
     pub fn answer_to(&self, processor: u32, index: u32) -> Option<Answer>
         ensures { result ≡ answer_to self.now.core processor index }
     {
-        self.reached();
         answer_of(self.machine.answers(processor)?, index)
     }
 
