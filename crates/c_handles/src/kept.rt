@@ -1,8 +1,9 @@
 ghost use Rattle.std.specs.Prelude.{◌≡◌, ℕ, List, IfOk, IfErr};
 ghost use Rattle.trace_laws.specs.declared.event.Event.{Event};
 ghost use Rattle.trace_watch.specs.Follows.{AnswersFew, Tracks, TellsFull, TellsSeen};
+ghost use Rattle.trace_watch.specs.Watched.{watched};
 
-use std::alloc::{Allocator, Global};
+use std::alloc::{AllocError, Allocator, Global};
 use std::marker::Model;
 use trace_laws::Event;
 use trace_watch::{Full, Seen, Watch};
@@ -41,5 +42,16 @@ impl<A: Allocator + Copy> Kept<A> {
             → Tracks opening trace self.old → AnswersFew trace event bound self.old) }
     {
         self.watch.event(alloc, event, bound)
+    }
+
+    /// The same watch once more, as `Watch::copied` makes it.
+    ///
+    /// Errors: out of memory alone.
+    pub fn copied(&self, alloc: A) -> Result<Watch<A>, AllocError>
+        ensures same { IfOk result (λ copy. watched copy ≡ watched self.now) }
+        ensures follows { IfOk result (λ copy. (opening : List ℕ) (trace : List Event)
+            → Tracks opening trace self.now → Tracks opening trace copy) }
+    {
+        self.watch.copied(alloc)
     }
 }

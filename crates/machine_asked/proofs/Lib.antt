@@ -7,3 +7,5 @@ pub mod Waiting
 pub mod FairRounds
 pub mod Openings
 pub mod OneMemory
+pub mod Lags
+pub mod Behind

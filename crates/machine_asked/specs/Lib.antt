@@ -4,3 +4,4 @@ pub mod Inside
 pub mod Opened
 pub mod GoingOn
 pub mod Hosts
+pub mod Near

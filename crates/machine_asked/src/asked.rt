@@ -1,5 +1,5 @@
 ghost use Rattle.std.specs.Prelude.{◌≡◌, ◌⊎◌, ◌+◌, ◌≤◌, ◌==◌, ◌∷◌, ◌++◌, [], false, List, None};
-ghost use Rattle.std.specs.Prelude.{Some, Ok, IfErr, IfOk, IfSome};
+ghost use Rattle.std.specs.Prelude.{Some, Ok, IfErr, IfOk, IfSome, drop};
 ghost use Rattle.std.specs.Prelude.{OnErr, OnOk, length, map, slice_get};
 ghost use Rattle.std.specs.List.{find};
 ghost use Rattle.std.specs.Str.Lines.{lines};
@@ -20,6 +20,7 @@ ghost use Rattle.machine_core.specs.Loading.{HasLoaded, IsLoadFault, load_by};
 ghost use Rattle.fair_rounds.specs.Guard.{usual_guard};
 ghost use Rattle.machine_asked.specs.Asked.{IsAsked, IsNumberedLine, answer_to, has_spin, index_asked};
 ghost use Rattle.machine_asked.specs.Asked.{is_behind_spin, spins_with};
+ghost use Rattle.machine_asked.specs.Near.{AreNear};
 
 use crate::flags::{count_more, counts_of, is_operation, mark_spin, spins_of};
 use fair_rounds::Guard;
@@ -99,7 +100,7 @@ impl<A: Allocator + Copy> AskedMachine<A> {
 }
 
 /// The first of some answers that is to the operation of this index.
-fn answer_of(answers: &[Answer], index: u32) -> Option<Answer>
+fn answer_among(answers: &[Answer], index: u32) -> Option<Answer>
     ensures { result ≡ find (λ a. a.index == index) answers.now }
 {
     for answer in answers {
@@ -108,6 +109,27 @@ fn answer_of(answers: &[Answer], index: u32) -> Option<Answer>
         }
     }
     None
+}
+
+/// The answers from a place on.
+fn answers_from(answers: &[Answer], from: usize) -> &[Answer]
+    ensures { result.now ≡ drop from answers.now }
+{
+    if from < answers.len() {
+        &answers[from..]
+    } else {
+        &answers[answers.len()..]
+    }
+}
+
+/// The first of a processor's answers that is to the operation of this index. At most 16 operations are out at
+/// once, so it stands no more than 16 places in front of its operation's; what stands before that isn't looked at.
+fn answer_of(answers: &[Answer], index: u32) -> Option<Answer>
+    requires near { AreNear answers.now }
+    ensures { result ≡ find (λ a. a.index == index) answers.now }
+{
+    let from = index.saturating_sub(16);
+    answer_among(answers_from(answers, from as usize), index)
 }
 
 /// Out of memory, which is at no line.
@@ -196,7 +218,8 @@ impl<A: Allocator> AskedMachine<A> {
     }
 
     /// The answer to the operation of a processor that has this index, from 0 in the order of issue; `None`
-    /// where there is none yet, or no such processor.
+    /// where there is none yet, or no such processor. It looks at this answer, at as many as came before it of
+    /// later operations, and at 16 more: not at those of all the run.
     pub fn answer_to(&self, processor: u32, index: u32) -> Option<Answer>
         ensures { result ≡ answer_to self.now.core processor index }
     {

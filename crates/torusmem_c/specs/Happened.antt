@@ -1,5 +1,5 @@
 -- What happened to the operations that a machine has served, as C sees it (this project's own format).
-use Rattle.std.specs.Prelude.{◌≡◌, ◌⊎◌, ℕ, Bool, List, [], ◌∷◌, ◌++◌, Option, Some, None, nat_le, filter}
+use Rattle.std.specs.Prelude.{◌≡◌, ◌⊎◌, ℕ, Bool, List, [], ◌∷◌, ◌++◌, Option, Some, None, nat_le, drop, filter}
 use Rattle.std.specs.List.{flat_map}
 use Rattle.std.specs.List.Sorted.{IsNonDecreasingBy, IsPermutation}
 use Rattle.one_order.specs.declared.ordered.Ordered.{Ordered}
@@ -50,3 +50,10 @@ pub record PutsHappened (from : ℕ) (before after : List HappenedRecord) (old n
     : Type 0 where
   pub same : new ≡ old
   pub put : PutsHappenedSince from old.book.rows before after r ⊎ LacksMemory before after r
+
+-- those of the rows of its order from one on
+pub record PutsHappenedFrom (first from : ℕ) (before after : List HappenedRecord) (old new : Core)
+    (r : Outcome) : Type 0 where
+  pub same : new ≡ old
+  pub put : PutsHappenedSince from (drop first old.book.rows) before after r
+      ⊎ LacksMemory before after r

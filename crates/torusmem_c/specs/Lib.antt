@@ -18,6 +18,7 @@ pub mod Explained
 pub mod Spins
 pub mod Traces
 pub mod Watching
+pub mod WatchCloning
 pub mod Appending
 pub mod Opening
 pub mod Models

@@ -5,16 +5,15 @@ ghost use Rattle.std.specs.List.{flat_map};
 ghost use Rattle.std.specs.List.Sorted.{IsNonDecreasingBy, IsPermutation};
 ghost use Rattle.c_handles.specs.HeldMachine.{held};
 ghost use Rattle.torusmem_c.specs.Held.{OnHeld};
-ghost use Rattle.torusmem_c.specs.Happened.{IsHappenedSince, PutsHappened, PutsHappenedSince};
+ghost use Rattle.torusmem_c.specs.Happened.{IsHappenedSince, PutsHappened, PutsHappenedFrom, PutsHappenedSince};
 ghost use Rattle.torusmem_c.specs.Happened.{happened_to, is_since, served_of};
 ghost use Rattle.torusmem_c.specs.Room.{LacksMemory};
 
-use crate::order::{OrderedRecord, ordered_record};
+use crate::order::{OrderedRecord, ordered_record, rows_from};
 use crate::outcome::{Outcome, no_memory};
 use crate::room::put_over;
 use c_handles::MachineHandle;
 use machine_core::Ordered;
-use machine_report::Machine;
 use std::alloc::{AllocError, Global};
 
 /// What happened to an operation: its number among all events, from 1; 0 for its issue, 1 for its service and 2
@@ -123,12 +122,12 @@ fn happened_in_order(
     Ok(events)
 }
 
-/// Puts what happened from a number on into a buffer, unless memory is refused.
-fn put_happened(alloc: Global, machine: &Machine, from: u32, out: &mut [HappenedRecord]) -> Outcome
-    ensures { PutsHappenedSince from machine.now.book.rows out.old out.new result
+/// Puts what happened to the operations of rows, from a number on, into a buffer, unless memory is refused.
+fn put_happened(alloc: Global, rows: &[Ordered], from: u32, out: &mut [HappenedRecord]) -> Outcome
+    ensures { PutsHappenedSince from rows.now out.old out.new result
         ⊎ LacksMemory out.old out.new result }
 {
-    match happened_in_order(alloc, from, machine.rows()) {
+    match happened_in_order(alloc, from, rows) {
         Ok(events) => put_over(events.as_slice(), out),
         Err(_) => no_memory(),
     }
@@ -150,7 +149,29 @@ pub extern "C" fn torusmem_events(
     ensures empty { held handle.old ≡ None → out.new ≡ out.old }
 {
     match handle.machine() {
-        Some(machine) => put_happened(alloc, machine.machine(), from, out),
+        Some(machine) => put_happened(alloc, machine.machine().rows(), from, out),
+        None => Outcome::empty(),
+    }
+}
+
+/// Puts the issues, services and answers, from a number on, of the operations whose rows stand in the order from
+/// a row on, into a buffer, in their order. It looks at these rows alone.
+///
+/// Errors: out of memory, or the buffer is too short. It is as it was then.
+#[unsafe(no_mangle)]
+pub extern "C" fn torusmem_events_from(
+    alloc: Global,
+    handle: &mut MachineHandle,
+    row: u32,
+    from: u32,
+    out: &mut [HappenedRecord],
+) -> Outcome
+    ensures held { OnHeld (PutsHappenedFrom row from out.old out.new) (held handle.old)
+        (held handle.new) result }
+    ensures empty { held handle.old ≡ None → out.new ≡ out.old }
+{
+    match handle.machine() {
+        Some(machine) => put_happened(alloc, rows_from(machine.machine().rows(), row), from, out),
         None => Outcome::empty(),
     }
 }

@@ -22,4 +22,5 @@ pub mod spinning;
 pub mod stepping;
 pub mod texts;
 pub mod traces;
+pub mod watch_cloning;
 pub mod watching;

@@ -2,8 +2,8 @@
 
 ghost use Rattle.std.specs.Prelude.{◌≡◌, None, drop, map};
 ghost use Rattle.c_handles.specs.HeldMachine.{held};
-ghost use Rattle.torusmem_c.specs.Held.{OnHeld};
-ghost use Rattle.torusmem_c.specs.Orders.{PutsOrdered, ordered_record};
+ghost use Rattle.torusmem_c.specs.Held.{HandleTells, OnHeld};
+ghost use Rattle.torusmem_c.specs.Orders.{PutsOrdered, answered_first, answered_told, ordered_record};
 ghost use Rattle.torusmem_c.specs.Room.{put_over, put_outcome};
 
 use crate::outcome::{Code, Outcome};
@@ -40,7 +40,7 @@ pub(crate) fn ordered_record(row: Ordered) -> OrderedRecord
 }
 
 /// The rows from a number on.
-fn rows_from(rows: &[Ordered], from: u32) -> &[Ordered]
+pub(crate) fn rows_from(rows: &[Ordered], from: u32) -> &[Ordered]
     ensures { result.now ≡ drop from rows.now }
 {
     let from = from as usize;
@@ -83,6 +83,33 @@ pub extern "C" fn torusmem_order(
 {
     match handle.machine() {
         Some(machine) => put_rows(rows_from(machine.machine().rows(), from), out),
+        None => Outcome::empty(),
+    }
+}
+
+/// How many rows in front of the first one that has no answer there are.
+fn answered_first(rows: &[Ordered]) -> usize
+    ensures { result ≡ answered_first rows.now }
+{
+    for at in 0..rows.len() {
+        if rows[at].answered.is_none() {
+            return at;
+        }
+    }
+    rows.len()
+}
+
+/// The number of the first row of the order, from a row on, whose operation has no answer: how many rows there
+/// are, where each has one. It looks at the rows between alone.
+#[unsafe(no_mangle)]
+pub extern "C" fn torusmem_answered_to(handle: &mut MachineHandle, from: u32) -> Outcome
+    ensures { OnHeld (HandleTells (answered_told from)) (held handle.old) (held handle.new) result }
+{
+    match handle.machine() {
+        Some(machine) => {
+            let rows = rows_from(machine.machine().rows(), from);
+            Outcome::done(u64::from(from) + answered_first(rows) as u64)
+        }
         None => Outcome::empty(),
     }
 }

@@ -26,3 +26,5 @@ pub mod Masks
 pub mod Chains
 pub mod Few
 pub mod Answering
+pub mod Copies
+pub mod Agreeing

@@ -7,3 +7,4 @@ pub mod Closed
 pub mod Crowds
 pub mod Chains
 pub mod Follows
+pub mod Watched

@@ -4,8 +4,10 @@
 #![tactic(auto)]
 
 mod closing;
+pub mod copying;
 mod glimpses;
 pub mod index;
+pub mod laws;
 mod lowering;
 mod matching;
 mod pending;
