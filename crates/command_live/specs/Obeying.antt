@@ -170,7 +170,8 @@ told_word address (Some word) = reply.Word address word
 -- the answer is the rows of the order of operations, from one on, unless there is no memory
 abbrev pub TellsOrder : {A : Type 0} → ℕ → Asked → Said A → Type 0
 TellsOrder first v said =
-    IsTheText (rows_text (drop first v.core.book.rows)) said ⊎ (said ≡ Told (reply.Refused fault.Memory))
+    IsTheText (rows_text (drop first v.core.book.rows)) said
+    ⊎ (said ≡ Told (reply.Refused fault.Memory))
 
 -- the answer is the machine's report, a good one, unless there is no memory
 pub record TellsReport {A : Type 0} (v : Asked) (said : Said A) : Type 0 where
