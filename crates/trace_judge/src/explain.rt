@@ -8,7 +8,7 @@ ghost use Rattle.trace_judge.specs.Stops.{IsBeginning, IsUndecided, TellsMany};
 ghost use Rattle.trace_judge.specs.Verdicts.{IsGoodUntil};
 
 use crate::in_turns::{deep_within, find_in_turns};
-use crate::likely::{are_all_answered, is_silent, likely, try_guess};
+use crate::likely::{GUESSED, are_all_answered, is_silent, likely, try_guess};
 use crate::order::{Ended, find_order};
 use crate::trace::is_trace;
 use crate::undecided::Undecided;
@@ -74,7 +74,9 @@ fn likely_order<A: Allocator + Copy>(
     if are_all_answered(events) {
         return Ok(None);
     }
-    if let Some(order) = deep_within(alloc, opening, events, bound.min(EARLY))? {
+    if bound >= GUESSED
+        && let Some(order) = deep_within(alloc, opening, events, bound.min(EARLY))?
+    {
         return Ok(Some(order));
     }
     if let Some(order) = try_likely(alloc, opening, events, false, bound)? {
