@@ -3,3 +3,4 @@ pub mod Judging
 pub mod OneFlit
 pub mod Routing
 pub mod Causes
+pub mod Totals
