@@ -40,6 +40,12 @@ static void ask_events(torusmem_machine *m, uint32_t operations) {
   if (value_of(torusmem_events(m, 3 * operations, rows, 4)) == 0) stop("there is no last event");
 }
 
+static void ask_events_from(torusmem_machine *m, uint32_t operations) {
+  torusmem_happened rows[4];
+  if (value_of(torusmem_answered_to(m, operations - 1)) != operations) stop("the last row isn't answered");
+  if (value_of(torusmem_events_from(m, operations - 64, 3 * operations, rows, 4)) == 0) stop("there is no last event");
+}
+
 static void ask_answer_of(torusmem_machine *m, uint32_t operations) {
   if (torusmem_answer_of(m, 0, operations - 1).code != TORUSMEM_OK) stop("there is no answer of the index");
 }
@@ -108,6 +114,7 @@ int main(void) {
   printf("| what | figure |\n| --- | --- |\n");
   rows("`torusmem_order` for the last row", ask_order, 16, of_all, 3);
   rows("`torusmem_events` for the last event", ask_events, 16, of_all, 3);
+  rows("`torusmem_events_from` for the last event, over the last 64 rows", ask_events_from, 16, of_all, 3);
   rows("`torusmem_answer_of` the last operation of a processor", ask_answer_of, 1, of_one, 3);
   rows("`torusmem_answer_at` the last answer of a processor", ask_answer_at, 1, of_one, 3);
   records();

@@ -71,6 +71,8 @@ static void every_call_says_empty(torusmem_machine *m) {
   MUST(says(torusmem_order(m, 0, &ordered, 1), TORUSMEM_EMPTY, 0) && ordered.bank == 7);
   torusmem_happened happened = { 7, 7, ordered };
   MUST(says(torusmem_events(m, 0, &happened, 1), TORUSMEM_EMPTY, 0) && happened.number == 7);
+  MUST(says(torusmem_events_from(m, 0, 0, &happened, 1), TORUSMEM_EMPTY, 0) && happened.number == 7);
+  MUST(says(torusmem_answered_to(m, 0), TORUSMEM_EMPTY, 0));
   MUST(says(torusmem_word(m, 99), TORUSMEM_EMPTY, 0));
   MUST(says(torusmem_row(m, 0), TORUSMEM_EMPTY, 0));
   MUST(says(torusmem_rows(m, &word, 1), TORUSMEM_EMPTY, 0) && word == 7);
@@ -766,6 +768,30 @@ static void traces_are_watched(void) {
   a_watch_is_empty(&moved);
 }
 
+/* A watch that is made once more knows what the first one knew, and goes on by itself. */
+static void watches_are_cloned(void) {
+  static const uint64_t opening[2] = { 3, 0 };
+  torusmem_watch w = TORUSMEM_WATCH_INIT, fresh = TORUSMEM_WATCH_INIT, other = TORUSMEM_WATCH_INIT;
+  MUST(says(torusmem_watch_clone(&w, &fresh), TORUSMEM_EMPTY, 0) && !w.full && !fresh.full && live == 0);
+  MUST(says(torusmem_watch_begin(&w, opening, 2), TORUSMEM_OK, 0));
+  MUST(says(issues(&w, 1, TORUSMEM_ADD, 0, 1), TORUSMEM_OK, 0) && says(issues(&w, 2, TORUSMEM_ADD, 0, 1), TORUSMEM_OK, 0));
+  MUST(says(issues(&w, 3, TORUSMEM_LOAD, 1, 0), TORUSMEM_OK, 0) && says(says_old(&w, 2, 4), TORUSMEM_OK, 0));
+  MUST(says(torusmem_watch_clone(&w, &fresh), TORUSMEM_OK, 0) && fresh.full && fresh.at != w.at);
+  MUST(says(torusmem_watch_clone(&w, &fresh), TORUSMEM_FULL, 0) && says(torusmem_watch_clone(&other, &fresh), TORUSMEM_FULL, 0));
+  torusmem_watch *both[2] = { &w, &fresh };
+  for (int it = 0; it < 2; it++) {
+    MUST(says(issues(both[it], 3, TORUSMEM_LOAD, 1, 0), TORUSMEM_NONE, 0));
+    MUST(says(says_old(both[it], 2, 4), TORUSMEM_NONE, 0) && says(says_old(both[it], 1, 4), TORUSMEM_NOT_LINEARIZABLE, 0));
+    MUST(says(says_old(both[it], 1, 3), TORUSMEM_OK, 0) && says(says_old(both[it], 3, 1), TORUSMEM_NOT_LINEARIZABLE, 0));
+    MUST(says(issues(both[it], 4, TORUSMEM_LOAD, 0, 0), TORUSMEM_OK, 0));
+    MUST(says(says_old(both[it], 4, 4), TORUSMEM_NOT_LINEARIZABLE, 0));
+    if (it == 0) torusmem_watch_end(&w);
+  }
+  MUST(says(says_old(&fresh, 4, 5), TORUSMEM_OK, 0) && says(says_old(&fresh, 3, 0), TORUSMEM_OK, 0));
+  torusmem_watch_end(&fresh);
+  MUST(!fresh.full && !other.full && live == 0);
+}
+
 /* Every operation, by its reply and the word that it leaves. */
 static void operations_are_watched(void) {
   static const struct { uint64_t first, second, old, left; } made[TORUSMEM_MIN + 1] = {
@@ -840,6 +866,7 @@ static void codes(void) {
   logs_are_judged();
   logs_are_refused();
   traces_are_watched();
+  watches_are_cloned();
   operations_are_watched();
   shapes(&other);
   machines_of_numbers(&other);
@@ -917,6 +944,12 @@ static void watch_with_little_memory(void) {
       refused = 0;
     }
     refused = kept;
+    torusmem_watch fresh = TORUSMEM_WATCH_INIT;
+    int64_t before = live;
+    said = torusmem_watch_clone(&w, &fresh);
+    MUST(fresh.full ? says(said, TORUSMEM_OK, 0) : says(said, TORUSMEM_FAULT_MEMORY, 0));
+    torusmem_watch_end(&fresh);
+    MUST(w.full && live == before);
   }
   torusmem_watch_end(&w);
   MUST(!w.full && live == 0);
@@ -1103,6 +1136,20 @@ static void events(torusmem_machine *m) {
     MUST(says(torusmem_events(m, from, NULL, 0), left > 0 ? TORUSMEM_SHORT : TORUSMEM_OK, left));
   }
   MUST(says(torusmem_events(m, UINT32_MAX, rest, 1), TORUSMEM_OK, 0));
+  for (uint32_t first = 0; first <= count + 1; first += 1 + (uint32_t)count / 20) {
+    uint32_t from = all[wanted / 2].number, answered = first;
+    while (answered < count && rows[answered].answered > 0) answered++;
+    MUST(says(torusmem_answered_to(m, first), TORUSMEM_OK, answered));
+    uint64_t left = 0;
+    for (uint64_t at = wanted / 2; at < wanted; at++)
+      if (all[at].operation.served >= (first < count ? rows[first].served : UINT32_MAX)) all[left++] = all[at];
+    MUST(says(torusmem_events_from(m, first, from, rest, 3 * MOST_ROWS), TORUSMEM_OK, left));
+    MUST(memcmp(rest, all, left * sizeof *rest) == 0);
+    if (left > 0) MUST(says(torusmem_events_from(m, first, from, rest, left - 1), TORUSMEM_SHORT, left));
+    MUST(says(torusmem_events(m, 0, all, 3 * MOST_ROWS), TORUSMEM_OK, wanted));
+  }
+  MUST(says(torusmem_answered_to(m, UINT32_MAX), TORUSMEM_OK, UINT32_MAX));
+  MUST(says(torusmem_events_from(m, UINT32_MAX, 0, NULL, 0), TORUSMEM_OK, 0));
 }
 
 /* The report and its check ask for memory, and give all of it back. */

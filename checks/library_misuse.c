@@ -45,6 +45,10 @@ int main(int count, char **words) {
   if (strcmp(misuse, "two threads") == 0) meets(&m);
   if (strcmp(misuse, "null scripts") == 0) return (int)torusmem_load(&fresh, (const uint8_t *)machine, strlen(machine), NULL, 3).code;
   if (strcmp(misuse, "null report") == 0) return (int)torusmem_check(NULL, 3).code;
+  if (strcmp(misuse, "null words") == 0) return (int)torusmem_watch_begin(&w, NULL, 1).code;
+  if (strcmp(misuse, "null events") == 0) return (int)torusmem_linearize(&opening, 1, NULL, 1, 1, NULL, 0).code;
+  if (strcmp(misuse, "null buffer") == 0) return (int)torusmem_report(&m, NULL, 9).code;
+  if (strcmp(misuse, "one watch cloned") == 0) return (int)torusmem_watch_clone(&w, &w).code;
   if (strcmp(misuse, "one machine twice") == 0) return (int)torusmem_reopen(&m, &m).code;
   if (strcmp(misuse, "one machine cloned") == 0) return (int)torusmem_clone(&m, &m).code;
   if (strcmp(misuse, "moved") != 0) return 3;

@@ -8,10 +8,19 @@
    MEMORY. torusmem_load, torusmem_open, their two that keep a record, torusmem_reopen, torusmem_restore and
    torusmem_clone allocate what the machine needs, torusmem_append and torusmem_ask what a further line needs, and
    torusmem_free frees all of it. Of a machine that keeps a record, the calls that make steps or rounds also allocate what the record needs.
-   torusmem_report, torusmem_save, torusmem_events, torusmem_check, torusmem_explain, torusmem_spins_out,
+   torusmem_report, torusmem_save, torusmem_events, torusmem_events_from, torusmem_check, torusmem_explain, torusmem_spins_out,
    torusmem_network, torusmem_linearize and torusmem_model free what they allocate before they return.
-   torusmem_watch_begin allocates what a watch needs at first, torusmem_watch_issue and torusmem_watch_answer allocate
+   torusmem_watch_begin and torusmem_watch_clone allocate what a watch needs at first, torusmem_watch_issue and torusmem_watch_answer allocate
    and free as operations open and end, and torusmem_watch_end frees all of it. No other call allocates.
+
+   COSTS. Of a machine with t tiles, p ports of a router and r words of its row, after n operations: torusmem_step and
+   torusmem_enabled, looks at a word, an answer, an entry or a number of them, torusmem_ask and torusmem_append take O(1);
+   torusmem_answer_of O(1 + the later operations of the processor that were answered before this one); torusmem_finished
+   O(t); a round O(t * p), a clocked or fair one O(t * p * p); torusmem_rows O(r). torusmem_order and torusmem_answered_to take
+   O(k) for k rows from the first one on, torusmem_events_from O(k log k), torusmem_events O(n log n), torusmem_report O(n + r).
+   torusmem_save takes as long as the record is, torusmem_restore and torusmem_clone as long as the run took. Of a watch with k
+   operations open and c configurations held, torusmem_watch_issue takes O(k), torusmem_watch_clone O(words + k + c), and
+   torusmem_watch_answer follows the configurations of its word. Opening and loading take O(r + lines).
 
    LINKING. Link libtorusmem_c.a, torusmem_heap.c and torusmem_text.c; or what `make install` makes of them,
    libtorusmem.so or libtorusmem.a, as `pkg-config --cflags --libs torusmem` says. A program that defines the three
@@ -37,8 +46,9 @@
 
    A DEBUG BUILD. Where TORUSMEM_DEBUG is defined before this header, in all files of a program, handles carry a mark. Then
    a call on a null pointer, on a handle that was not initialized, on a watch in place of a machine, or on a copy whose
-   other one was used or freed since, and a torusmem_reopen or torusmem_clone of one machine twice, prints a line that
-   says so, with file and line, and aborts. */
+   other one was used or freed since, one with a text, list or buffer that is null and has a length, and a
+   torusmem_reopen, torusmem_clone or torusmem_watch_clone of one handle twice, prints a line that says so, with file and
+   line, and aborts. */
 #ifndef TORUSMEM_H
 #define TORUSMEM_H
 #define TORUSMEM_VERSION "0.3.0"
@@ -395,7 +405,8 @@ torusmem_answer torusmem_answer_at(torusmem_machine *m, uint32_t processor, uint
 
 /* The answer of a processor to its operation of this index, from 0 in the order of issue, as torusmem_ask tells it.
    Code NOT_YET: it isn't answered yet; of a script with a spin it may never be issued. NONE: no such tile, or the script
-   can't make so many operations. EMPTY. */
+   can't make so many operations. EMPTY. Of the processor's answers it looks at this one, at those to later operations that
+   came before it, and at 16 more: in fair rounds its time doesn't grow with the run. */
 torusmem_answer torusmem_answer_of(torusmem_machine *m, uint32_t processor, uint32_t index) TORUSMEM_RESULT;
 
 /* An entry of a bank: one service. */
@@ -435,6 +446,10 @@ typedef struct torusmem_ordered {
 torusmem_outcome torusmem_order(torusmem_machine *m, uint32_t from, torusmem_ordered *out, size_t out_length)
     TORUSMEM_RESULT;
 
+/* The first row of the order, from row `from` on, whose operation isn't answered yet; the number of rows, where all are.
+   It goes over the rows between. OK, value: the row, counted from 0, and `from` where there are not so many; EMPTY. */
+torusmem_outcome torusmem_answered_to(torusmem_machine *m, uint32_t from) TORUSMEM_RESULT;
+
 /* What happens to an operation: it is issued, served and answered. */
 enum { TORUSMEM_ISSUED = 0, TORUSMEM_SERVED = 1, TORUSMEM_ANSWERED = 2 };
 
@@ -452,6 +467,12 @@ typedef struct torusmem_happened {
    SHORT: value is how many there are, and out is as it was; so is it on FAULT_MEMORY and EMPTY. */
 torusmem_outcome torusmem_events(torusmem_machine *m, uint32_t from, torusmem_happened *out, size_t out_length)
     TORUSMEM_RESULT;
+
+/* Does what torusmem_events does, of the operations that stand in the order from row `row` on, counted from 0, and answers
+   as it does. It goes over these rows alone. A host that follows a run gives the row that torusmem_answered_to has told
+   behind the call before: all operations in front of it were answered then, so that nothing more happens to them. */
+torusmem_outcome torusmem_events_from(torusmem_machine *m, uint32_t row, uint32_t from, torusmem_happened *out,
+                                      size_t out_length) TORUSMEM_RESULT;
 
 /* A spin that ran out of loads: it made all its loads, and none of them found the number that it sought. */
 typedef struct torusmem_spin {
@@ -640,6 +661,11 @@ torusmem_outcome torusmem_watch_issue(torusmem_watch *w, uint64_t number, uint32
 torusmem_outcome torusmem_watch_answer(torusmem_watch *w, uint64_t number, uint32_t has_old, uint64_t old,
                                        uint64_t configurations) TORUSMEM_RESULT;
 
+/* Makes the same watch once more in *fresh, which is empty: it knows of the trace what *w knows, and goes on by itself, as
+   where a simulator forks. The two share nothing. OK; FULL: *fresh isn't empty; EMPTY: *w is; FAULT_MEMORY. *w is as it was,
+   and but for OK so is *fresh. w and fresh are not the same. */
+torusmem_outcome torusmem_watch_clone(torusmem_watch *w, torusmem_watch *fresh) TORUSMEM_RESULT;
+
 /* Ends the watch that *w holds, if any, and gives its memory back. It may be begun again then. */
 void torusmem_watch_end(torusmem_watch *w);
 
@@ -661,15 +687,23 @@ static inline void torusmem_look_at(bool is_right, const char *why, const char *
 }
 #endif
 
-/* The library's own calls take no null pointer. So a C program that calls one of the nineteen below has a call in front
+/* The library's own calls take no null pointer. So a C program that calls one of the twenty below has a call in front
    of it, by which a pointer with the length 0 becomes one to an item that is not looked at. */
+#ifdef TORUSMEM_DEBUG
+static inline void torusmem_look_at_items(const void *at, size_t length, const char *why) {
+  torusmem_look_at(at != NULL || length == 0, why, torusmem_place.call, torusmem_place.file, torusmem_place.line);
+}
+#define TORUSMEM_ITEMS(at, length, none, what) \
+  (torusmem_look_at_items(at, length, what " is null, and its length isn't 0"), (length) > 0 ? (at) : (none))
+#else
+#define TORUSMEM_ITEMS(at, length, none, what) ((length) > 0 ? (at) : (none))
+#endif
+#define TORUSMEM_LIST(at, none) TORUSMEM_ITEMS(at, at##_length, none, "a list")
+#define TORUSMEM_OUT(none) TORUSMEM_ITEMS(out, out_length, none, "a buffer")
+
 static inline const uint8_t *torusmem_text_at(const uint8_t *at, size_t length) {
   static const uint8_t none = 0;
-#ifdef TORUSMEM_DEBUG
-  torusmem_look_at(at != NULL || length == 0, "a text is null, and its length isn't 0", torusmem_place.call, torusmem_place.file,
-                   torusmem_place.line);
-#endif
-  return length > 0 ? at : &none;
+  return TORUSMEM_ITEMS(at, length, &none, "a text");
 }
 
 TORUSMEM_RESULT
@@ -692,7 +726,7 @@ static inline torusmem_outcome torusmem_load_recorded_texts(torusmem_machine *m,
 TORUSMEM_RESULT
 static inline torusmem_outcome torusmem_save_into(torusmem_machine *m, uint8_t *out, size_t out_length) {
   uint8_t none = 0;
-  return torusmem_save(m, out_length > 0 ? out : &none, out_length);
+  return torusmem_save(m, TORUSMEM_OUT(&none), out_length);
 }
 #define torusmem_save torusmem_save_into
 
@@ -706,7 +740,7 @@ TORUSMEM_RESULT
 static inline torusmem_outcome torusmem_open_with(torusmem_machine *m, const struct torusmem_shape *shape,
                                                   const uint64_t *words, size_t words_length) {
   static const uint64_t none = 0;
-  return torusmem_open(m, shape, words_length > 0 ? words : &none, words_length);
+  return torusmem_open(m, shape, TORUSMEM_LIST(words, &none), words_length);
 }
 #define torusmem_open torusmem_open_with
 
@@ -714,7 +748,7 @@ TORUSMEM_RESULT
 static inline torusmem_outcome torusmem_open_recorded_with(torusmem_machine *m, const struct torusmem_shape *shape,
                                                            const uint64_t *words, size_t words_length) {
   static const uint64_t none = 0;
-  return torusmem_open_recorded(m, shape, words_length > 0 ? words : &none, words_length);
+  return torusmem_open_recorded(m, shape, TORUSMEM_LIST(words, &none), words_length);
 }
 #define torusmem_open_recorded torusmem_open_recorded_with
 
@@ -724,7 +758,7 @@ static inline torusmem_explanation torusmem_explain_texts(const uint8_t *machine
                                                           size_t out_length) {
   uint8_t none = 0;
   return torusmem_explain(torusmem_text_at(machine, machine_length), machine_length,
-                          torusmem_text_at(scripts, scripts_length), scripts_length, out_length > 0 ? out : &none,
+                          torusmem_text_at(scripts, scripts_length), scripts_length, TORUSMEM_OUT(&none),
                           out_length);
 }
 #define torusmem_explain torusmem_explain_texts
@@ -732,14 +766,14 @@ static inline torusmem_explanation torusmem_explain_texts(const uint8_t *machine
 static inline torusmem_outcome torusmem_run_all(torusmem_machine *m, const torusmem_attempt *attempts,
                                                 size_t attempts_length) {
   static const torusmem_attempt none = { 0, 0, 0 };
-  return torusmem_run(m, attempts_length > 0 ? attempts : &none, attempts_length);
+  return torusmem_run(m, TORUSMEM_LIST(attempts, &none), attempts_length);
 }
 #define torusmem_run torusmem_run_all
 
 TORUSMEM_RESULT
 static inline torusmem_outcome torusmem_rows_into(torusmem_machine *m, uint64_t *out, size_t out_length) {
   uint64_t none = 0;
-  return torusmem_rows(m, out_length > 0 ? out : &none, out_length);
+  return torusmem_rows(m, TORUSMEM_OUT(&none), out_length);
 }
 #define torusmem_rows torusmem_rows_into
 
@@ -749,7 +783,7 @@ static inline torusmem_outcome torusmem_spins_out_into(torusmem_machine *m, cons
                                                        size_t scripts_length, torusmem_spin *out, size_t out_length) {
   torusmem_spin none = { 0, 0, 0, 0, 0 };
   return torusmem_spins_out(m, torusmem_text_at(machine, machine_length), machine_length,
-                            torusmem_text_at(scripts, scripts_length), scripts_length, out_length > 0 ? out : &none,
+                            torusmem_text_at(scripts, scripts_length), scripts_length, TORUSMEM_OUT(&none),
                             out_length);
 }
 #define torusmem_spins_out torusmem_spins_out_into
@@ -758,7 +792,7 @@ TORUSMEM_RESULT
 static inline torusmem_outcome torusmem_order_into(torusmem_machine *m, uint32_t from, torusmem_ordered *out,
                                                    size_t out_length) {
   torusmem_ordered none = { 0, 0, 0, 0, 0, 0, 0 };
-  return torusmem_order(m, from, out_length > 0 ? out : &none, out_length);
+  return torusmem_order(m, from, TORUSMEM_OUT(&none), out_length);
 }
 #define torusmem_order torusmem_order_into
 
@@ -766,14 +800,22 @@ TORUSMEM_RESULT
 static inline torusmem_outcome torusmem_events_into(torusmem_machine *m, uint32_t from, torusmem_happened *out,
                                                     size_t out_length) {
   torusmem_happened none = { 0, 0, { 0, 0, 0, 0, 0, 0, 0 } };
-  return torusmem_events(m, from, out_length > 0 ? out : &none, out_length);
+  return torusmem_events(m, from, TORUSMEM_OUT(&none), out_length);
 }
 #define torusmem_events torusmem_events_into
 
 TORUSMEM_RESULT
+static inline torusmem_outcome torusmem_events_from_into(torusmem_machine *m, uint32_t row, uint32_t from,
+                                                         torusmem_happened *out, size_t out_length) {
+  torusmem_happened none = { 0, 0, { 0, 0, 0, 0, 0, 0, 0 } };
+  return torusmem_events_from(m, row, from, TORUSMEM_OUT(&none), out_length);
+}
+#define torusmem_events_from torusmem_events_from_into
+
+TORUSMEM_RESULT
 static inline torusmem_outcome torusmem_report_into(torusmem_machine *m, uint8_t *out, size_t out_length) {
   uint8_t none = 0;
-  return torusmem_report(m, out_length > 0 ? out : &none, out_length);
+  return torusmem_report(m, TORUSMEM_OUT(&none), out_length);
 }
 #define torusmem_report torusmem_report_into
 
@@ -787,7 +829,7 @@ TORUSMEM_RESULT
 static inline torusmem_outcome torusmem_network_text(const uint8_t *network, size_t network_length, uint8_t *out,
                                                      size_t out_length) {
   uint8_t none = 0;
-  return torusmem_network(torusmem_text_at(network, network_length), network_length, out_length > 0 ? out : &none,
+  return torusmem_network(torusmem_text_at(network, network_length), network_length, TORUSMEM_OUT(&none),
                           out_length);
 }
 #define torusmem_network torusmem_network_text
@@ -798,9 +840,9 @@ static inline torusmem_outcome torusmem_linearize_events(const uint64_t *opening
                                                          uint64_t configurations, uint64_t *out, size_t out_length) {
   static const torusmem_event no_event = { 0, 0, 0, 0, 0, 0, 0, 0, 0 };
   uint64_t none = 0;
-  return torusmem_linearize(opening_length > 0 ? opening : &none, opening_length,
-                            events_length > 0 ? events : &no_event, events_length, configurations,
-                            out_length > 0 ? out : &none, out_length);
+  return torusmem_linearize(TORUSMEM_LIST(opening, &none), opening_length,
+                            TORUSMEM_LIST(events, &no_event), events_length, configurations,
+                            TORUSMEM_OUT(&none), out_length);
 }
 #define torusmem_linearize torusmem_linearize_events
 
@@ -810,8 +852,8 @@ static inline torusmem_models torusmem_model_entries(uint64_t words, const torus
                                                      size_t out_length) {
   static const torusmem_log_entry no_entry = { 0, 0, 0, 0, 0, 0, 0, 0, 0, 0, 0 };
   uint8_t none = 0;
-  return torusmem_model(words, entries_length > 0 ? entries : &no_entry, entries_length, order,
-                        out_length > 0 ? out : &none, out_length);
+  return torusmem_model(words, TORUSMEM_LIST(entries, &no_entry), entries_length, order,
+                        TORUSMEM_OUT(&none), out_length);
 }
 #define torusmem_model torusmem_model_entries
 
@@ -819,7 +861,7 @@ TORUSMEM_RESULT
 static inline torusmem_outcome torusmem_watch_begin_at(torusmem_watch *w, const uint64_t *opening,
                                                        size_t opening_length) {
   static const uint64_t none = 0;
-  return torusmem_watch_begin(w, opening_length > 0 ? opening : &none, opening_length);
+  return torusmem_watch_begin(w, TORUSMEM_LIST(opening, &none), opening_length);
 }
 #define torusmem_watch_begin torusmem_watch_begin_at
 
@@ -827,7 +869,7 @@ TORUSMEM_RESULT
 static inline torusmem_outcome torusmem_route_into(torusmem_machine *m, uint32_t src, uint32_t dst, uint32_t reply,
                                                    torusmem_channel *out, size_t out_length) {
   torusmem_channel none = { 0, 0, 0, 0, 0, 0 };
-  return torusmem_route(m, src, dst, reply, out_length > 0 ? out : &none, out_length);
+  return torusmem_route(m, src, dst, reply, TORUSMEM_OUT(&none), out_length);
 }
 #define torusmem_route torusmem_route_into
 
@@ -966,6 +1008,15 @@ static inline torusmem_outcome torusmem_watch_begin_marked(torusmem_watch *w, co
   return said;
 }
 
+TORUSMEM_RESULT
+static inline torusmem_outcome torusmem_watch_clone_marked(torusmem_watch *w, torusmem_watch *fresh, const char *file,
+                                                           int line) {
+  torusmem_look_at(w != fresh, "the two watches are one", "torusmem_watch_clone", file, line);
+  torusmem_outcome said = torusmem_watch_clone(w, fresh);
+  fresh->ticket = torusmem_ticket_of(fresh->full, fresh->ticket, &fresh->calls);
+  return said;
+}
+
 static inline void torusmem_watch_end_marked(torusmem_watch *w) {
   torusmem_watch_end(w);
   if (w->ticket != NULL) w->ticket->gone = true;
@@ -979,6 +1030,10 @@ static inline void torusmem_watch_end_marked(torusmem_watch *w) {
 #undef torusmem_explain
 #undef torusmem_check
 #undef torusmem_network
+#undef torusmem_linearize
+#undef torusmem_model
+#define torusmem_linearize(...) (TORUSMEM_HERE("torusmem_linearize"), torusmem_linearize_events(__VA_ARGS__))
+#define torusmem_model(...) (TORUSMEM_HERE("torusmem_model"), torusmem_model_entries(__VA_ARGS__))
 #define torusmem_explain(...) (TORUSMEM_HERE("torusmem_explain"), torusmem_explain_texts(__VA_ARGS__))
 #define torusmem_check(...) (TORUSMEM_HERE("torusmem_check"), torusmem_check_text(__VA_ARGS__))
 #define torusmem_network(...) (TORUSMEM_HERE("torusmem_network"), torusmem_network_text(__VA_ARGS__))
@@ -1046,6 +1101,11 @@ static inline void torusmem_watch_end_marked(torusmem_watch *w) {
 #define torusmem_order(m, ...) torusmem_left(torusmem_order_into(TORUSMEM_MACHINE(m, "torusmem_order"), __VA_ARGS__))
 #undef torusmem_events
 #define torusmem_events(m, ...) torusmem_left(torusmem_events_into(TORUSMEM_MACHINE(m, "torusmem_events"), __VA_ARGS__))
+#undef torusmem_events_from
+#define torusmem_events_from(m, ...) \
+  torusmem_left(torusmem_events_from_into(TORUSMEM_MACHINE(m, "torusmem_events_from"), __VA_ARGS__))
+#define torusmem_answered_to(m, ...) \
+  torusmem_left(torusmem_answered_to(TORUSMEM_MACHINE(m, "torusmem_answered_to"), __VA_ARGS__))
 #undef torusmem_spins_out
 #define torusmem_spins_out(m, ...) \
   torusmem_left(torusmem_spins_out_into(TORUSMEM_MACHINE(m, "torusmem_spins_out"), __VA_ARGS__))
@@ -1054,6 +1114,9 @@ static inline void torusmem_watch_end_marked(torusmem_watch *w) {
 #undef torusmem_route
 #define torusmem_route(m, ...) torusmem_left(torusmem_route_into(TORUSMEM_MACHINE(m, "torusmem_route"), __VA_ARGS__))
 #define torusmem_next(m, ...) torusmem_left(torusmem_next(TORUSMEM_MACHINE(m, "torusmem_next"), __VA_ARGS__))
+#define torusmem_watch_clone(w, fresh) \
+  torusmem_left(torusmem_watch_clone_marked(TORUSMEM_WATCH(w, "torusmem_watch_clone"), \
+  TORUSMEM_WATCH(fresh, "torusmem_watch_clone"), __FILE__, __LINE__))
 #define torusmem_watch_issue(m, ...) \
   torusmem_left(torusmem_watch_issue(TORUSMEM_WATCH(m, "torusmem_watch_issue"), __VA_ARGS__))
 #define torusmem_watch_answer(m, ...) \

@@ -251,10 +251,15 @@ class machine {
     });
   }
   // The issues, services and answers of the operations served so far, in their order: those numbered `from` or higher.
-  std::vector<torusmem_happened> events(uint32_t from = 1) {
+  // Of the order it goes over the rows from `row` on alone: a host that follows a run gives what answered_to() told before.
+  std::vector<torusmem_happened> events(uint32_t from = 1, uint32_t row = 0) {
     return filled<std::vector<torusmem_happened>>("events", 64, [&](torusmem_happened *at, size_t room) {
-      return torusmem_events(&held_, from, at, room);
+      return torusmem_events_from(&held_, row, from, at, room);
     });
+  }
+  // The first row of the order, from row `from` on, whose operation isn't answered yet; the number of rows, where all are.
+  uint32_t answered_to(uint32_t from = 0) {
+    return static_cast<uint32_t>(granted("answered_to", torusmem_answered_to(&held_, from)));
   }
   std::vector<torusmem_spin> spins_out(text shape, text scripts) {
     return filled<std::vector<torusmem_spin>>("spins_out", 16, [&](torusmem_spin *at, size_t room) {
@@ -305,6 +310,14 @@ class watch {
     std::swap(next_, other.next_);
   }
 
+  // The same watch once more, which goes on by itself.
+  watch clone() {
+    watch fresh;
+    granted("clone", torusmem_watch_clone(&held_, &fresh.held_));
+    fresh.next_ = next_;
+    return fresh;
+  }
+
   // Takes the issue of an operation; the number by which its answer names it.
   uint64_t issue(uint32_t operation, uint32_t address, uint64_t first = 0, uint64_t second = 0) {
     granted("issue", torusmem_watch_issue(&held_, next_, operation, address, first, second));
@@ -320,6 +333,7 @@ class watch {
   }
 
  private:
+  watch() = default;
   static bool taken(torusmem_outcome said) {
     return said.code != TORUSMEM_NOT_LINEARIZABLE && (granted("answer", said), true);
   }

@@ -149,6 +149,8 @@ CALLS = {
     "entries": (Outcome, [_M, c_uint32]),
     "entry_at": (RawEntry, [_M, c_uint32, c_uint32]),
     "order": (Outcome, [_M, c_uint32, POINTER(RawOrdered), c_size_t]),
+    "answered_to": (Outcome, [_M, c_uint32]),
+    "events_from": (Outcome, [_M, c_uint32, c_uint32, POINTER(RawHappened), c_size_t]),
     "events": (Outcome, [_M, c_uint32, POINTER(RawHappened), c_size_t]),
     "spins_out": (Outcome, [_M, c_char_p, c_size_t, c_char_p, c_size_t, POINTER(RawSpin), c_size_t]),
     "report": (Outcome, [_M, c_void_p, c_size_t]),
@@ -164,6 +166,7 @@ CALLS = {
     "watch_begin": (Outcome, [_M, POINTER(c_uint64), c_size_t]),
     "watch_issue": (Outcome, [_M, c_uint64, c_uint32, c_uint32, c_uint64, c_uint64]),
     "watch_answer": (Outcome, [_M, c_uint64, c_uint32, c_uint64, c_uint64]),
+    "watch_clone": (Outcome, [_M, _M]),
     "watch_end": (None, [_M]),
 }
 

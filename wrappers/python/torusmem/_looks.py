@@ -148,22 +148,30 @@ class Looks(Kept):
         for it in self._rows_from(self._calls.order, _library.RawOrdered, number_of(first, "first")):
             yield ordered_from(it)
 
-    def events(self, first: int = 1) -> Iterator[Happened]:
+    def events(self, first: int = 1, row: int = 0) -> Iterator[Happened]:
         """The events of the operations that are served, in the order in which they happened; those numbered `first` or
         higher that are there when the iterator begins. The issue of an operation comes with its service: until then its
-        number is left free."""
+        number is left free. It goes over the rows of the order from `row` on alone: a host that follows a run gives the one
+        that answered_to() has told before."""
         kinds = {_library.ISSUED: "issue", _library.SERVED: "service", _library.ANSWERED: "answer"}
-        for it in self._rows_from(self._calls.events, _library.RawHappened, number_of(first, "first")):
+        asked = number_of(row, "row"), number_of(first, "first")
+        for it in self._rows_from(self._calls.events_from, _library.RawHappened, *asked):
             yield Happened(it.number, kinds[it.what], ordered_from(it.operation))
 
     @alone
-    def _rows_from(self, call: Any, kind: Any, first: int) -> List[Any]:
+    def answered_to(self, first: int = 0) -> int:
+        """The first row of the order, from row `first` on, whose operation isn't answered yet; the number of rows, where
+        all are."""
+        return self._value(self._calls.answered_to(self._at, number_of(first, "first")))
+
+    @alone
+    def _rows_from(self, call: Any, kind: Any, *first: int) -> List[Any]:
         """The rows of the order, or the events, as the library has them."""
         out = (kind * 1)()
-        said = call(self._at, first, out, 0)
+        said = call(self._at, *first, out, 0)
         if said.code == _library.SHORT:
             out = (kind * said.value)()
-            said = call(self._at, first, out, len(out))
+            said = call(self._at, *first, out, len(out))
         return list(out[: self._value(said)])
 
     @alone

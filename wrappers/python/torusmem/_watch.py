@@ -35,6 +35,15 @@ class Watch(Kept):
         self._next = 0
         self._taken(self._calls.watch_begin(self._at, (c_uint64 * (len(words) or 1))(*words), len(words)), "watch")
 
+    @alone
+    def clone(self) -> Watch:
+        """The same watch once more, which goes on by itself."""
+        fresh = type(self).__new__(type(self))
+        fresh._begin()
+        fresh._next = self._next
+        self._taken(self._calls.watch_clone(self._at, fresh._at), "watch")
+        return fresh
+
     def _taken(self, said: Any, what: str) -> bool:
         """Whether the event is taken; an exception says why it isn't judged."""
         if said.code in (_library.OK, _library.NOT_LINEARIZABLE):

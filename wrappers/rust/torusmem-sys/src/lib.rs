@@ -378,6 +378,14 @@ extern "C" {
         out: *mut torusmem_ordered,
         out_length: usize,
     ) -> torusmem_outcome;
+    pub fn torusmem_answered_to(m: *mut torusmem_machine, from: u32) -> torusmem_outcome;
+    pub fn torusmem_events_from(
+        m: *mut torusmem_machine,
+        row: u32,
+        from: u32,
+        out: *mut torusmem_happened,
+        out_length: usize,
+    ) -> torusmem_outcome;
     pub fn torusmem_events(
         m: *mut torusmem_machine,
         from: u32,
@@ -444,5 +452,6 @@ extern "C" {
         old: u64,
         configurations: u64,
     ) -> torusmem_outcome;
+    pub fn torusmem_watch_clone(w: *mut torusmem_watch, fresh: *mut torusmem_watch) -> torusmem_outcome;
     pub fn torusmem_watch_end(w: *mut torusmem_watch);
 }

@@ -597,6 +597,24 @@ impl Machine {
         Ok(room.iter().map(happened_of).collect())
     }
 
+    /// The same of the operations that stand in the order from row `row` on: it goes over these rows alone. A host that
+    /// follows a run gives the row that `answered_to` has told before.
+    pub fn events_from(&mut self, row: u32, from: u32) -> Result<Vec<Happened>, Fault> {
+        let mut room = Vec::new();
+        let mut said = self.raw.events_from(row, from, &mut room);
+        if said.code == sys::TORUSMEM_SHORT {
+            room.resize(said.value as usize, sys::torusmem_happened::default());
+            said = self.raw.events_from(row, from, &mut room);
+        }
+        granted(said)?;
+        Ok(room.iter().map(happened_of).collect())
+    }
+
+    /// The first row of the order, from row `from` on, whose operation isn't answered yet; the number of rows, where all are.
+    pub fn answered_to(&mut self, from: u32) -> u32 {
+        self.raw.answered_to(from).value as u32
+    }
+
     /// The spins that ran out of loads in what was run so far, by processor, and of each in the order of its script: by
     /// the texts of which the machine was loaded, which are read once more. The faults are those of the texts, and want
     /// of memory.

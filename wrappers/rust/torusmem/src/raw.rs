@@ -207,6 +207,17 @@ impl Raw {
         unsafe { torusmem_events(&mut self.0, from, buffer_at(out, &mut none), out.len()) }
     }
 
+    pub fn answered_to(&mut self, from: u32) -> torusmem_outcome {
+        // SAFETY: the machine is this one's alone, for as long as the call takes. Numbers may be any.
+        unsafe { torusmem_answered_to(&mut self.0, from) }
+    }
+
+    pub fn events_from(&mut self, row: u32, from: u32, out: &mut [torusmem_happened]) -> torusmem_outcome {
+        let mut none = torusmem_happened::default();
+        // SAFETY: the machine is this one's alone, and so is the slice, which has as many events as it says.
+        unsafe { torusmem_events_from(&mut self.0, row, from, buffer_at(out, &mut none), out.len()) }
+    }
+
     pub fn spins_out(&mut self, machine: &[u8], scripts: &[u8], out: &mut [torusmem_spin]) -> torusmem_outcome {
         let mut none = torusmem_spin::default();
         let (machine_at, scripts_at) = (text_at(machine), text_at(scripts));
@@ -298,6 +309,11 @@ impl RawWatch {
     pub fn begin(&mut self, opening: &[u64]) -> torusmem_outcome {
         // SAFETY: the watch is this one's alone; the slice has as many words as it says, and is only read.
         unsafe { torusmem_watch_begin(&mut self.0, list_at(opening, &0), opening.len()) }
+    }
+
+    pub fn clone_to(&mut self, fresh: &mut RawWatch) -> torusmem_outcome {
+        // SAFETY: the watches are two, each this one's alone.
+        unsafe { torusmem_watch_clone(&mut self.0, &mut fresh.0) }
     }
 
     pub fn issue(&mut self, number: u64, operation: u32, address: u32, values: (u64, u64)) -> torusmem_outcome {

@@ -79,6 +79,23 @@ impl Watch {
         Ok(Watch { raw, next: 0 })
     }
 
+    /// The same watch once more, which goes on by itself. The only reason is that memory is refused.
+    ///
+    /// ```
+    /// use torusmem::{Operation, Reply, Watch};
+    ///
+    /// let mut watch = Watch::begin(&[0; 8])?;
+    /// let load = watch.issue(5, Operation::Load)?;
+    /// let mut other = watch.cloned()?;
+    /// assert!(watch.answer(load, Reply::Old(1)).is_err() && other.answer(load, Reply::Old(0)).is_ok());
+    /// # Ok::<(), torusmem::NotTaken>(())
+    /// ```
+    pub fn cloned(&mut self) -> Result<Watch, NotTaken> {
+        let mut raw = RawWatch::empty();
+        taken(self.raw.clone_to(&mut raw))?;
+        Ok(Watch { raw, next: self.next })
+    }
+
     /// Takes the issue of an operation, and gives the number by which its answer names it.
     pub fn issue(&mut self, address: u32, operation: Operation) -> Result<u64, NotTaken> {
         let number = self.next;
