@@ -1,6 +1,6 @@
 //! The one legal order of what a machine has served, as C sees it.
 
-ghost use Rattle.std.specs.Prelude.{◌≡◌, None, drop, map};
+ghost use Rattle.std.specs.Prelude.{◌≡◌, ◌+◌, ◌≤◌, None, drop, length, map};
 ghost use Rattle.c_handles.specs.HeldMachine.{held};
 ghost use Rattle.torusmem_c.specs.Held.{HandleTells, OnHeld};
 ghost use Rattle.torusmem_c.specs.Orders.{PutsOrdered, answered_first, answered_told, ordered_record};
@@ -89,7 +89,8 @@ pub extern "C" fn torusmem_order(
 
 /// How many rows in front of the first one that has no answer there are.
 fn answered_first(rows: &[Ordered]) -> usize
-    ensures { result ≡ answered_first rows.now }
+    ensures count { result ≡ answered_first rows.now }
+    ensures within { result ≤ length rows.now }
 {
     for at in 0..rows.len() {
         if rows[at].answered.is_none() {
@@ -97,6 +98,13 @@ fn answered_first(rows: &[Ordered]) -> usize
         }
     }
     rows.len()
+}
+
+/// The number of the first of these rows, of which the first has a number, that has no answer.
+fn answered_to(rows: &[Ordered], from: u32) -> u64
+    ensures { result ≡ from + answered_first rows.now }
+{
+    u64::from(from) + answered_first(rows) as u64
 }
 
 /// The number of the first row of the order, from a row on, whose operation has no answer: how many rows there
@@ -108,7 +116,7 @@ pub extern "C" fn torusmem_answered_to(handle: &mut MachineHandle, from: u32) ->
     match handle.machine() {
         Some(machine) => {
             let rows = rows_from(machine.machine().rows(), from);
-            Outcome::done(u64::from(from) + answered_first(rows) as u64)
+            Outcome::done(answered_to(rows, from))
         }
         None => Outcome::empty(),
     }
