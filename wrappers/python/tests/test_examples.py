@@ -477,10 +477,12 @@ class Traces(unittest.TestCase):
         many = [Issued(it, Operation.ADD, 1, (1,)) for it in range(150)]
         answers = [Answered(it, 0, it) for it in range(150)]
         self.assertEqual(linearize(many), Linearizable(()))
-        # Values that differ tell the order; those of operations that turn one bit don't, and more than 64 are open at once.
         self.assertEqual(linearize([*many, *answers]), Linearizable(tuple(range(150))))
-        flips = [Issued(it, Operation.XOR, 1, (1,)) for it in range(150)]
-        self.assertEqual(linearize([*flips, *(Answered(it, 0, it % 2) for it in range(150))]), Undecided(64, True))
+        # The values of operations that turn one bit don't tell the order; with fewer than 1024 configurations none is guessed, and
+        # more than 64 are open at once.
+        flips = [*(Issued(it, Operation.XOR, 1, (1,)) for it in range(150)), *(Answered(it, 0, it % 2) for it in range(150))]
+        self.assertEqual(linearize(flips), Linearizable(tuple(range(150))))
+        self.assertEqual(linearize(flips, configurations=1000), Undecided(64, True))
         sums = [*many[:4], *(Answered(it, 0, old) for it, old in enumerate((1, 0, 2, 3)))]
         self.assertEqual(linearize(sums, configurations=1), Undecided(4, False))
         self.assertEqual(linearize(sums), Linearizable((1, 0, 2, 3)))
