@@ -1,6 +1,6 @@
 -- What is written of a network whose routers choose, and what is answered to a network text (this
 -- project's own format).
-use Rattle.std.specs.Prelude.{◌≡◌, ◌⊎◌, ℕ, ◌+◌, ◌==◌, if◌then◌else◌, Bool, true, false}
+use Rattle.std.specs.Prelude.{◌≡◌, ◌⊎◌, ℕ, ◌+◌, ◌==◌, ◌||◌, ◌&&◌, if◌then◌else◌, Bool, true, false}
 use Rattle.std.specs.Prelude.{List, [], ◌∷◌, ◌++◌}
 use Rattle.std.specs.Prelude.{length, slice_index}
 use Rattle.std.specs.Prelude.{Result, Ok, Err, Option, Some, None, codes, decimal}
@@ -29,7 +29,7 @@ use Rattle.network_adaptive.specs.declared.verdict.Verdict.TheVariants.{Rising, 
 use Rattle.network_adaptive.specs.Between.{dependency_at}
 use Rattle.network_text.specs.Choosing.{ChoosingText}
 use Rattle.network_answer.specs.Judging.{choice_table, IsMarkedJudgement, judgement_rises}
-use Rattle.network_answer.specs.OneFlit.{StandsBehind}
+use Rattle.network_answer.specs.OneFlit.{StandsBehind, is_one_flit}
 use Rattle.network_text.specs.Routing.{Routing, Fixed, Chosen, routing_of}
 
 -- why a channel is no choice
@@ -95,15 +95,17 @@ judgement_text r (WrongPair p) = no_route_line p
 judgement_text r (WrongChoice c) = no_choice_line c
 judgement_text r (Judged v) = choosing_verdict_text r v
 
--- what is judged of a network whose routers choose, what stands behind it, and whether its numbers rise
+-- what is judged of a network whose routers choose, what stands behind it, and whether it never
+-- deadlocks: its numbers rise, or all packets have one flit and such packets never deadlock
 pub record TellsJudged {A : Type 0} (t : ChoosingText) (a : Answer A) : Type 0 where
   pub judged : JudgedNet A
   pub marks : List Bool
   pub holds : IsMarkedJudgement t marks judged
   pub behind : List ℕ
-  pub stands : StandsBehind (choice_table t marks) t.fixed.replies judged behind
+  pub never : Bool
+  pub stands : StandsBehind (choice_table t marks) t.fixed.replies judged behind never
   pub text : a.text.items ≡ judgement_text t.fixed judged ++ behind
-  pub rising : a.rising ≡ judgement_rises judged
+  pub rising : a.rising ≡ (judgement_rises judged || (is_one_flit t.fixed.flits && never))
 
 -- what is said of such a network with these pairs
 abbrev pub TellsChoosingOf : {A : Type 0} → List Join → ChoosingText → Answer A → Type 0

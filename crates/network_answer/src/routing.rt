@@ -9,7 +9,7 @@ ghost use Rattle.network_text.specs.Routing.{routing_of_all};
 use crate::answer::{Answer, answered, no_pair};
 use crate::judgement::judgement_text;
 use crate::judging::{judgement_of, judgement_rises};
-use crate::one_flit::behind_text;
+use crate::one_flit::{behind_text, is_one_flit};
 use network_text::choosing::{Choosing, Routers};
 use network_text::choosing_text::read_text_or_why;
 use network_text::network::network_read;
@@ -43,10 +43,10 @@ fn answered_choosing<A: Allocator + Copy>(
     let fixed = &network.fixed;
     let mut text = judgement_text(alloc, fixed, &it.judged)?;
     let behind = behind_text(alloc, fixed, ways, &it.choices, &it.marks, &it.judged)?;
-    text.extend_from_slice(&behind)?;
+    text.extend_from_slice(&behind.text)?;
     Ok(Answer {
         text,
-        rising: judgement_rises(&it.judged),
+        rising: judgement_rises(&it.judged) || (is_one_flit(fixed.flits) && behind.never),
     })
 }
 
