@@ -44,9 +44,11 @@ fn answered_choosing<A: Allocator + Copy>(
     let mut text = judgement_text(alloc, fixed, &it.judged)?;
     let behind = behind_text(alloc, fixed, ways, &it.choices, &it.marks, &it.judged)?;
     text.extend_from_slice(&behind.text)?;
+    let rises = judgement_rises(&it.judged);
+    let short = is_one_flit(fixed.flits);
     Ok(Answer {
         text,
-        rising: judgement_rises(&it.judged) || (is_one_flit(fixed.flits) && behind.never),
+        rising: rises || (short && behind.never),
     })
 }
 
