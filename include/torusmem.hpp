@@ -310,7 +310,7 @@ class watch {
     std::swap(next_, other.next_);
   }
 
-  // The same watch once more, which goes on by itself.
+  // Another watch that has seen what this one has, and goes on by itself.
   watch clone() {
     watch fresh;
     granted("clone", torusmem_watch_clone(&held_, &fresh.held_));

@@ -37,7 +37,7 @@ class Watch(Kept):
 
     @alone
     def clone(self) -> Watch:
-        """The same watch once more, which goes on by itself."""
+        """Another watch that has seen what this one has, and goes on by itself."""
         fresh = type(self).__new__(type(self))
         fresh._begin()
         fresh._next = self._next

@@ -597,7 +597,7 @@ impl Machine {
         Ok(room.iter().map(happened_of).collect())
     }
 
-    /// The same of the operations that stand in the order from row `row` on: it goes over these rows alone. A host that
+    /// The events of the operations that stand in the order from row `row` on: it goes over these rows alone. A host that
     /// follows a run gives the row that `answered_to` has told before.
     pub fn events_from(&mut self, row: u32, from: u32) -> Result<Vec<Happened>, Fault> {
         let mut room = Vec::new();

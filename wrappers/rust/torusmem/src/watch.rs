@@ -79,7 +79,7 @@ impl Watch {
         Ok(Watch { raw, next: 0 })
     }
 
-    /// The same watch once more, which goes on by itself. The only reason is that memory is refused.
+    /// Another watch that has seen what this one has, and goes on by itself. The only reason is that memory is refused.
     ///
     /// ```
     /// use torusmem::{Operation, Reply, Watch};
