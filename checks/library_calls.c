@@ -462,6 +462,20 @@ static void networks_are_judged(void) {
   MUST(says(torusmem_network(NULL, 0, NULL, 0), 5, 1));
 }
 
+/* What the program prints of a network, whose routers may choose. */
+static void networks_are_answered(void) {
+  static const char pair[] = "channels 2\ninject 0\neject 1\njoin 0 1\n", none[] = "no route 0 1: no channel at step 1\n";
+  static const char choose[] = "channels 4\ninject 0\neject 3\njoin 0 3\nnext 0 3 1\nnext 0 3 2\nnext 1 3 3\nnext 2 3 3\nescape 1\nescape 0\nescape 3\n";
+  torusmem_outcome said = torusmem_network_answer((const uint8_t *)pair, sizeof pair - 1, written.bytes, 100);
+  MUST(says(said, TORUSMEM_NOT_RISING, sizeof none - 1) && memcmp(written.bytes, none, sizeof none - 1) == 0);
+  written.bytes[0] = 0xAA;
+  said = torusmem_network_answer((const uint8_t *)pair, sizeof pair - 1, written.bytes, 3);
+  MUST(says(said, TORUSMEM_SHORT, sizeof none - 1) && written.bytes[0] == 0xAA);
+  said = torusmem_network_answer((const uint8_t *)choose, sizeof choose - 1, written.bytes, MOST_BYTES);
+  MUST(said.code == TORUSMEM_OK && said.value > 7 && memcmp(written.bytes, "number ", 7) == 0);
+  MUST(judge(choose, 100).code != TORUSMEM_OK && says(torusmem_network_answer(NULL, 0, NULL, 0), 5, 1) && live == 0);
+}
+
 static const char spin_machine[] = "radix 2\ndims 1\ndepth 4\ntags 4\nwords 8\n";
 /* The spin of line 3 never finds its number; that of line 6 finds it at its first load; that of line 7 has no load that
    finds it, and a second one runs out behind it. */
@@ -793,6 +807,111 @@ static void watches_are_cloned(void) {
   MUST(!fresh.full && !other.full && live == 0);
 }
 
+/* Saves a watch, ends it, and makes it again of the bytes, of which there are so many. */
+static void made_again(torusmem_watch *w, uint64_t next, size_t length) {
+  torusmem_outcome said = torusmem_watch_save(w, NULL, 0);
+  MUST(says(said, TORUSMEM_SHORT, said.value) && said.value == length);
+  memset(written.bytes, 0xAA, length + 1);
+  MUST(says(torusmem_watch_save(w, written.bytes, length - 1), TORUSMEM_SHORT, length) && written.bytes[0] == 0xAA);
+  MUST(says(torusmem_watch_save(w, written.bytes, length + 1), TORUSMEM_OK, length) && written.bytes[length] == 0xAA);
+  MUST(says(torusmem_watch_restore(w, written.bytes, length), TORUSMEM_FULL, 0));
+  torusmem_watch_end(w);
+  MUST(says(torusmem_watch_restore(w, written.bytes, length), TORUSMEM_OK, next) && w->full);
+}
+
+/* A watch that is made of bytes at each event answers as one that goes on, also with every operation. A head has 48 bytes, the
+   name 5 and a checksum 8; a word ends with a row, a configuration with one, each effect and each open operation has two, and
+   the newest number one, of 32 bytes each. */
+static void watches_are_saved(void) {
+  static const uint64_t opening[2] = { 3, 0 };
+  torusmem_watch w = TORUSMEM_WATCH_INIT;
+  MUST(says(torusmem_watch_save(&w, written.bytes, 100), TORUSMEM_EMPTY, 0));
+  MUST(says(torusmem_watch_begin(&w, opening, 2), TORUSMEM_OK, 0));
+  made_again(&w, 0, 61 + 32 * 4);
+  MUST(says(issues(&w, 1, TORUSMEM_ADD, 0, 1), TORUSMEM_OK, 0) && says(issues(&w, 2, TORUSMEM_ADD, 0, 1), TORUSMEM_OK, 0));
+  made_again(&w, 3, 61 + 32 * 9);
+  MUST(says(issues(&w, 7, TORUSMEM_LOAD, 1, 0), TORUSMEM_OK, 0) && says(says_old(&w, 2, 4), TORUSMEM_OK, 0));
+  torusmem_outcome said = torusmem_watch_save(&w, written.bytes, MOST_BYTES);
+  made_again(&w, 8, (size_t)said.value);
+  MUST(says(issues(&w, 7, TORUSMEM_LOAD, 1, 0), TORUSMEM_NONE, 0) && says(says_old(&w, 2, 4), TORUSMEM_NONE, 0));
+  MUST(says(says_old(&w, 1, 4), TORUSMEM_NOT_LINEARIZABLE, 0) && says(says_old(&w, 1, 3), TORUSMEM_OK, 0));
+  MUST(says(says_old(&w, 7, 1), TORUSMEM_NOT_LINEARIZABLE, 0) && says(says_old(&w, 7, 0), TORUSMEM_OK, 0));
+  made_again(&w, 8, 61 + 32 * 5);
+  MUST(says(issues(&w, UINT64_MAX, TORUSMEM_LOAD, 0, 0), TORUSMEM_OK, 0));
+  made_again(&w, UINT64_MAX, 61 + 32 * 7);
+  MUST(says(says_old(&w, UINT64_MAX, 4), TORUSMEM_NOT_LINEARIZABLE, 0) && says(says_old(&w, UINT64_MAX, 5), TORUSMEM_OK, 0));
+  torusmem_watch_end(&w);
+  MUST(live == 0);
+}
+
+/* Bytes that no watch was saved as: of which one is changed, that are cut, and those of a machine, which takes none of a watch. */
+static void bytes_of_no_watch(void) {
+  static const uint64_t opening[1] = { 5 };
+  static uint8_t saved[300];
+  torusmem_watch w = TORUSMEM_WATCH_INIT;
+  torusmem_machine m = TORUSMEM_MACHINE_INIT;
+  MUST(says(torusmem_watch_begin(&w, opening, 1), TORUSMEM_OK, 0) && says(issues(&w, 0, TORUSMEM_ADD, 0, 1), TORUSMEM_OK, 0));
+  size_t length = (size_t)torusmem_watch_save(&w, saved, sizeof saved).value;
+  torusmem_watch_end(&w);
+  for (size_t at = 0; at < length; at++) {
+    MUST(torusmem_watch_restore(&w, saved, at).code == TORUSMEM_BAD_RECORD && !w.full);
+    for (unsigned bit = 0; bit < 8; bit++) {
+      saved[at] ^= (uint8_t)(1u << bit);
+      MUST(torusmem_watch_restore(&w, saved, length).code == TORUSMEM_BAD_RECORD && !w.full && live == 0);
+      saved[at] ^= (uint8_t)(1u << bit);
+    }
+  }
+  MUST(says(torusmem_watch_restore(&w, NULL, 0), TORUSMEM_BAD_RECORD, 0));
+  MUST(says(torusmem_restore(&m, saved, length), TORUSMEM_FAULT_LINE, 1) && !m.full);
+  static const char machine[] = "radix 2\ndims 1\ndepth 1\ntags 1\nwords 1\n";
+  MUST(torusmem_load_recorded(&m, (const uint8_t *)machine, sizeof machine - 1, NULL, 0).code == TORUSMEM_OK);
+  length = (size_t)torusmem_save(&m, saved, sizeof saved).value;
+  torusmem_free(&m);
+  MUST(says(torusmem_watch_restore(&w, saved, length), TORUSMEM_BAD_RECORD, 48) && !w.full && live == 0);
+}
+
+/* A drawn trace of a register, of which some answers are wrong: a watch that is made again before each event says what one says
+   that goes on, and both then have the same bytes, which don't grow. */
+static void watches_go_on_restored(void) {
+  static uint8_t first[1 << 16], second[1 << 16];
+  static const uint64_t opening[2] = { 0, 0 };
+  uint64_t drawn = 1, open[4] = { 0, 1, 2, 3 }, most = 0, early = 0;
+  torusmem_watch w = TORUSMEM_WATCH_INIT, v = TORUSMEM_WATCH_INIT;
+  MUST(says(torusmem_watch_begin(&w, opening, 2), TORUSMEM_OK, 0) && says(torusmem_watch_begin(&v, opening, 2), TORUSMEM_OK, 0));
+  for (uint64_t number = 0; number < 4000; number++) {
+    drawn = drawn * UINT64_C(6364136223846793005) + UINT64_C(1442695040888963407);
+    uint32_t operation = (uint32_t)(drawn >> 33) % 10, address = (uint32_t)(drawn >> 40) % 2;
+    if (operation == TORUSMEM_ADD) operation = TORUSMEM_LOAD; /* so words stay below 4 */
+    uint64_t value = drawn >> 50 & 3, *answered = &open[drawn >> 60 & 3];
+    torusmem_outcome saved = torusmem_watch_save(&w, first, sizeof first);
+    MUST(saved.code == TORUSMEM_OK && says(torusmem_watch_save(&v, second, sizeof second), TORUSMEM_OK, saved.value));
+    MUST(memcmp(first, second, (size_t)saved.value) == 0);
+    torusmem_watch_end(&w);
+    MUST(torusmem_watch_restore(&w, first, (size_t)saved.value).code == TORUSMEM_OK);
+    if (saved.value > most) most = saved.value;
+    if (number == 1000) early = most;
+    if (number < 4) {
+      MUST(says(torusmem_watch_issue(&w, number, operation, address, value, 1), TORUSMEM_OK, 0));
+      MUST(says(torusmem_watch_issue(&v, number, operation, address, value, 1), TORUSMEM_OK, 0));
+      continue;
+    }
+    for (uint64_t old = 0; old < 5; old++) { /* the first reply that an order explains; 4: that of a store */
+      torusmem_outcome said = torusmem_watch_answer(&w, *answered, old < 4, old, 1000);
+      MUST(says(torusmem_watch_answer(&v, *answered, old < 4, old, 1000), said.code, said.value));
+      MUST(said.code == TORUSMEM_OK || old < 4);
+      if (said.code != TORUSMEM_OK) continue;
+      *answered = number;
+      MUST(says(torusmem_watch_issue(&w, number, operation, address, value, 1), TORUSMEM_OK, 0));
+      MUST(says(torusmem_watch_issue(&v, number, operation, address, value, 1), TORUSMEM_OK, 0));
+      break;
+    }
+  }
+  MUST(early > 0 && most <= 4 * early);
+  torusmem_watch_end(&w);
+  torusmem_watch_end(&v);
+  MUST(live == 0);
+}
+
 /* Every operation, by its reply and the word that it leaves. */
 static void operations_are_watched(void) {
   static const struct { uint64_t first, second, old, left; } made[TORUSMEM_MIN + 1] = {
@@ -861,6 +980,7 @@ static void codes(void) {
   operations_that_are_asked(&other);
   faults_are_explained();
   networks_are_judged();
+  networks_are_answered();
   spins_run_out(&other);
   traces_of_a_register();
   traces_are_refused();
@@ -868,6 +988,9 @@ static void codes(void) {
   logs_are_refused();
   traces_are_watched();
   watches_are_cloned();
+  watches_are_saved();
+  bytes_of_no_watch();
+  watches_go_on_restored();
   operations_are_watched();
   shapes(&other);
   machines_of_numbers(&other);
@@ -951,6 +1074,13 @@ static void watch_with_little_memory(void) {
     MUST(fresh.full ? says(said, TORUSMEM_OK, 0) : says(said, TORUSMEM_FAULT_MEMORY, 0));
     torusmem_watch_end(&fresh);
     MUST(w.full && live == before);
+    said = torusmem_watch_save(&w, written.bytes, MOST_BYTES);
+    MUST(live == before && (said.code == TORUSMEM_OK || says(said, TORUSMEM_FAULT_MEMORY, 0)));
+    if (said.code != TORUSMEM_OK) continue;
+    said = torusmem_watch_restore(&fresh, written.bytes, (size_t)said.value);
+    MUST(fresh.full ? said.code == TORUSMEM_OK : says(said, TORUSMEM_FAULT_MEMORY, 0));
+    torusmem_watch_end(&fresh);
+    MUST(live == before);
   }
   torusmem_watch_end(&w);
   MUST(!w.full && live == 0);

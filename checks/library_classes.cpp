@@ -92,6 +92,8 @@ void judges() {
   MUST(rises.code == TORUSMEM_OK && rises.text.find("rising") != std::string::npos);
   MUST(torusmem::network("channels 2\ninject 0\neject 1\njoin 0 1\n").code == TORUSMEM_NO_ROUTE);
   MUST(torusmem::network("channels 2\ninject 0\neject 1\n").code == TORUSMEM_NO_PAIR);
+  torusmem::verdict answer = torusmem::network_answer("channels 2\ninject 0\neject 1\njoin 0 1\n");
+  MUST(answer.code == TORUSMEM_NOT_RISING && answer.text == "no route 0 1: no channel at step 1\n");
   std::vector<torusmem_log_entry> log(3, torusmem_log_entry());
   log[0].kind = TORUSMEM_LOG_MADE;
   log[1].kind = TORUSMEM_LOG_READ_OPENING;

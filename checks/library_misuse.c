@@ -48,6 +48,8 @@ int main(int count, char **words) {
   if (strcmp(misuse, "null words") == 0) return (int)torusmem_watch_begin(&w, NULL, 1).code;
   if (strcmp(misuse, "null events") == 0) return (int)torusmem_linearize(&opening, 1, NULL, 1, 1, NULL, 0).code;
   if (strcmp(misuse, "null buffer") == 0) return (int)torusmem_report(&m, NULL, 9).code;
+  if (strcmp(misuse, "null saved") == 0) return (int)torusmem_watch_save(&w, NULL, 9).code;
+  if (strcmp(misuse, "null restored") == 0) return (int)torusmem_watch_restore(&w, NULL, 9).code;
   if (strcmp(misuse, "one watch cloned") == 0) return (int)torusmem_watch_clone(&w, &w).code;
   if (strcmp(misuse, "one machine twice") == 0) return (int)torusmem_reopen(&m, &m).code;
   if (strcmp(misuse, "one machine cloned") == 0) return (int)torusmem_clone(&m, &m).code;

@@ -9,9 +9,10 @@
    torusmem_clone allocate what the machine needs, torusmem_append and torusmem_ask what a further line needs, and
    torusmem_free frees all of it. Of a machine that keeps a record, the calls that make steps or rounds also allocate what the record needs.
    torusmem_report, torusmem_save, torusmem_events, torusmem_events_from, torusmem_check, torusmem_explain, torusmem_spins_out,
-   torusmem_network, torusmem_linearize and torusmem_model free what they allocate before they return.
-   torusmem_watch_begin and torusmem_watch_clone allocate what a watch needs at first, torusmem_watch_issue and torusmem_watch_answer allocate
-   and free as operations open and end, and torusmem_watch_end frees all of it. No other call allocates.
+   torusmem_network, torusmem_network_answer, torusmem_linearize, torusmem_model and torusmem_watch_save free what they allocate
+   before they return. torusmem_watch_begin, torusmem_watch_clone and torusmem_watch_restore allocate what a watch needs at first,
+   torusmem_watch_issue and torusmem_watch_answer allocate and free as operations open and end, and torusmem_watch_end frees all
+   of it. No other call allocates.
 
    COSTS. Of a machine with t tiles, p ports of a router and r words of its row, after n operations: torusmem_step and
    torusmem_enabled, looks at a word, an answer, an entry or a number of them, torusmem_ask and torusmem_append take O(1);
@@ -19,8 +20,9 @@
    O(t); a round O(t * p), a clocked or fair one O(t * p * p); torusmem_rows O(r). torusmem_order and torusmem_answered_to take
    O(k) for k rows from the first one on, torusmem_events_from O(k log k), torusmem_events O(n log n), torusmem_report O(n + r).
    torusmem_save takes as long as the record is, torusmem_restore and torusmem_clone as long as the run took. Of a watch with k
-   operations open and c configurations held, torusmem_watch_issue takes O(k), torusmem_watch_clone O(words + k + c), and
-   torusmem_watch_answer follows the configurations of its word. Opening and loading take O(r + lines).
+   operations open and c configurations held, torusmem_watch_issue takes O(k), torusmem_watch_clone, torusmem_watch_save and
+   torusmem_watch_restore O(words + k + c), and torusmem_watch_answer follows the configurations of its word. Opening and loading
+   take O(r + lines).
 
    LINKING. Link libtorusmem_c.a, torusmem_heap.c and torusmem_text.c; or what `make install` makes of them,
    libtorusmem.so or libtorusmem.a, as `pkg-config --cflags --libs torusmem` says. A program that defines the three
@@ -136,7 +138,8 @@ enum {
   TORUSMEM_BAD_RECORD = 28,  /* bytes are no record; value: the place of the first byte that is wrong, or missing, from 0 */
   TORUSMEM_BAD_ACTION = 29,  /* an action of a record can't be done; value: the action, from 0 */
   TORUSMEM_WRONG_REPLY = 30, /* of a log: a reply isn't what its operation does to the word that it finds */
-  TORUSMEM_NO_PAIR = 31      /* no packets go anywhere in a network; value: the length of the verdict's text */
+  TORUSMEM_NO_PAIR = 31,     /* no packets go anywhere in a network; value: the length of the verdict's text */
+  TORUSMEM_NOT_RISING = 32   /* the numbers of a network's channels don't rise; value: the length of the answer's text */
 };
 
 /* What a code says, in a few words of ASCII, as "an address is not below the number of words". For any number. */
@@ -527,13 +530,24 @@ torusmem_outcome torusmem_next(torusmem_machine *m, uint32_t at, uint32_t input,
    NO_ROUTE: the line of the first pair without a route, with the step and the reason.
    CYCLE: the line `cycle`, then a line for each channel of a cycle, with the packets that go on to the next one; then a
    line for each channel that fills up, and `locks up`: a run leads from the empty network to full channels of which
-   nothing can go; last the line on what packets go over.
+   nothing can go; of a text with a line `length` from which depth on such packets do so; last the line on what packets
+   go over.
    NO_PAIR: the line `no pair`: no line of the network says join, so nothing is judged.
    Of these four, value is the length of the text: it is the first `value` bytes of out, and those behind them are as
    they were.
    SHORT: value is that length, and out is as it was; so is it on a fault of the text, where value is its line, and on
    FAULT_MEMORY. A verdict takes time; where a buffer was short, it is made again. */
 torusmem_outcome torusmem_network(const uint8_t *network, size_t network_length, uint8_t *out, size_t out_length)
+    TORUSMEM_RESULT;
+
+/* Judges the network of a network text, whose routers may choose among channels, and puts the text into a buffer that the
+   program `network` prints: of fixed routes the one of torusmem_network; where routers choose, the numbers of the channels, or
+   a cycle, what has no escape, and what is then known: dead sets, channels that fill up, packets of one flit (docs/FORMATS.md,
+   "Network text"). Needs no machine.
+   OK: the numbers rise, so that the network never deadlocks. NOT_RISING: the text says what there is in their place.
+   Of these two, value is the length of the text: it is the first `value` bytes of out, and those behind them are as they
+   were. SHORT, a fault and FAULT_MEMORY: as of torusmem_network. */
+torusmem_outcome torusmem_network_answer(const uint8_t *network, size_t network_length, uint8_t *out, size_t out_length)
     TORUSMEM_RESULT;
 
 /* Kinds of events. */
@@ -668,6 +682,21 @@ torusmem_outcome torusmem_watch_answer(torusmem_watch *w, uint64_t number, uint3
    and but for OK so is *fresh. w and fresh are not the same. */
 torusmem_outcome torusmem_watch_clone(torusmem_watch *w, torusmem_watch *fresh) TORUSMEM_RESULT;
 
+/* Puts what a watch knows into a buffer as bytes, in the form of docs/FORMATS.md, "Record of a machine".
+   torusmem_watch_restore makes a watch of them that answers every later event as this one would. They follow the words, the
+   operations that are open and the configurations that are held, and not the length of the trace. The watch goes on as if
+   nothing was saved.
+   OK: they are the first `value` of out, and the bytes behind them are as they were. SHORT: value is how many there are, and
+   out is as it was; so is it on FAULT_MEMORY and EMPTY. */
+torusmem_outcome torusmem_watch_save(torusmem_watch *w, uint8_t *out, size_t out_length) TORUSMEM_RESULT;
+
+/* Makes the watch of saved bytes in *w, which is empty. It knows of the trace what the saved one knew, and goes on by itself.
+   OK, value: the lowest number that torusmem_watch_issue takes next; FULL; FAULT_MEMORY; BAD_RECORD: no torusmem_watch_save
+   gives these bytes: one is changed, they are cut, or of another kind. value: the place, from 0, where they are no record; 48
+   where they are one of something else, as of a machine, which torusmem_restore takes. On anything but OK, *w is as it was. The
+   bytes may go after the call. */
+torusmem_outcome torusmem_watch_restore(torusmem_watch *w, const uint8_t *bytes, size_t bytes_length) TORUSMEM_RESULT;
+
 /* Ends the watch that *w holds, if any, and gives its memory back. It may be begun again then. */
 void torusmem_watch_end(torusmem_watch *w);
 
@@ -689,7 +718,7 @@ static inline void torusmem_look_at(bool is_right, const char *why, const char *
 }
 #endif
 
-/* The library's own calls take no null pointer. So a C program that calls one of the twenty below has a call in front
+/* The library's own calls take no null pointer. So a C program that calls one of the twenty-three below has a call in front
    of it, by which a pointer with the length 0 becomes one to an item that is not looked at. */
 #ifdef TORUSMEM_DEBUG
 static inline void torusmem_look_at_items(const void *at, size_t length, const char *why) {
@@ -837,6 +866,14 @@ static inline torusmem_outcome torusmem_network_text(const uint8_t *network, siz
 #define torusmem_network torusmem_network_text
 
 TORUSMEM_RESULT
+static inline torusmem_outcome torusmem_network_answer_text(const uint8_t *network, size_t network_length, uint8_t *out,
+                                                            size_t out_length) {
+  uint8_t none = 0;
+  return torusmem_network_answer(torusmem_text_at(network, network_length), network_length, TORUSMEM_OUT(&none), out_length);
+}
+#define torusmem_network_answer torusmem_network_answer_text
+
+TORUSMEM_RESULT
 static inline torusmem_outcome torusmem_linearize_events(const uint64_t *opening, size_t opening_length,
                                                          const torusmem_event *events, size_t events_length,
                                                          uint64_t configurations, uint64_t *out, size_t out_length) {
@@ -866,6 +903,19 @@ static inline torusmem_outcome torusmem_watch_begin_at(torusmem_watch *w, const 
   return torusmem_watch_begin(w, TORUSMEM_LIST(opening, &none), opening_length);
 }
 #define torusmem_watch_begin torusmem_watch_begin_at
+
+TORUSMEM_RESULT
+static inline torusmem_outcome torusmem_watch_save_into(torusmem_watch *w, uint8_t *out, size_t out_length) {
+  uint8_t none = 0;
+  return torusmem_watch_save(w, TORUSMEM_OUT(&none), out_length);
+}
+#define torusmem_watch_save torusmem_watch_save_into
+
+TORUSMEM_RESULT
+static inline torusmem_outcome torusmem_watch_restore_bytes(torusmem_watch *w, const uint8_t *bytes, size_t bytes_length) {
+  return torusmem_watch_restore(w, torusmem_text_at(bytes, bytes_length), bytes_length);
+}
+#define torusmem_watch_restore torusmem_watch_restore_bytes
 
 TORUSMEM_RESULT
 static inline torusmem_outcome torusmem_route_into(torusmem_machine *m, uint32_t src, uint32_t dst, uint32_t reply,
@@ -1019,6 +1069,13 @@ static inline torusmem_outcome torusmem_watch_clone_marked(torusmem_watch *w, to
   return said;
 }
 
+TORUSMEM_RESULT
+static inline torusmem_outcome torusmem_watch_restore_marked(torusmem_watch *w, const uint8_t *bytes, size_t bytes_length) {
+  torusmem_outcome said = torusmem_watch_restore(w, bytes, bytes_length);
+  w->ticket = torusmem_ticket_of(w->full, w->ticket, &w->calls);
+  return said;
+}
+
 static inline void torusmem_watch_end_marked(torusmem_watch *w) {
   torusmem_watch_end(w);
   if (w->ticket != NULL) w->ticket->gone = true;
@@ -1032,6 +1089,7 @@ static inline void torusmem_watch_end_marked(torusmem_watch *w) {
 #undef torusmem_explain
 #undef torusmem_check
 #undef torusmem_network
+#undef torusmem_network_answer
 #undef torusmem_linearize
 #undef torusmem_model
 #define torusmem_linearize(...) (TORUSMEM_HERE("torusmem_linearize"), torusmem_linearize_events(__VA_ARGS__))
@@ -1039,6 +1097,7 @@ static inline void torusmem_watch_end_marked(torusmem_watch *w) {
 #define torusmem_explain(...) (TORUSMEM_HERE("torusmem_explain"), torusmem_explain_texts(__VA_ARGS__))
 #define torusmem_check(...) (TORUSMEM_HERE("torusmem_check"), torusmem_check_text(__VA_ARGS__))
 #define torusmem_network(...) (TORUSMEM_HERE("torusmem_network"), torusmem_network_text(__VA_ARGS__))
+#define torusmem_network_answer(...) (TORUSMEM_HERE("torusmem_network_answer"), torusmem_network_answer_text(__VA_ARGS__))
 #undef torusmem_load
 #undef torusmem_load_recorded
 #undef torusmem_restore
@@ -1119,6 +1178,12 @@ static inline void torusmem_watch_end_marked(torusmem_watch *w) {
 #define torusmem_watch_clone(w, fresh) \
   torusmem_left(torusmem_watch_clone_marked(TORUSMEM_WATCH(w, "torusmem_watch_clone"), \
   TORUSMEM_WATCH(fresh, "torusmem_watch_clone"), __FILE__, __LINE__))
+#undef torusmem_watch_save
+#define torusmem_watch_save(w, ...) \
+  torusmem_left(torusmem_watch_save_into(TORUSMEM_WATCH(w, "torusmem_watch_save"), __VA_ARGS__))
+#undef torusmem_watch_restore
+#define torusmem_watch_restore(w, ...) \
+  torusmem_left(torusmem_watch_restore_marked(TORUSMEM_WATCH(w, "torusmem_watch_restore"), __VA_ARGS__))
 #define torusmem_watch_issue(m, ...) \
   torusmem_left(torusmem_watch_issue(TORUSMEM_WATCH(m, "torusmem_watch_issue"), __VA_ARGS__))
 #define torusmem_watch_answer(m, ...) \

@@ -317,6 +317,17 @@ class watch {
     fresh.next_ = next_;
     return fresh;
   }
+  // The bytes of what it knows, of which restored() makes a watch that answers every later event as this one would.
+  std::vector<uint8_t> save() {
+    return filled<std::vector<uint8_t>>("save", 256, [&](uint8_t *at, size_t room) {
+      return torusmem_watch_save(&held_, at, room);
+    });
+  }
+  static watch restored(span<const uint8_t> saved) {
+    watch made;
+    made.next_ = granted("restore", torusmem_watch_restore(&made.held_, saved.data(), saved.size()));
+    return made;
+  }
 
   // Takes the issue of an operation; the number by which its answer names it.
   uint64_t issue(uint32_t operation, uint32_t address, uint64_t first = 0, uint64_t second = 0) {
@@ -353,6 +364,17 @@ inline verdict network(text network) {
     torusmem_outcome said = torusmem_network(network.data(), network.size(), reinterpret_cast<uint8_t *>(at), room);
     if (said.code == TORUSMEM_NO_ROUTE || said.code == TORUSMEM_CYCLE || said.code == TORUSMEM_NO_PAIR)
       made.code = said.code, said.code = TORUSMEM_OK;
+    return said;
+  });
+  return made;
+}
+
+// The answer to a network text, whose routers may choose: OK or NOT_RISING, and the text that the program prints.
+inline verdict network_answer(text network) {
+  verdict made{TORUSMEM_OK, ""};
+  made.text = filled<std::string>("network_answer", 65536, [&](char *at, size_t room) {
+    torusmem_outcome said = torusmem_network_answer(network.data(), network.size(), reinterpret_cast<uint8_t *>(at), room);
+    if (said.code == TORUSMEM_NOT_RISING) made.code = said.code, said.code = TORUSMEM_OK;
     return said;
   });
   return made;

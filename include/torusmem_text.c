@@ -37,6 +37,7 @@ static const char *const texts[] = {
   "an action of a record can't be done",
   "a reply of a log isn't what its operation does to the word that it finds",
   "a network has no source-destination pair",
+  "the numbers of a network's channels don't rise",
 };
 
 const char *torusmem_code_text(uint32_t code) {

@@ -4,3 +4,6 @@ pub mod MachineParts
 pub mod WatchParts
 mod Events
 mod Stands
+pub mod WatchBack
+pub mod WatchPut
+pub mod WatchSaves

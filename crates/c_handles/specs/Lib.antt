@@ -5,3 +5,6 @@ pub mod Numbered
 pub mod Gathered
 pub mod Kept
 pub mod Views
+pub mod WatchRows
+pub mod WatchReading
+pub mod WatchSaved

@@ -2,7 +2,9 @@ ghost use Rattle.std.specs.Prelude.{◌≡◌, ℕ, List, IfOk, IfErr};
 ghost use Rattle.trace_laws.specs.declared.event.Event.{Event};
 ghost use Rattle.trace_watch.specs.Follows.{AnswersFew, Tracks, TellsFull, TellsSeen};
 ghost use Rattle.trace_watch.specs.Watched.{watched};
+ghost use Rattle.c_handles.specs.WatchRows.{IsSavedWatch};
 
+use crate::watch_bytes::bytes_of_watch;
 use std::alloc::{AllocError, Allocator, Global};
 use std::marker::Model;
 use trace_laws::Event;
@@ -44,7 +46,7 @@ impl<A: Allocator + Copy> Kept<A> {
         self.watch.event(alloc, event, bound)
     }
 
-    /// The same watch once more, as `Watch::copied` makes it.
+    /// Another watch that has seen what this one has, as `Watch::copied` makes it.
     ///
     /// Errors: out of memory alone.
     pub fn copied(&self, alloc: A) -> Result<Watch<A>, AllocError>
@@ -53,5 +55,14 @@ impl<A: Allocator + Copy> Kept<A> {
             → Tracks opening trace self.now → Tracks opening trace copy) }
     {
         self.watch.copied(alloc)
+    }
+    /// Its bytes, which make it again: as many as its words, its open operations and its configurations ask for,
+    /// however long the trace is.
+    ///
+    /// Errors: out of memory alone.
+    pub fn saved(&self, alloc: A) -> Result<Vec<u8, A>, AllocError>
+        ensures { IfOk result (λ bytes. IsSavedWatch bytes.items (watched self.now)) }
+    {
+        bytes_of_watch(alloc, &self.watch)
     }
 }

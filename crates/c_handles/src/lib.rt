@@ -8,13 +8,17 @@ mod machine_handle;
 mod machine_slot;
 pub mod record;
 pub mod records;
+mod watch_bytes;
 mod watch_handle;
+mod watch_reading;
+mod watch_rows;
 mod watch_slot;
 
 pub use kept::Kept;
 pub use machine_handle::MachineHandle;
 pub use record::EventRecord;
 pub use records::trace_of_records;
+pub use watch_bytes::watch_of_bytes;
 pub use watch_handle::WatchHandle;
 
 /// Of what may go to another thread.

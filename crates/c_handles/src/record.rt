@@ -1,7 +1,8 @@
 //! What a record says, whatever the records before it say.
 
 ghost use Rattle.std.specs.Prelude.{◌≡◌};
-ghost use Rattle.c_handles.specs.Numbered.{op_numbered, reply_numbered};
+ghost use Rattle.c_handles.specs.Numbered.{first_value, has_old, op_numbered, operation_number, reply_numbered};
+ghost use Rattle.c_handles.specs.Numbered.{second_value, word_before};
 ghost use Rattle.c_handles.specs.Gathered.{is_reply_to};
 
 use packet::{Code, Op, Reply};
@@ -50,6 +51,72 @@ pub fn reply_numbered(has_old: u32, old: u64) -> Option<Reply>
         0 => Some(Reply::Ok),
         1 => Some(Reply::Old(old)),
         _ => None,
+    }
+}
+
+/// The number by which C knows an operation.
+pub fn operation_number(op: Op) -> u32
+    ensures { result ≡ operation_number op }
+{
+    match op {
+        Op::Load => 0,
+        Op::Store(_) => 1,
+        Op::Swap(_) => 2,
+        Op::Cas(_, _) => 3,
+        Op::Add(_) => 4,
+        Op::And(_) => 5,
+        Op::Or(_) => 6,
+        Op::Xor(_) => 7,
+        Op::Max(_) => 8,
+        Op::Min(_) => 9,
+    }
+}
+
+/// The first value that an operation brings, or 0.
+pub fn first_value(op: Op) -> u64
+    ensures { result ≡ first_value op }
+{
+    match op {
+        Op::Load => 0,
+        Op::Store(value)
+        | Op::Swap(value)
+        | Op::Cas(value, _)
+        | Op::Add(value)
+        | Op::And(value)
+        | Op::Or(value)
+        | Op::Xor(value)
+        | Op::Max(value)
+        | Op::Min(value) => value,
+    }
+}
+
+/// The second value of a compare-and-swap, or 0.
+pub fn second_value(op: Op) -> u64
+    ensures { result ≡ second_value op }
+{
+    match op {
+        Op::Cas(_, new) => new,
+        _ => 0,
+    }
+}
+
+/// Whether a reply is an old word.
+pub fn has_old(reply: Reply) -> u32
+    ensures { result ≡ has_old reply }
+{
+    match reply {
+        Reply::Ok => 0,
+        Reply::Old(_) => 1,
+    }
+}
+
+/// The old word of a reply, or 0.
+pub fn old_word(reply: Reply) -> u64
+    ensures { result ≡ word_before reply }
+{
+    match reply {
+        Reply::Ok => 0,
+        Reply::Old(word) => word,
     }
 }
 

@@ -49,8 +49,8 @@ name_of (Network network) = codes "network"
 name_of (LockUp network depth) = codes "network"
 name_of (Replay network run depth) = codes "network"
 name_of (Simulate network traffic depth arbiter) = codes "simulate"
-name_of (Linearize trace configurations) = codes "linearize"
-name_of (Report trace configurations) = codes "linearize"
+name_of (Linearize trace configurations seconds) = codes "linearize"
+name_of (Report trace configurations seconds) = codes "linearize"
 name_of (Watch trace configurations) = codes "watch"
 name_of (Model log model order) = codes "model"
 name_of (RunModel log model order machine script) = codes "model"
@@ -123,13 +123,15 @@ AreOfJob (Simulate network traffic depth arbiter) rows =
     × (first_of (codes "TRAFFIC") rows ≡ Some traffic.now)
     × (number_in (codes "depth") rows ≡ Some depth)
     × (first_of (codes "arbiter") rows ≡ Some arbiter.now)
-AreOfJob (Linearize trace configurations) rows =
+AreOfJob (Linearize trace configurations seconds) rows =
     (first_of (codes "TRACE") rows ≡ Some trace.now)
     × (number_in (codes "configurations") rows ≡ Some configurations)
+    × (number_in (codes "seconds") rows ≡ seconds)
     × IsFlag (codes "report") false rows
-AreOfJob (Report trace configurations) rows =
+AreOfJob (Report trace configurations seconds) rows =
     (first_of (codes "TRACE") rows ≡ Some trace.now)
     × (number_in (codes "configurations") rows ≡ Some configurations)
+    × (number_in (codes "seconds") rows ≡ seconds)
     × IsFlag (codes "report") true rows
 AreOfJob (Watch trace configurations) rows = (first_of (codes "TRACE") rows ≡ Some trace.now)
     × (number_in (codes "configurations") rows ≡ Some configurations)
@@ -169,8 +171,8 @@ AreJobLimits (Run machine script workers turns) =
 AreJobLimits (LockUp network depth) = (1 ≤ depth) × (depth ≤ 8)
 AreJobLimits (Replay network run depth) = (1 ≤ depth) × (depth ≤ 8)
 AreJobLimits (Simulate network traffic depth arbiter) = (1 ≤ depth) × (depth ≤ 8)
-AreJobLimits (Linearize trace configurations) = 1 ≤ configurations
-AreJobLimits (Report trace configurations) = 1 ≤ configurations
+AreJobLimits (Linearize trace configurations seconds) = 1 ≤ configurations
+AreJobLimits (Report trace configurations seconds) = 1 ≤ configurations
 AreJobLimits (Watch trace configurations) = 1 ≤ configurations
 AreJobLimits (ValueModel log model order nodes) = 1 ≤ nodes
 AreJobLimits (Schedule machine script rounds pace) = (1 ≤ rounds) × (rounds ≤ 1000000)

@@ -16,7 +16,7 @@ kind_text (Number least most) = decimal least ++ codes ".." ++ decimal most
 kind_text Long = codes "0..18446744073709551615"
 kind_text Arbiter = codes "rotating,turn"
 kind_text MachineArbiter = codes "oldest,turn"
-kind_text Model = codes "coherent,fenced,pso,tso,sc"
+kind_text Model = codes "coherent,fenced,rvwmo,pso,tso,sc"
 kind_text RunTexts = codes "MACHINE,SCRIPT"
 
 -- a line of a word that begins and ends so, with its name, its kind and what it is for

@@ -91,6 +91,11 @@ abbrev pub configurations_word : TakenWord
 configurations_word = usual_option (codes "configurations") (Number 1 4294967295)
     (codes "At most this many configurations of a word, 1 to 4294967295") (codes "1000000")
 
+-- the seconds in which an order is to be found
+abbrev pub seconds_word : TakenWord
+seconds_word = free_option (codes "seconds") Long
+    (codes "Widens the search for about so many seconds, 0 to 18446744073709551615")
+
 -- `steps`
 abbrev pub steps_command : NamedCommand
 steps_command = record {
@@ -219,6 +224,7 @@ linearize_command = record {
   about = codes "Judges a trace: an order that explains it, no such order, or undecided";
   words = argument (codes "TRACE") Path (codes "The file with the trace")
       ∷ configurations_word
+      ∷ seconds_word
       ∷ free_option (codes "report") Flag (codes "Prints the order as a report")
       ∷ json_word
       ∷ [];
@@ -239,11 +245,11 @@ watch_command = record {
 abbrev pub model_command : NamedCommand
 model_command = record {
   name = codes "model";
-  about = codes "Judges a log or report by five memory models, "
+  about = codes "Judges a log or report by memory models, "
       ++ codes "and prints the cycle of the weakest that fails";
   words = argument (codes "LOG") Path (codes "The file with the log or the report")
       ∷ usual_option (codes "model") Model
-      (codes "The model that decides the status: coherent, fenced, pso, tso or sc")
+      (codes "The model that decides the status: coherent, fenced, rvwmo, pso, tso or sc")
       (codes "sc")
       ∷ free_option (codes "order") Flag
       (codes "Prints an order of the strongest model that holds, too")

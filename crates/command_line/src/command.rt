@@ -87,16 +87,17 @@ pub enum Job<'a> {
         arbiter: &'a str,
     },
     /// Find the one order of a trace, with so many configurations of a word at once at most, and
-    /// print it.
+    /// fewer where a number of seconds is given in which it is to be found, and print it.
     Linearize {
         trace: &'a str,
         configurations: u32,
+        seconds: Option<u64>,
     },
-    /// Find the one order of a trace, with so many configurations of a word at once at most, and
-    /// print its report.
+    /// Find the one order of a trace, as `Linearize` does, and print its report.
     Report {
         trace: &'a str,
         configurations: u32,
+        seconds: Option<u64>,
     },
     /// Judge a trace while it comes, line by line, with so many configurations of a word at once at
     /// most.

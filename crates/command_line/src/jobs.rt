@@ -185,15 +185,18 @@ pub(crate) fn linearize_job<'a>(given: &ArgMatches<'a>) -> Answer<'a>
 {
     let trace = word(given, "TRACE")?;
     let configurations = number(given, "configurations", 1, u32::MAX)?;
+    let seconds = long_number_if_given(given, "seconds")?;
     if flag_of(given, "report")? {
         Some(Ok(Job::Report {
             trace,
             configurations,
+            seconds,
         }))
     } else {
         Some(Ok(Job::Linearize {
             trace,
             configurations,
+            seconds,
         }))
     }
 }

@@ -62,6 +62,12 @@ const CONFIGURATIONS: CommandWord = Usual(
     "1000000",
 );
 
+const SECONDS: CommandWord = Optional(
+    "seconds",
+    Long,
+    "Widens the search for about so many seconds, 0 to 18446744073709551615",
+);
+
 const JSON: CommandWord = Optional(
     "json",
     Flag,
@@ -206,6 +212,7 @@ const ROWS: [CommandRow; 14] = [
         words: &[
             Argument("TRACE", Path, "The file with the trace"),
             CONFIGURATIONS,
+            SECONDS,
             Optional("report", Flag, "Prints the order as a report"),
             JSON,
         ],
@@ -225,13 +232,13 @@ const ROWS: [CommandRow; 14] = [
     },
     CommandRow {
         name: "model",
-        about: "Judges a log or report by five memory models, and prints the cycle of the weakest that fails",
+        about: "Judges a log or report by memory models, and prints the cycle of the weakest that fails",
         words: &[
             Argument("LOG", Path, "The file with the log or the report"),
             Usual(
                 "model",
                 Model,
-                "The model that decides the status: coherent, fenced, pso, tso or sc",
+                "The model that decides the status: coherent, fenced, rvwmo, pso, tso or sc",
                 "sc",
             ),
             Optional(

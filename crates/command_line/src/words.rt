@@ -64,7 +64,7 @@ impl fmt::Display for WordKind {
             WordKind::Long => f.write_str("0..18446744073709551615"),
             WordKind::Arbiter => f.write_str("rotating,turn"),
             WordKind::MachineArbiter => f.write_str("oldest,turn"),
-            WordKind::Model => f.write_str("coherent,fenced,pso,tso,sc"),
+            WordKind::Model => f.write_str("coherent,fenced,rvwmo,pso,tso,sc"),
             WordKind::RunTexts => f.write_str("MACHINE,SCRIPT"),
         }
     }

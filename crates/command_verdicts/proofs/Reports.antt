@@ -10,7 +10,8 @@ use Rattle.report_check.specs.Good.{GoodReport}
 use Rattle.trace_laws.specs.declared.event.Call.{Call}
 use Rattle.trace_laws.specs.Orders.{IsOrder, IsLinearizable}
 use Rattle.trace_judge.specs.Stops.{IsCrowded}
-use Rattle.trace_text.specs.Findings.{AnswersPastBound}
+use Rattle.trace_text.specs.Findings.{AnswersPastBound, IsBadBy}
+use Rattle.trace_text.specs.declared.linearize.Unfound.{Unfound}
 use Rattle.trace_text.specs.Traced.{TraceSpec, trace_of, opening_of}
 use Rattle.trace_answer.specs.declared.unfit.Unfit.{Unfit}
 use Rattle.trace_answer.specs.declared.unfit.Unfit.TheVariants.{Memory, Words, Processors, Indexes, Operations, Events}
@@ -20,7 +21,7 @@ use Rattle.program_fault.specs.declared.fault.ProgramFault.{ProgramFault}
 use Rattle.program_fault.specs.declared.fault.ProgramFault.TheVariants as program
 use Rattle.program_fault.specs.Done.{Output, TookAll}
 use Rattle.command_verdicts.specs.declared.command.Judged.{Judged}
-use Rattle.command_verdicts.specs.declared.command.Judged.TheVariants.{Linearizable, NotLinearizable, TooMany, TooOpen}
+use Rattle.command_verdicts.specs.declared.command.Judged.TheVariants.{Linearizable, NotLinearizable, NotLinearizableBy, TooMany, TooOpen}
 use Rattle.command_verdicts.specs.Reporting.{IsReportText, PassesLimit, PrintsReport, PutsTraceReport, unreported}
 
 report_is : (t : TraceSpec) (order : List Call) (lines : List ReportLine) → IsOrder (opening_of t) t.events order → IsReportOfOrder t order lines
@@ -82,6 +83,13 @@ refused lines bound t o line read h = (
   },
   took_nothing o,
 )
+
+-- there is none, and a beginning isn't decided
+pub refused_by : (lines : List (List ℕ)) (bound : ℕ) (t : TraceSpec) (o : Output) (line : ℕ) (why : Unfound) → trace_of lines ≡ Ok t
+    → ((k : ℕ) × (slice_get t.lines k ≡ Some line) × IsBadBy t bound k why)
+    → PrintsReport lines bound o o (Ok (NotLinearizableBy line why))
+refused_by lines bound t o line why read h =
+    ([], record { trace = t; read = read; reported = (h.0, record { there = h.1; silent = refl }, h.2) }, took_nothing o)
 
 -- the trace isn't decided
 pub too_many : (lines : List (List ℕ)) (bound : ℕ) (t : TraceSpec) (o : Output) (line : ℕ) → trace_of lines ≡ Ok t

@@ -4,10 +4,11 @@ use Rattle.std.specs.Prelude.{Ok}
 use Rattle.std.proofs.KnownBytes.{Appends-nil}
 use Rattle.trace_laws.specs.Orders.{IsLinearizable}
 use Rattle.trace_judge.specs.Stops.{IsCrowded}
-use Rattle.trace_text.specs.Findings.{AnswersPastBound}
+use Rattle.trace_text.specs.Findings.{AnswersPastBound, IsBadBy}
+use Rattle.trace_text.specs.declared.linearize.Unfound.{Unfound}
 use Rattle.trace_text.specs.Traced.{TraceSpec, trace_of, opening_of}
 use Rattle.program_fault.specs.Done.{Output, TookAll}
-use Rattle.command_verdicts.specs.declared.command.Judged.TheVariants.{NotLinearizable, TooMany, TooOpen}
+use Rattle.command_verdicts.specs.declared.command.Judged.TheVariants.{NotLinearizable, NotLinearizableBy, TooMany, TooOpen}
 use Rattle.command_verdicts.specs.Judging.{PrintsOrder}
 
 took_nothing : (o : Output) → TookAll o o []
@@ -27,6 +28,13 @@ refused lines bound t o line read h = (
   },
   took_nothing o,
 )
+
+-- there is none, and a beginning isn't decided
+pub refused_by : (lines : List (List ℕ)) (bound : ℕ) (t : TraceSpec) (o : Output) (line : ℕ) (why : Unfound) → trace_of lines ≡ Ok t
+    → ((k : ℕ) × (slice_get t.lines k ≡ Some line) × IsBadBy t bound k why)
+    → PrintsOrder lines bound o o (Ok (NotLinearizableBy line why))
+refused_by lines bound t o line why read h =
+    ([], record { trace = t; read = read; judged = (h.0, record { there = h.1; silent = refl }, h.2) }, took_nothing o)
 
 -- the trace isn't decided
 pub too_many : (lines : List (List ℕ)) (bound : ℕ) (t : TraceSpec) (o : Output) (line : ℕ) → trace_of lines ≡ Ok t

@@ -3,7 +3,7 @@ use Rattle.std.specs.Prelude.{◌≡◌, ◌+◌, ℕ, List, [], Some, slice_get
 use Rattle.trace_laws.specs.declared.event.Call.{Call}
 use Rattle.trace_laws.specs.Orders.{IsOrder, IsLinearizable}
 use Rattle.trace_judge.specs.Stops.{IsCrowded}
-use Rattle.trace_text.specs.Findings.{AnswersPastBound}
+use Rattle.trace_text.specs.Findings.{AnswersPastBound, IsBadBy}
 use Rattle.trace_text.specs.Traced.{TraceSpec, trace_of, opening_of}
 use Rattle.trace_answer.specs.Texts.{order_text}
 use Rattle.program_fault.specs.declared.fault.ProgramFault.{ProgramFault}
@@ -11,7 +11,7 @@ use Rattle.program_fault.specs.declared.fault.ProgramFault.TheVariants as progra
 use Rattle.program_fault.specs.Done.{Output, Does}
 use Rattle.command_verdicts.specs.declared.command.Judged.{Judged}
 use Rattle.command_verdicts.specs.declared.command.Judged.TheVariants.{Linearizable}
-use Rattle.command_verdicts.specs.declared.command.Judged.TheVariants.{NotLinearizable, TooMany}
+use Rattle.command_verdicts.specs.declared.command.Judged.TheVariants.{NotLinearizable, NotLinearizableBy, TooMany}
 use Rattle.command_verdicts.specs.declared.command.Judged.TheVariants.{TooOpen}
 use Rattle.command_verdicts.specs.declared.command.Judged.TheVariants.{NoReport}
 
@@ -38,6 +38,8 @@ abbrev pub IsJudged : TraceSpec → ℕ → Judged → List ℕ → Type 0
 IsJudged t bound Linearizable text = IsOrderText t text
 IsJudged t bound (NotLinearizable line) text =
     (k : ℕ) × StandsAtLine t line k text × IsFirstBad t k
+IsJudged t bound (NotLinearizableBy line why) text =
+    (k : ℕ) × StandsAtLine t line k text × IsBadBy t bound k why
 IsJudged t bound (TooMany line) text =
     (k : ℕ) × StandsAtLine t line k text × AnswersPastBound t bound k
 IsJudged t bound (TooOpen line) text = (k : ℕ) × StandsAtLine t line k text × IsCrowded t.events k

@@ -18,17 +18,23 @@ use Rattle.script.specs.Outcome.{by_fault, fault_of_refusal}
 use Rattle.program_fault.specs.declared.fault.ProgramFault.{ProgramFault}
 use Rattle.program_fault.specs.declared.fault.ProgramFault.TheVariants as program
 use Rattle.program_fault.specs.Done.{Does, Output}
+use Rattle.command_verdicts.specs.declared.model.AskedModels.{AskedModels}
 use Rattle.command_verdicts.specs.declared.model.Modelled.{Modelled}
 use Rattle.command_verdicts.specs.declared.model.Modelled.TheVariants.{Obeys, WithoutFences, Wrong}
 use Rattle.command_verdicts.specs.declared.model.Modelled.TheVariants.{OtherShape, OtherOperation}
 
+-- what is asked of a log that says where its fences stand, or doesn't
+abbrev pub options_of : AskedModels → Bool → Options
+options_of asked fences =
+    record { order = asked.order; fences = fences; rvwmo = asked.rvwmo }
+
 -- what is printed of what a log is judged to be: the answer of these models, or, where a reply isn't
 -- due, nothing
 abbrev pub IsModelled : (A : Type 0) → List (List ℕ) → Options → Modelled → List ℕ → Type 0
-IsModelled A lines options (Obeys obeys) text =
+IsModelled A lines options (Obeys obeys weak) text =
     (answer : Answer A) × IsAnswerTo lines options answer × (obeys ≡ answer.obeys)
-    × (text ≡ answer.text.items)
-IsModelled A lines options (WithoutFences obeys) text = ⊥
+    × (weak ≡ answer.weak) × (text ≡ answer.text.items)
+IsModelled A lines options (WithoutFences obeys weak) text = ⊥
 IsModelled A lines options (OtherShape line) text = ⊥
 IsModelled A lines options (OtherOperation line p passed) text = ⊥
 IsModelled A lines options (Wrong wrong) text = IsWrongIn lines wrong × (text ≡ [])
@@ -49,14 +55,14 @@ is_report_text text = starts_with nat_eq text (codes "torusmem ")
 
 -- what is printed of a report: the answer on the log that its operations are, without fences; or,
 -- where a reply isn't due, nothing
-abbrev pub IsReportModelled : (A : Type 0) → List ℕ → Bool → Modelled → List ℕ → Type 0
-IsReportModelled A report order (Obeys obeys) text = ⊥
-IsReportModelled A report order (WithoutFences obeys) text =
-    (answer : Answer A) × IsAnswerToReport report (record { order = order; fences = false }) answer
-    × (obeys ≡ answer.obeys) × (text ≡ answer.text.items)
-IsReportModelled A report order (OtherShape line) text = ⊥
-IsReportModelled A report order (OtherOperation line p passed) text = ⊥
-IsReportModelled A report order (Wrong wrong) text =
+abbrev pub IsReportModelled : (A : Type 0) → List ℕ → AskedModels → Modelled → List ℕ → Type 0
+IsReportModelled A report asked (Obeys obeys weak) text = ⊥
+IsReportModelled A report asked (WithoutFences obeys weak) text =
+    (answer : Answer A) × IsAnswerToReport report (options_of asked false) answer
+    × (obeys ≡ answer.obeys) × (weak ≡ answer.weak) × (text ≡ answer.text.items)
+IsReportModelled A report asked (OtherShape line) text = ⊥
+IsReportModelled A report asked (OtherOperation line p passed) text = ⊥
+IsReportModelled A report asked (Wrong wrong) text =
     HasNoRunAnswer report (Unjudged (WrongAnswer wrong)) × (text ≡ [])
 
 -- a good report has entries and no order lines, and this is its last line; or its log is refused
@@ -73,6 +79,6 @@ IsReportRefusal report (program.Line found) = RefusesReport report found
 IsReportRefusal report _ = ⊥
 
 -- the models that a report obeys were printed
-abbrev pub PrintsModelsOfReport : (A : Type 0) → List ℕ → Bool → Output → Output
+abbrev pub PrintsModelsOfReport : (A : Type 0) → List ℕ → AskedModels → Output → Output
     → Result Modelled ProgramFault → Type 0
-PrintsModelsOfReport A report order = Does (IsReportModelled A report order) (IsReportRefusal report)
+PrintsModelsOfReport A report asked = Does (IsReportModelled A report asked) (IsReportRefusal report)

@@ -21,8 +21,10 @@ use Rattle.program_fault.specs.declared.fault.ProgramFault.{ProgramFault}
 use Rattle.program_fault.specs.declared.fault.ProgramFault.TheVariants as program
 use Rattle.program_fault.specs.Done.{Does, Output}
 use Rattle.program_fault.specs.Outcome.{of_line}
+use Rattle.command_verdicts.specs.declared.model.AskedModels.{AskedModels}
 use Rattle.command_verdicts.specs.declared.model.Modelled.{Modelled}
 use Rattle.command_verdicts.specs.declared.model.Modelled.TheVariants.{Obeys, Wrong, OtherShape, OtherOperation}
+use Rattle.command_verdicts.specs.Modelled.{options_of}
 
 -- what the command answers where the models give no answer
 abbrev pub unanswered : NoTextsAnswer → Result Modelled ProgramFault
@@ -46,12 +48,12 @@ pub record IsUnansweredIssue (m : MachineSpec) (s : ScriptsSpec) (report : List 
 
 -- what is printed of a report with the scripts that were run: the answer of the models, or nothing
 -- where a reply isn't due, or the report isn't one of these scripts
-abbrev pub IsRunModelled : (A : Type 0) → MachineSpec → ScriptsSpec → List ℕ → Bool → Modelled
+abbrev pub IsRunModelled : (A : Type 0) → MachineSpec → ScriptsSpec → List ℕ → AskedModels → Modelled
     → List ℕ → Type 0
-IsRunModelled A m s report order (Obeys obeys) text = (answer : Answer A)
-    × IsAnswerToReportOf m s report (record { order = order; fences = true }) answer
-    × (obeys ≡ answer.obeys) × (text ≡ answer.text.items)
-IsRunModelled A m s report order modelled text = IsUnansweredIssue m s report modelled × (text ≡ [])
+IsRunModelled A m s report asked (Obeys obeys weak) text = (answer : Answer A)
+    × IsAnswerToReportOf m s report (options_of asked true) answer
+    × (obeys ≡ answer.obeys) × (weak ≡ answer.weak) × (text ≡ answer.text.items)
+IsRunModelled A m s report asked modelled text = IsUnansweredIssue m s report modelled × (text ≡ [])
 
 -- a good report has entries and no order lines, and this is its last line; or its log is refused
 pub data RefusesRun (m : MachineSpec) (s : ScriptsSpec) (report : List ℕ) (found : LineFault)
@@ -69,19 +71,19 @@ IsRunModelFault m s report (program.Line found) = RefusesRun m s report found
 IsRunModelFault m s report _ = ⊥
 
 -- the models that a report with its scripts obeys were printed
-abbrev pub PrintsModelsOfRun : (A : Type 0) → MachineSpec → ScriptsSpec → List ℕ → Bool → Output
+abbrev pub PrintsModelsOfRun : (A : Type 0) → MachineSpec → ScriptsSpec → List ℕ → AskedModels → Output
     → Output → Result Modelled ProgramFault → Type 0
-PrintsModelsOfRun A m s report order =
-    Does (IsRunModelled A m s report order) (IsRunModelFault m s report)
+PrintsModelsOfRun A m s report asked =
+    Does (IsRunModelled A m s report asked) (IsRunModelFault m s report)
 
 -- the machine and the scripts are those of texts of these lines
 pub record IsTextsModelled (A : Type 0) (machine scripts : List (List ℕ)) (report : List ℕ)
-    (order : Bool) (modelled : Modelled) (text : List ℕ) : Type 0 where
+    (asked : AskedModels) (modelled : Modelled) (text : List ℕ) : Type 0 where
   pub m : MachineSpec
   pub s : ScriptsSpec
   pub is_machine : machine_of machine ≡ Ok m
   pub are_scripts : scripts_of m scripts ≡ Ok s
-  pub modelled_so : IsRunModelled A m s report order modelled text
+  pub modelled_so : IsRunModelled A m s report asked modelled text
 
 -- the first fault of the machine's text, or else of the scripts', or else of the report
 abbrev pub IsTextsModelFault : List (List ℕ) → List (List ℕ) → List ℕ → ProgramFault → Type 0
@@ -92,8 +94,8 @@ IsTextsModelFault machine scripts report (program.Line found) = (machine_of mach
 IsTextsModelFault machine scripts report _ = ⊥
 
 -- the models that a report with the texts of its run obeys were printed
-abbrev pub PrintsModelsOfTexts : (A : Type 0) → List (List ℕ) → List (List ℕ) → List ℕ → Bool
-    → Output → Output → Result Modelled ProgramFault → Type 0
-PrintsModelsOfTexts A machine scripts report order =
-    Does (IsTextsModelled A machine scripts report order)
+abbrev pub PrintsModelsOfTexts : (A : Type 0) → List (List ℕ) → List (List ℕ) → List ℕ
+    → AskedModels → Output → Output → Result Modelled ProgramFault → Type 0
+PrintsModelsOfTexts A machine scripts report asked =
+    Does (IsTextsModelled A machine scripts report asked)
     (IsTextsModelFault machine scripts report)

@@ -5,6 +5,8 @@ use Rattle.std.specs.Str.Lines.{lines}
 use Rattle.lexer.specs.declared.refusal.Refusal.{Refusal}
 use Rattle.script.specs.declared.fault.LineFault.{LineFault}
 use Rattle.script.specs.Outcome.{fault_of_refusal}
+use Rattle.trace_text.specs.declared.linearize.Unfound.{Unfound}
+use Rattle.trace_text.specs.declared.linearize.Unfound.TheVariants as unfound
 use Rattle.trace_table.specs.declared.reason.TableReason.{TableReason}
 use Rattle.trace_table.specs.declared.row.TableRow.{TableRow}
 use Rattle.trace_table.specs.Reasons.{table_fault_of}
@@ -15,7 +17,7 @@ use Rattle.program_fault.specs.declared.fault.ProgramFault.TheVariants as progra
 use Rattle.program_fault.specs.Done.{Output, Does}
 use Rattle.command_verdicts.specs.declared.command.Judged.{Judged}
 use Rattle.command_verdicts.specs.declared.command.Judged.TheVariants.{Linearizable}
-use Rattle.command_verdicts.specs.declared.command.Judged.TheVariants.{NotLinearizable, TooMany}
+use Rattle.command_verdicts.specs.declared.command.Judged.TheVariants.{NotLinearizable, NotLinearizableBy, TooMany}
 use Rattle.command_verdicts.specs.declared.command.Judged.TheVariants.{TooOpen, NoReport}
 use Rattle.command_verdicts.specs.Judging.{IsJudgement, IsTraceFault}
 use Rattle.command_verdicts.specs.Reporting.{IsReportVerdict}
@@ -26,10 +28,18 @@ pub record IsTraceOfTable (table : List (List ℕ)) (text events : List ℕ) : T
   pub read : table_rows table ≡ Ok rows
   pub made : IsTableText rows text events
 
+-- why the trace text of a table is not judged, with the line of the table
+abbrev pub why_in_table : List ℕ → Unfound → Unfound
+why_in_table events unfound.Memory = unfound.Memory
+why_in_table events (unfound.Configurations line) = unfound.Configurations (table_line events line)
+why_in_table events (unfound.Operations line) = unfound.Operations (table_line events line)
+
 -- a verdict on the trace text of a table, with the lines of the table
 abbrev pub verdict_in_table : List ℕ → Judged → Judged
 verdict_in_table events Linearizable = Linearizable
 verdict_in_table events (NotLinearizable line) = NotLinearizable (table_line events line)
+verdict_in_table events (NotLinearizableBy line why) =
+    NotLinearizableBy (table_line events line) (why_in_table events why)
 verdict_in_table events (TooMany line) = TooMany (table_line events line)
 verdict_in_table events (TooOpen line) = TooOpen (table_line events line)
 verdict_in_table events (NoReport why) = NoReport why

@@ -18,6 +18,9 @@ pub enum Judged {
     Linearizable,
     /// What comes before the event of this line is linearizable, and with it no more.
     NotLinearizable { line: u64 },
+    /// With the event of this line it is linearizable no more; whether what comes before it is isn't decided, for this
+    /// reason.
+    NotLinearizableBy { line: u64, why: Unfound },
     /// It isn't decided: at the answer of this line a word has more configurations than were allowed.
     TooMany { line: u64 },
     /// It isn't decided: at the issue of this line 64 other operations are open on its word.
@@ -49,6 +52,7 @@ pub fn linearize_text<A: Allocator + Copy, W: Out>(
             Ok(Judged::Linearizable)
         }
         Ok(Finding::No { line }) => Ok(Judged::NotLinearizable { line }),
+        Ok(Finding::NoBy { line, why }) => Ok(Judged::NotLinearizableBy { line, why }),
         Err(Unfound::Memory) => Err(ProgramFault::Fault(Fault::Memory)),
         Err(Unfound::Configurations { line }) => Ok(Judged::TooMany { line }),
         Err(Unfound::Operations { line }) => Ok(Judged::TooOpen { line }),

@@ -27,13 +27,15 @@ pub use explaining::{
 pub use explaining_network::explain_verdict;
 pub use hints::begins_table;
 pub use json::{Verdict, json_object, verdict_of_status};
-pub use model::{Modelled, is_report, judged_models_text, model_text, report_models_text};
+pub use model::{
+    AskedModels, Modelled, is_report, judged_models_text, model_text, report_models_text,
+};
 pub use network::{network_text, network_text_once};
 pub use report::report_text;
 pub use run_model::{run_models_text, texts_models_text};
 pub use runs::{lock_up_text, replay_network_text, simulate_text};
 pub use table::{judged_order_text, judged_report_text, linearize_table, report_table};
-pub use told::{judged_verdict, model_status, model_verdict, status, verdict_text};
+pub use told::{judged_verdict, model_status, model_verdict, status, tried_text, verdict_text};
 pub use trace_answer::LineText;
 pub use values::{Decided, decided_status, values_text};
 pub use watched::watched_verdict;

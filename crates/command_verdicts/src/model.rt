@@ -4,8 +4,9 @@ ghost use Rattle.std.specs.Prelude.{◌≡◌, true, false};
 ghost use Rattle.std.specs.Str.Lines.{lines};
 ghost use Rattle.program_fault.specs.Done.{output};
 ghost use Rattle.command_verdicts.specs.Modelled.{PrintsModels, PrintsModelsOfReport, is_report_text};
+ghost use Rattle.command_verdicts.specs.Modelled.{options_of};
 
-use model_answer::{NoAnswer, Obeys, Options, model_answer};
+use model_answer::{NoAnswer, Obeys, Options, WeakAnswer, model_answer};
 use model_text::WrongReply;
 use program_fault::ProgramFault;
 use report_lines::Out;
@@ -19,10 +20,10 @@ use torus::Fault;
 #[derive(Clone, Copy)]
 pub enum Modelled {
     /// Its replies are due, it obeys these models, and the answer is printed.
-    Obeys(Obeys),
+    Obeys(Obeys, WeakAnswer),
     /// The replies of a report are due, its run obeys these models, and the answer is printed. A report
     /// doesn't say where fences stand, so the answer leaves open each model that one could break.
-    WithoutFences(Obeys),
+    WithoutFences(Obeys, WeakAnswer),
     /// This reply isn't the one that is due, so no model is asked, and nothing is printed.
     Wrong(WrongReply),
     /// The report of this line has another shape than the machine that is said to be its own.
@@ -36,6 +37,15 @@ pub enum Modelled {
         processor: u32,
         passed: usize,
     },
+}
+
+/// What is asked beside the verdicts of five models.
+#[derive(Clone, Copy)]
+pub struct AskedModels {
+    /// An order of the strongest model that is obeyed.
+    pub order: bool,
+    /// RISC-V's model, also where a log has no annotations.
+    pub rvwmo: bool,
 }
 
 /// Judges the log of a text by five memory models, and prints a line for each, the cycle of the weakest
@@ -57,7 +67,7 @@ pub fn model_text<A: Allocator + Copy, W: Out>(
     match model_answer(alloc, log, options) {
         Ok(answer) => {
             put_all(out, &answer.text)?;
-            Ok(Modelled::Obeys(answer.obeys))
+            Ok(Modelled::Obeys(answer.obeys, answer.weak))
         }
         Err(NoAnswer::Refused(refusal)) => Err(ProgramFault::from(LineFault::from(refusal))),
         Err(NoAnswer::Wrong(wrong)) => Ok(Modelled::Wrong(wrong)),
@@ -80,18 +90,24 @@ pub fn is_report(text: &[u8]) -> bool
 pub fn report_models_text<A: Allocator + Copy, W: Out>(
     alloc: A,
     report: &[u8],
-    order: bool,
+    asked: AskedModels,
     out: &mut W,
 ) -> Result<Modelled, ProgramFault>
-    ensures { PrintsModelsOfReport A report.now order
+    ensures { PrintsModelsOfReport A report.now asked
         (output (W.taken out.old) (W.failures out.old))
         (output (W.taken out.new) (W.failures out.new)) result }
 {
+    let AskedModels { order, rvwmo } = asked;
     let fences = false;
-    match answer_to_report(alloc, report, Options { order, fences }) {
+    let options = Options {
+        order,
+        fences,
+        rvwmo,
+    };
+    match answer_to_report(alloc, report, options) {
         Ok(answer) => {
             put_all(out, &answer.text)?;
-            Ok(Modelled::WithoutFences(answer.obeys))
+            Ok(Modelled::WithoutFences(answer.obeys, answer.weak))
         }
         Err(NoReportAnswer::Bad { line }) => Err(ProgramFault::Bad(line)),
         Err(NoReportAnswer::NoOrder { line }) => Err(ProgramFault::Line(LineFault {
@@ -115,21 +131,27 @@ pub fn report_models_text<A: Allocator + Copy, W: Out>(
 pub fn judged_models_text<A: Allocator + Copy, W: Out>(
     alloc: A,
     text: &[u8],
-    order: bool,
+    asked: AskedModels,
     out: &mut W,
 ) -> Result<Modelled, ProgramFault>
-    ensures report { is_report_text text.now ≡ true → PrintsModelsOfReport A text.now order
+    ensures report { is_report_text text.now ≡ true → PrintsModelsOfReport A text.now asked
         (output (W.taken out.old) (W.failures out.old))
         (output (W.taken out.new) (W.failures out.new)) result }
     ensures log { is_report_text text.now ≡ false → PrintsModels A (lines text.now)
-        (record { order = order; fences = true })
+        (options_of asked true)
         (output (W.taken out.old) (W.failures out.old))
         (output (W.taken out.new) (W.failures out.new)) result }
 {
     if is_report(text) {
-        report_models_text(alloc, text, order, out)
+        report_models_text(alloc, text, asked, out)
     } else {
+        let AskedModels { order, rvwmo } = asked;
         let fences = true;
-        model_text(alloc, text, Options { order, fences }, out)
+        let options = Options {
+            order,
+            fences,
+            rvwmo,
+        };
+        model_text(alloc, text, options, out)
     }
 }

@@ -71,6 +71,7 @@ pub fn report_text<A: Allocator + Copy, W: Out>(
     match trace.linearize(alloc, configurations as usize) {
         Ok(Finding::Linearizable(order)) => put_report(alloc, &trace, &order, out),
         Ok(Finding::No { line }) => Ok(Judged::NotLinearizable { line }),
+        Ok(Finding::NoBy { line, why }) => Ok(Judged::NotLinearizableBy { line, why }),
         Err(Unfound::Memory) => Err(ProgramFault::Fault(Fault::Memory)),
         Err(Unfound::Configurations { line }) => Ok(Judged::TooMany { line }),
         Err(Unfound::Operations { line }) => Ok(Judged::TooOpen { line }),

@@ -6,7 +6,7 @@ ghost use Rattle.program_fault.specs.Done.{output};
 ghost use Rattle.command_verdicts.specs.RunModelled.{PrintsModelsOfRun, PrintsModelsOfTexts};
 ghost use Rattle.command_verdicts.specs.RunModelled.{unanswered};
 
-use crate::Modelled;
+use crate::{AskedModels, Modelled};
 use model_answer::{NoAnswer, Options};
 use program_fault::ProgramFault;
 use report_lines::Out;
@@ -60,18 +60,24 @@ pub fn run_models_text<A: Allocator + Copy, W: Out>(
     report: &[u8],
     machine: &MachineText<A>,
     scripts: &Scripts<A>,
-    order: bool,
+    asked: AskedModels,
     out: &mut W,
 ) -> Result<Modelled, ProgramFault>
-    ensures { PrintsModelsOfRun A machine.now scripts.now report.now order
+    ensures { PrintsModelsOfRun A machine.now scripts.now report.now asked
         (output (W.taken out.old) (W.failures out.old))
         (output (W.taken out.new) (W.failures out.new)) result }
 {
+    let AskedModels { order, rvwmo } = asked;
     let fences = true;
-    match answer_to_report_of(alloc, report, machine, scripts, Options { order, fences }) {
+    let options = Options {
+        order,
+        fences,
+        rvwmo,
+    };
+    match answer_to_report_of(alloc, report, machine, scripts, options) {
         Ok(answer) => {
             put_all(out, &answer.text)?;
-            Ok(Modelled::Obeys(answer.obeys))
+            Ok(Modelled::Obeys(answer.obeys, answer.weak))
         }
         Err(why) => unanswered(why),
     }
@@ -85,14 +91,14 @@ pub fn texts_models_text<A: Allocator + Copy, W: Out>(
     report: &[u8],
     machine: &[u8],
     scripts: &[u8],
-    order: bool,
+    asked: AskedModels,
     out: &mut W,
 ) -> Result<Modelled, ProgramFault>
-    ensures { PrintsModelsOfTexts A (lines machine.now) (lines scripts.now) report.now order
+    ensures { PrintsModelsOfTexts A (lines machine.now) (lines scripts.now) report.now asked
         (output (W.taken out.old) (W.failures out.old))
         (output (W.taken out.new) (W.failures out.new)) result }
 {
     let machine = read_machine(alloc, machine)?;
     let scripts = read_scripts(alloc, scripts, &machine)?;
-    run_models_text(alloc, report, &machine, &scripts, order, out)
+    run_models_text(alloc, report, &machine, &scripts, asked, out)
 }

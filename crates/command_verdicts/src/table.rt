@@ -9,7 +9,7 @@ ghost use Rattle.command_verdicts.specs.Judging.{PrintsOrder};
 ghost use Rattle.command_verdicts.specs.Reporting.{PrintsReport};
 ghost use Rattle.command_verdicts.specs.Tables.{IsRefusedTable, IsTraceOfTable, PrintsTableOrder};
 ghost use Rattle.command_verdicts.specs.Tables.{PrintsTableReport, answer_in_table, fault_in_table};
-ghost use Rattle.command_verdicts.specs.Tables.{verdict_in_table};
+ghost use Rattle.command_verdicts.specs.Tables.{verdict_in_table, why_in_table};
 
 use crate::command::{Judged, linearize_text};
 use crate::hints::begins_table;
@@ -19,6 +19,22 @@ use report_lines::Out;
 use script::LineFault;
 use std::alloc::Allocator;
 use trace_table::{TableTrace, read_table};
+use trace_text::Unfound;
+
+/// Why the trace text of a table is not judged, with the line of the table.
+fn why_in_table<A: Allocator>(trace: &TableTrace<A>, why: Unfound) -> Unfound
+    ensures { result ≡ why_in_table trace.now.lines.items why }
+{
+    match why {
+        Unfound::Memory => Unfound::Memory,
+        Unfound::Configurations { line } => Unfound::Configurations {
+            line: trace.table_line(line),
+        },
+        Unfound::Operations { line } => Unfound::Operations {
+            line: trace.table_line(line),
+        },
+    }
+}
 
 /// A verdict on the trace text of a table, with the lines of the table.
 pub(crate) fn verdict_in_table<A: Allocator>(trace: &TableTrace<A>, verdict: Judged) -> Judged
@@ -28,6 +44,10 @@ pub(crate) fn verdict_in_table<A: Allocator>(trace: &TableTrace<A>, verdict: Jud
         Judged::Linearizable => Judged::Linearizable,
         Judged::NotLinearizable { line } => Judged::NotLinearizable {
             line: trace.table_line(line),
+        },
+        Judged::NotLinearizableBy { line, why } => Judged::NotLinearizableBy {
+            line: trace.table_line(line),
+            why: why_in_table(trace, why),
         },
         Judged::TooMany { line } => Judged::TooMany {
             line: trace.table_line(line),

@@ -2,14 +2,14 @@
 //! ends with.
 
 ghost use Rattle.std.specs.Prelude.{◌≡◌, option_map};
-ghost use Rattle.command_verdicts.specs.Told.{judged_status, unfit_text, verdict_text_of};
-ghost use Rattle.command_verdicts.specs.Told.{is_obeyed, modelled_status, told_status};
+ghost use Rattle.command_verdicts.specs.Told.{judged_status, tried_text, unfit_text, verdict_text_of};
+ghost use Rattle.command_verdicts.specs.Told.{is_obeyed, modelled_status, told_status, status_by};
 ghost use Rattle.command_verdicts.specs.Told.{judged_verdict, modelled_verdict};
 
 use crate::{Judged, Modelled, Verdict, verdict_of_status};
-use model_answer::{MemoryModel, Obeys, is_told};
+use model_answer::{AskedModel, MemoryModel, Obeys, WeakAnswer, is_rvwmo_told, is_told};
 use program_fault::{ProgramFault, status_of};
-use trace_answer::{LineText, Unfit, not_linearizable, undecided};
+use trace_answer::{LineText, Unfit, not_linearizable, not_linearizable_by, undecided};
 use trace_text::Unfound;
 
 /// Why an order has no report. It has no line feed. `None` where memory was refused.
@@ -31,7 +31,7 @@ fn unfit_text(why: Unfit) -> Option<LineText>
 }
 
 /// What is said where nothing was printed, with at most so many configurations of a word at once:
-/// the line from which on there is no order, or at which the trace isn't decided and why; or why
+/// the line from which on there is no order, at the latest where that is all that is decided, or at which the trace isn't decided and why; or why
 /// the order has no report. It has no line feed. `None` where an order or its report was printed.
 pub fn verdict_text(judged: Judged, configurations: u64) -> Option<LineText>
     ensures { option_map (λ t. t.bytes) result ≡ verdict_text_of judged configurations }
@@ -39,9 +39,24 @@ pub fn verdict_text(judged: Judged, configurations: u64) -> Option<LineText>
     match judged {
         Judged::Linearizable => None,
         Judged::NotLinearizable { line } => Some(not_linearizable(line)),
+        Judged::NotLinearizableBy { line, why } => not_linearizable_by(line, why, configurations),
         Judged::TooMany { line } => undecided(Unfound::Configurations { line }, configurations),
         Judged::TooOpen { line } => undecided(Unfound::Operations { line }, configurations),
         Judged::NoReport { why } => unfit_text(why),
+    }
+}
+
+/// What was tried where a trace isn't decided with at most so many configurations of a word at once, behind the words that
+/// say so; nothing where that was one search alone.
+pub fn tried_text(configurations: u64) -> &'static str
+    ensures { result.now ≡ tried_text configurations }
+{
+    if configurations < 1024 {
+        ""
+    } else if configurations <= 4096 {
+        "; zones, a guess and all configurations were tried"
+    } else {
+        "; zones, a guess, a search depth first and all configurations were tried"
     }
 }
 
@@ -54,6 +69,7 @@ pub fn status(answer: &Result<Judged, ProgramFault>) -> u8
     match answer {
         Ok(Judged::Linearizable) => 0,
         Ok(Judged::NotLinearizable { .. }) => 1,
+        Ok(Judged::NotLinearizableBy { .. }) => 1,
         Ok(Judged::TooMany { .. }) => 5,
         Ok(Judged::TooOpen { .. }) => 5,
         Ok(Judged::NoReport { .. }) => 1,
@@ -81,17 +97,31 @@ fn told_status(told: bool, obeyed: bool) -> u8
     if told { u8::from(!obeyed) } else { 5 }
 }
 
+/// The status by a model of a log that says where its fences stand, or doesn't. RISC-V's has none where it
+/// wasn't asked.
+fn status_by(fences: bool, obeys: Obeys, weak: WeakAnswer, model: AskedModel) -> u8
+    ensures { result ≡ status_by fences obeys weak model }
+{
+    match model {
+        AskedModel::Rules(model) => {
+            told_status(is_told(weak.doubts, obeys, model), is_obeyed(obeys, model))
+        }
+        AskedModel::Rvwmo => match weak.obeyed {
+            None => 5,
+            Some(obeyed) => told_status(is_rvwmo_told(fences, obeys, obeyed), obeyed),
+        },
+    }
+}
+
 /// The status that the program ends with where a log or a report was judged: 0 where it obeys the
-/// model, 1 where it doesn't or a reply is wrong, 5 where it is a report whose fences may forbid
-/// what it shows.
-pub fn model_status(modelled: Modelled, model: MemoryModel) -> u8
+/// model, 1 where it doesn't or a reply is wrong, 5 where neither is told: a report has no fences, and
+/// a log may have annotations that the model doesn't know.
+pub fn model_status(modelled: Modelled, model: AskedModel) -> u8
     ensures { result ≡ modelled_status modelled model }
 {
     match modelled {
-        Modelled::Obeys(obeys) => u8::from(!is_obeyed(obeys, model)),
-        Modelled::WithoutFences(obeys) => {
-            told_status(is_told(false, obeys, model), is_obeyed(obeys, model))
-        }
+        Modelled::Obeys(obeys, weak) => status_by(true, obeys, weak, model),
+        Modelled::WithoutFences(obeys, weak) => status_by(false, obeys, weak, model),
         Modelled::Wrong(_) => 1,
         Modelled::OtherShape { .. } => 1,
         Modelled::OtherOperation { .. } => 1,
@@ -106,6 +136,7 @@ pub fn judged_verdict(judged: Judged) -> Verdict
     match judged {
         Judged::Linearizable => Verdict::Yes,
         Judged::NotLinearizable { .. } => Verdict::No,
+        Judged::NotLinearizableBy { .. } => Verdict::No,
         Judged::TooMany { .. } => Verdict::Undecided,
         Judged::TooOpen { .. } => Verdict::Undecided,
         Judged::NoReport { .. } => Verdict::Fault,
@@ -114,7 +145,7 @@ pub fn judged_verdict(judged: Judged) -> Verdict
 
 /// What a log or a report is judged to be by a model in one word. Where a report isn't of its
 /// texts, that is a fault.
-pub fn model_verdict(modelled: Modelled, model: MemoryModel) -> Verdict
+pub fn model_verdict(modelled: Modelled, model: AskedModel) -> Verdict
     ensures { result ≡ modelled_verdict modelled model }
 {
     match modelled {

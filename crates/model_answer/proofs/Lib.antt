@@ -1,3 +1,4 @@
 pub mod Asked
 pub mod Grown
 pub mod Told
+pub mod Weakly

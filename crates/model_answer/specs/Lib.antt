@@ -3,3 +3,4 @@ pub mod Judged
 pub mod Model
 pub mod Replies
 pub mod Texts
+pub mod Weak

@@ -16,7 +16,15 @@ use Rattle.memory_models.specs.Trace.{operation_at}
 use Rattle.memory_models.specs.Verdict.{step_at}
 use Rattle.model_text.specs.declared.logged.Logged.{Logged}
 use Rattle.model_text.specs.Traces.{logged_at, place_in}
+use Rattle.weak_models.specs.declared.verdict.PreservedRule.{PreservedRule}
+use Rattle.weak_models.specs.declared.verdict.PreservedRule.TheVariants as by
+use Rattle.weak_models.specs.declared.verdict.Reason.{Reason}
+use Rattle.weak_models.specs.declared.verdict.Reason.TheVariants as weak
+use Rattle.weak_models.specs.declared.verdict.ReasonedStep.{ReasonedStep}
+use Rattle.weak_models.specs.Arcs.{reasoned_at}
 use Rattle.model_answer.specs.declared.judged.Obeys.{Obeys}
+use Rattle.model_answer.specs.declared.weak.Doubts.{Doubts}
+use Rattle.model_answer.specs.declared.weak.WeakAnswer.{WeakAnswer}
 use Rattle.model_answer.specs.declared.model.MemoryModel.{MemoryModel}
 use Rattle.model_answer.specs.declared.model.MemoryModel.TheVariants.{Coherent, Fenced, Pso, Tso, Sc}
 use Rattle.model_answer.specs.Model.{model_word}
@@ -26,27 +34,50 @@ abbrev pub model_line : MemoryModel → Bool → List ℕ
 model_line model true = model_word model ++ codes " yes\n"
 model_line model false = model_word model ++ codes " no\n"
 
--- whether there is a yes or a no of a model, where a log has its fences or not: a fence may turn a
--- yes into a no by the rules of fences and of buffers, but no no into a yes, and nothing where the
--- log is sequentially consistent
-abbrev pub is_told : Bool → Obeys → MemoryModel → Bool
-is_told fences o Coherent = true
-is_told fences o Fenced = (fences || o.sc) || not o.fenced
-is_told fences o Pso = (fences || o.sc) || not o.pso
-is_told fences o Tso = (fences || o.sc) || not o.tso
-is_told fences o Sc = true
+-- whether there is a yes or a no of a model by rules. What is left out may turn a yes into a no, but
+-- not where the log is sequentially consistent; what counts as too strong may turn a no into a yes,
+-- but not where the log isn't coherent
+abbrev pub is_certain : Doubts → Obeys → Bool → Bool
+is_certain doubts o true = not doubts.more || o.sc
+is_certain doubts o false = not doubts.less || not o.coherent
+
+abbrev pub is_told : Doubts → Obeys → MemoryModel → Bool
+is_told doubts o Coherent = true
+is_told doubts o Fenced = is_certain doubts o o.fenced
+is_told doubts o Pso = is_certain doubts o o.pso
+is_told doubts o Tso = is_certain doubts o o.tso
+is_told doubts o Sc = true
+
+-- why there is neither
+abbrev pub untold_text : Bool → List ℕ
+untold_text true = codes " not told: the log has annotations or weaker fences\n"
+untold_text false = codes " not told: a report has no fences\n"
 
 -- the line of a model, with a yes or a no or neither
-abbrev pub told_line : MemoryModel → Bool → Bool → List ℕ
-told_line model true obeyed = model_line model obeyed
-told_line model false obeyed = model_word model ++ codes " not told: a report has no fences\n"
+abbrev pub told_line : Bool → MemoryModel → Bool → Bool → List ℕ
+told_line fences model true obeyed = model_line model obeyed
+told_line fences model false obeyed = model_word model ++ untold_text fences
 
--- the lines of the models, weakest first
-abbrev pub obeys_text : Bool → Obeys → List ℕ
-obeys_text fences o = model_line Coherent o.coherent
-    ++ told_line Fenced (is_told fences o Fenced) o.fenced
-    ++ told_line Pso (is_told fences o Pso) o.pso
-    ++ told_line Tso (is_told fences o Tso) o.tso ++ model_line Sc o.sc
+-- that of RISC-V's model, where it is asked; a fence that a report leaves out may turn a yes into a no
+abbrev pub rvwmo_line : Bool → Bool → List ℕ
+rvwmo_line true true = codes "rvwmo yes\n"
+rvwmo_line true false = codes "rvwmo no\n"
+rvwmo_line false obeyed = codes "rvwmo" ++ untold_text false
+
+abbrev pub is_rvwmo_told : Bool → Obeys → Bool → Bool
+is_rvwmo_told fences o obeyed = (fences || o.sc) || not obeyed
+
+abbrev pub rvwmo_text : Bool → Obeys → Option Bool → List ℕ
+rvwmo_text fences o None = []
+rvwmo_text fences o (Some obeyed) = rvwmo_line (is_rvwmo_told fences o obeyed) obeyed
+
+-- the lines of the models, weakest first; RISC-V's behind `fenced`
+abbrev pub obeys_text : Bool → Obeys → WeakAnswer → List ℕ
+obeys_text fences o w = model_line Coherent o.coherent
+    ++ told_line fences Fenced (is_told w.doubts o Fenced) o.fenced
+    ++ rvwmo_text fences o w.obeyed
+    ++ told_line fences Pso (is_told w.doubts o Pso) o.pso
+    ++ told_line fences Tso (is_told w.doubts o Tso) o.tso ++ model_line Sc o.sc
 
 -- some values, each behind a space
 abbrev pub values_text : List ℕ → List ℕ
@@ -95,6 +126,44 @@ abbrev pub cycle_text : List Logged → List Operation → List Step → List Wh
 cycle_text logged ops steps whys =
     flat_map (arc_text logged ops steps whys) (range_with_len 0 (length steps))
     ++ step_text (logged_at logged (step_at steps 0).from)
+
+-- the rule of preserved program order by which one operation comes before the next, with the manual's
+-- number
+abbrev pub rule_text : PreservedRule → List ℕ
+rule_text by.SameWordStore = codes "  before, by rule 1: a store on the same word\n"
+rule_text by.DifferentReads =
+    codes "  before, by rule 2: loads on one word that read different writes\n"
+rule_text by.AtomicSource =
+    codes "  before, by rule 3: a load of what an atomic or a conditional store wrote\n"
+rule_text by.Fenced = codes "  before, by rule 4: a fence between them\n"
+rule_text by.Acquire = codes "  before, by rule 5: an acquire\n"
+rule_text by.Release = codes "  before, by rule 6: a release\n"
+rule_text by.BothRcsc = codes "  before, by rule 7: RCsc annotations on both\n"
+rule_text by.Paired = codes "  before, by rule 8: a load reserved and its conditional store\n"
+rule_text by.AddressDependency = codes "  before, by rule 9: an address dependency\n"
+rule_text by.DataDependency = codes "  before, by rule 10: a data dependency\n"
+rule_text by.ControlDependency = codes "  before, by rule 11: a control dependency of a store\n"
+rule_text by.ThroughStore = codes "  before, by rule 12: a load of what a dependent store wrote\n"
+rule_text by.BehindAddress = codes "  before, by rule 13: a store behind an address dependency\n"
+
+-- why one operation comes before the next by RISC-V's model
+abbrev pub weak_reason_text : Reason → Kind → List ℕ
+weak_reason_text (weak.Preserved rule) k = rule_text rule
+weak_reason_text weak.Read k = reason_text why.Read k
+weak_reason_text weak.Overwritten k = reason_text why.Overwritten k
+weak_reason_text weak.Stale k = reason_text why.Stale k
+weak_reason_text weak.Atomicity k = codes "  ends its pair before\n"
+
+-- the lines of a step by RISC-V's model, and of a cycle of such steps
+abbrev pub weak_arc_text : List Logged → List Operation → List ReasonedStep → ℕ → List ℕ
+weak_arc_text logged ops steps k =
+    step_text (logged_at logged (reasoned_at steps k).from)
+    ++ weak_reason_text (reasoned_at steps k).why (operation_at ops (reasoned_at steps k).from).kind
+
+abbrev pub weak_cycle_text : List Logged → List Operation → List ReasonedStep → List ℕ
+weak_cycle_text logged ops steps =
+    flat_map (weak_arc_text logged ops steps) (range_with_len 0 (length steps))
+    ++ step_text (logged_at logged (reasoned_at steps 0).from)
 
 -- the line of an operation in the order; none for an opening store
 abbrev pub turn_line : ℕ → List Logged → ℕ → List ℕ

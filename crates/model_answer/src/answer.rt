@@ -1,18 +1,17 @@
 //! Which memory models a log obeys.
 
-ghost use Rattle.std.specs.Prelude.{◌≡◌, ◌+◌, IfOk, IfErr, OnOk};
+ghost use Rattle.std.specs.Prelude.{◌+◌, IfOk, IfErr};
 ghost use Rattle.std.specs.Str.Lines.{lines};
 ghost use Rattle.memory_models.specs.Trace.{IsMemoryTrace};
-ghost use Rattle.model_answer.specs.Answer.{AddsPart, IsAskedPart};
 ghost use Rattle.model_answer.specs.Answer.{IsAnswerOn, IsNoAnswerOn, IsAnswerTo, IsNoAnswerTo};
 ghost use Rattle.model_answer.specs.Answer.{IsAnswer, IsAnswerText};
 ghost use Rattle.model_text.specs.Views.{log_so_far};
 ghost use Rattle.model_answer.specs.Judged.{AreVerdicts};
 
-use crate::cycle::put_failing;
+use crate::choosing::{put_asked, put_failing};
 use crate::judged::{Obeys, Verdicts, verdicts_of};
-use crate::order::put_strongest;
 use crate::text::put_obeys;
+use crate::weak::{Weak, WeakAnswer, weak_of};
 use lexer::Refusal;
 use model_text::{Log, LogReason, LogTrace, WrongReply, read_log, replies_of, trace_of_log};
 use std::alloc::{AllocError, Allocator, Global};
@@ -25,6 +24,8 @@ pub struct Options {
     /// Whether the log says where fences stand. If not, the line of a model has neither yes nor no where a
     /// fence may forbid what the log shows, and no order by its rules is printed.
     pub fences: bool,
+    /// RISC-V's model, also where the log has no annotations.
+    pub rvwmo: bool,
 }
 
 /// Which models a log obeys, and what is printed of it.
@@ -32,6 +33,8 @@ pub struct Options {
 pub struct Answer<A: Allocator = Global> {
     /// Which models the log obeys.
     pub obeys: Obeys,
+    /// Whether it obeys RISC-V's, where that is asked, and what the others leave out of the log.
+    pub weak: WeakAnswer,
     /// The lines that are printed.
     pub text: Vec<u8, A>,
 }
@@ -47,25 +50,6 @@ pub enum NoAnswer {
     Memory,
 }
 
-/// Adds the order of the strongest model that a trace obeys, where it is asked for.
-fn put_asked<A: Allocator + Copy>(
-    alloc: A,
-    text: &mut Vec<u8, A>,
-    trace: &LogTrace<A>,
-    verdicts: &Verdicts<A>,
-    fences: bool,
-    order: bool,
-) -> Result<(), AllocError>
-    ensures { OnOk result (AddsPart text.old.items text.new.items
-        (IsAskedPart trace.now verdicts.now fences order)) }
-{
-    if !order {
-        return Ok(());
-    }
-    put_strongest(alloc, text, trace, verdicts, fences)?;
-    Ok(())
-}
-
 /// What is printed of the verdicts on a trace.
 ///
 /// Errors: out of memory.
@@ -73,38 +57,50 @@ fn text_of<A: Allocator + Copy>(
     alloc: A,
     trace: &LogTrace<A>,
     verdicts: &Verdicts<A>,
+    weak: &Weak<A>,
     options: Options,
 ) -> Result<Vec<u8, A>, AllocError>
     requires trace { IsMemoryTrace (trace.now.openings + 1) trace.now.operations.items
         trace.now.writes.items }
     requires verdicts { AreVerdicts trace.now.operations.items trace.now.writes.items
         verdicts.now }
-    ensures { IfOk result (λ text. IsAnswerText trace.now verdicts.now options text.items) }
+    ensures { IfOk result (λ text.
+        IsAnswerText trace.now verdicts.now weak.now options text.items) }
 {
     let mut text = Vec::new(alloc);
-    let Options { order, fences } = options;
-    put_obeys(&mut text, fences, verdicts.obeys())?;
-    put_failing(alloc, &mut text, trace, verdicts)?;
-    put_asked(alloc, &mut text, trace, verdicts, fences, order)?;
+    put_obeys(&mut text, options.fences, verdicts.obeys(), weak.answer())?;
+    put_failing(alloc, &mut text, trace, verdicts, weak)?;
+    put_asked(
+        alloc,
+        &mut text,
+        trace,
+        verdicts,
+        weak,
+        options.fences,
+        options.order,
+    )?;
     Ok(text)
 }
 
-/// The answer on a trace.
+/// The answer on the trace of a log.
 ///
 /// Errors: out of memory.
 fn answer_on<A: Allocator + Copy>(
     alloc: A,
+    log: &Log<A>,
     trace: &LogTrace<A>,
     options: Options,
 ) -> Result<Answer<A>, AllocError>
     requires { IsMemoryTrace (trace.now.openings + 1) trace.now.operations.items
         trace.now.writes.items }
-    ensures { IfOk result (IsAnswer trace.now options) }
+    ensures { IfOk result (IsAnswer (log_so_far log.now) trace.now options) }
 {
     let verdicts = verdicts_of(alloc, trace)?;
-    let text = text_of(alloc, trace, &verdicts, options)?;
+    let weak = weak_of(alloc, log, trace, options)?;
+    let text = text_of(alloc, trace, &verdicts, &weak, options)?;
     Ok(Answer {
         obeys: verdicts.obeys(),
+        weak: weak.answer(),
         text,
     })
 }
@@ -129,7 +125,7 @@ pub fn answer_to_log<A: Allocator + Copy>(
         Ok(Some(wrong)) => return Err(NoAnswer::Wrong(wrong)),
         Err(_) => return Err(NoAnswer::Memory),
     }
-    match answer_on(alloc, &trace, options) {
+    match answer_on(alloc, log, &trace, options) {
         Ok(answer) => Ok(answer),
         Err(_) => Err(NoAnswer::Memory),
     }

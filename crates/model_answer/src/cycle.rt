@@ -1,4 +1,4 @@
-//! The cycle of the weakest model that a trace breaks, in words.
+//! A cycle of a model by rules that a trace breaks, in words.
 
 ghost use Rattle.std.specs.Prelude.{◌≡◌, ◌⊎◌, ◌++◌, ◌+◌, ◌<◌, ℕ, IfOk, OnOk, length};
 ghost use Rattle.memory_models.specs.Trace.{IsMemoryTrace, rule_at, operation_at};
@@ -6,14 +6,11 @@ ghost use Rattle.memory_models.specs.Arcs.{IsChained};
 ghost use Rattle.memory_models.specs.Following.{IsChainedOn};
 ghost use Rattle.memory_models.specs.Verdict.{AreAround, IsModelVerdict};
 ghost use Rattle.model_text.specs.Traces.{logged_at};
-ghost use Rattle.model_answer.specs.Answer.{AreWhys, TellsCycle, IsCyclePart, IsCycleOf, AddsPart};
+ghost use Rattle.model_answer.specs.Answer.{AreWhys, TellsCycle, IsCycleOf, AddsPart};
 ghost use Rattle.model_answer.specs.Answer.{cycle_heading};
-ghost use Rattle.model_answer.specs.Answer.{weakest_broken, obeys_of};
-ghost use Rattle.model_answer.specs.Judged.{AreVerdicts};
 ghost use Rattle.model_answer.specs.Model.{rules_of_model};
 ghost use Rattle.model_answer.specs.Texts.{cycle_text, reason_text, step_text};
 
-use crate::judged::{Obeys, Verdicts};
 use crate::model::MemoryModel;
 use crate::shorten::short_cycle;
 use crate::text::{put, put_step};
@@ -44,7 +41,11 @@ fn whys_of<A: Allocator + Copy>(
 }
 
 /// Adds the words of a reason, behind an operation of a kind.
-fn put_reason<A: Allocator>(text: &mut Vec<u8, A>, why: Why, kind: Kind) -> Result<(), AllocError>
+pub(crate) fn put_reason<A: Allocator>(
+    text: &mut Vec<u8, A>,
+    why: Why,
+    kind: Kind,
+) -> Result<(), AllocError>
     ensures { OnOk result (text.new.items ≡ text.old.items ++ reason_text why kind) }
 {
     match why {
@@ -120,28 +121,6 @@ fn put_short<A: Allocator + Copy>(
     Ok(())
 }
 
-/// The weakest model that a trace breaks.
-fn weakest_broken(obeys: Obeys) -> Option<MemoryModel>
-    ensures { result ≡ weakest_broken obeys }
-{
-    if !obeys.coherent {
-        return Some(MemoryModel::Coherent);
-    }
-    if !obeys.fenced {
-        return Some(MemoryModel::Fenced);
-    }
-    if !obeys.pso {
-        return Some(MemoryModel::Pso);
-    }
-    if !obeys.tso {
-        return Some(MemoryModel::Tso);
-    }
-    if !obeys.sc {
-        return Some(MemoryModel::Sc);
-    }
-    None
-}
-
 /// Adds the line before a cycle.
 fn put_heading<A: Allocator>(text: &mut Vec<u8, A>, model: MemoryModel) -> Result<(), AllocError>
     ensures { OnOk result (text.new.items ≡ text.old.items ++ cycle_heading model) }
@@ -174,33 +153,8 @@ fn put_cycle_of<A: Allocator + Copy>(
     Ok(())
 }
 
-/// Adds the cycle of the weakest model that a trace breaks; nothing where it obeys each.
-///
-/// Errors: out of memory.
-pub(crate) fn put_failing<A: Allocator + Copy>(
-    alloc: A,
-    text: &mut Vec<u8, A>,
-    trace: &LogTrace<A>,
-    verdicts: &Verdicts<A>,
-) -> Result<(), AllocError>
-    requires trace { IsMemoryTrace (trace.now.openings + 1) trace.now.operations.items
-        trace.now.writes.items }
-    requires verdicts { AreVerdicts trace.now.operations.items trace.now.writes.items
-        verdicts.now }
-    ensures { OnOk result (AddsPart text.old.items text.new.items
-        (IsCyclePart trace.now verdicts.now (weakest_broken (obeys_of verdicts.now)))) }
-{
-    match weakest_broken(verdicts.obeys()) {
-        None => Ok(()),
-        Some(model) => {
-            put_verdict_of(alloc, text, trace, model, verdicts.by(model))?;
-            Ok(())
-        }
-    }
-}
-
 /// Adds the cycle of a model, if its verdict is one.
-fn put_verdict_of<A: Allocator + Copy>(
+pub(crate) fn put_verdict_of<A: Allocator + Copy>(
     alloc: A,
     text: &mut Vec<u8, A>,
     trace: &LogTrace<A>,

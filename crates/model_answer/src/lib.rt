@@ -4,6 +4,7 @@
 
 pub mod answer;
 mod arrows;
+mod choosing;
 mod cycle;
 pub mod judged;
 pub mod model;
@@ -11,9 +12,12 @@ pub mod order;
 pub mod sentence;
 mod shorten;
 pub mod text;
+pub mod weak;
+mod weak_cycle;
 
 pub use answer::{Answer, NoAnswer, Options, answer_to_log, model_answer};
 pub use judged::{Obeys, Verdicts, verdicts_of};
-pub use model::MemoryModel;
+pub use model::{AskedModel, MemoryModel};
 pub use sentence::{LogSentence, WrongSentence};
-pub use text::is_told;
+pub use text::{is_rvwmo_told, is_told};
+pub use weak::{Doubts, WeakAnswer};

@@ -1,7 +1,7 @@
 //! The memory models that are asked of a log.
 
 ghost use Rattle.std.specs.Prelude.{◌≡◌, IfOk, false};
-ghost use Rattle.model_answer.specs.Model.{model_word, model_named, rules_of_model};
+ghost use Rattle.model_answer.specs.Model.{model_word, model_named, rules_of_model, asked_named};
 
 use memory_models::{Kinds, Rule};
 use std::alloc::{AllocError, Allocator};
@@ -19,6 +19,29 @@ pub enum MemoryModel {
     Tso,
     /// Sequential consistency.
     Sc,
+}
+
+/// A model that is asked of a log: one by rules of kinds of operations, or RISC-V's, RVWMO, which has
+/// rules of annotations and dependencies, too.
+#[derive(Clone, Copy, Debug, PartialEq, Eq)]
+pub enum AskedModel {
+    Rules(MemoryModel),
+    Rvwmo,
+}
+
+impl AskedModel {
+    /// The model that a word names.
+    pub fn named(word: &str) -> Option<AskedModel>
+        ensures { result ≡ asked_named word.now }
+    {
+        if word == "rvwmo" {
+            return Some(AskedModel::Rvwmo);
+        }
+        match MemoryModel::named(word) {
+            Some(model) => Some(AskedModel::Rules(model)),
+            None => None,
+        }
+    }
 }
 
 /// All kinds of operations.

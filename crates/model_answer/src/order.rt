@@ -1,11 +1,11 @@
-//! The order of the strongest model that a trace obeys.
+//! The order of a model by rules that a trace obeys.
 
 ghost use Rattle.std.specs.Prelude.{◌≡◌, ◌++◌, OnOk};
-ghost use Rattle.model_answer.specs.Answer.{AddsPart, IsOrderPart, IsOrderOfLog, strongest_obeyed, obeys_of};
+ghost use Rattle.model_answer.specs.Answer.{AddsPart, IsOrderOfLog, strongest_obeyed};
 ghost use Rattle.model_answer.specs.Answer.{order_heading};
 ghost use Rattle.model_answer.specs.Texts.{turn_line, turns_text};
 
-use crate::judged::{Obeys, Verdicts};
+use crate::judged::Obeys;
 use crate::model::MemoryModel;
 use crate::text::{put, put_step};
 use memory_models::Verdict;
@@ -89,7 +89,7 @@ pub fn put_heading<A: Allocator>(
 }
 
 /// Adds the order of a model, if its verdict is one.
-fn put_verdict_of<A: Allocator + Copy>(
+pub(crate) fn put_verdict_of<A: Allocator + Copy>(
     alloc: A,
     text: &mut Vec<u8, A>,
     trace: &LogTrace<A>,
@@ -104,29 +104,6 @@ fn put_verdict_of<A: Allocator + Copy>(
         Verdict::Ordered(turns) => {
             put_heading(text, model)?;
             put_order(alloc, text, trace.openings, &trace.steps, turns)?;
-            Ok(())
-        }
-    }
-}
-
-/// Adds the order of the strongest model that a trace obeys, behind its heading; nothing where it
-/// obeys none.
-///
-/// Errors: out of memory.
-pub(crate) fn put_strongest<A: Allocator + Copy>(
-    alloc: A,
-    text: &mut Vec<u8, A>,
-    trace: &LogTrace<A>,
-    verdicts: &Verdicts<A>,
-    fences: bool,
-) -> Result<(), AllocError>
-    ensures { OnOk result (AddsPart text.old.items text.new.items
-        (IsOrderPart trace.now verdicts.now (strongest_obeyed fences (obeys_of verdicts.now)))) }
-{
-    match strongest_obeyed(fences, verdicts.obeys()) {
-        None => Ok(()),
-        Some(model) => {
-            put_verdict_of(alloc, text, trace, model, verdicts.by(model))?;
             Ok(())
         }
     }

@@ -45,7 +45,7 @@ fn text_of(reason: LogReason) -> &'static str {
     match reason {
         LogReason::Line(why) => line_text(why),
         LogReason::UnknownKeyword => {
-            "A: a line begins with words, init, made, wrote, read, served or replied"
+            "A: a line begins with words, init, made, wrote, read, served, replied or depends"
         }
         LogReason::WordCount(_) => "A: behind it K",
         LogReason::NotSource => "D: from or opening belongs there",
@@ -64,6 +64,20 @@ fn text_of(reason: LogReason) -> &'static str {
         }
         LogReason::RepliedTwice => "replied: the reply of the operation is given already",
         LogReason::ReplyMissing => "made: no replied line gives what the operation found",
+        LogReason::NotAnnotation => {
+            "C: behind its operands stand reserved of a load or conditional of a store, acquire, release, and rcpc behind these"
+        }
+        LogReason::NotFenceOrder => {
+            "fence: behind it stands tso, or what is before and behind it, each r, w or rw"
+        }
+        LogReason::NotReserved => "conditional: no load reserved of the processor is left for it",
+        LogReason::ReservedWord => "conditional: the load reserved before it is on another word",
+        LogReason::NotOn => "D: on belongs there",
+        LogReason::NotDependency => "F: address, data or control belongs there",
+        LogReason::NotBehind => "depends: an operation depends on one before it",
+        LogReason::GivesNothing =>
+            "depends: a store gives its processor nothing, but a conditional one",
+        LogReason::DataOfLoad => "depends: a load has no data that it writes",
     }
 }
 
@@ -77,6 +91,9 @@ fn words_text(keyword: LogKeyword) -> &'static str {
         }
         LogKeyword::Served => "stand a processor and an index",
         LogKeyword::Replied => "stand a processor, an index and a reply",
+        LogKeyword::Depends => {
+            "stand a processor and an index, on, an index before it, and address, data or control"
+        }
     }
 }
 

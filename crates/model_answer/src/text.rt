@@ -2,12 +2,13 @@
 
 ghost use Rattle.std.specs.Prelude.{◌≡◌, ◌++◌, OnOk, decimal, codes};
 ghost use Rattle.model_answer.specs.Texts.{model_line, obeys_text, told_line, operation_text, values_text};
-ghost use Rattle.model_answer.specs.Texts.{is_told};
+ghost use Rattle.model_answer.specs.Texts.{is_certain, is_told, is_rvwmo_told, rvwmo_line, rvwmo_text, untold_text};
 ghost use Rattle.packet.specs.Names.{values_listed};
 ghost use Rattle.model_answer.specs.Texts.{step_text, fence_or_operation};
 
 use crate::judged::Obeys;
 use crate::model::MemoryModel;
+use crate::weak::{Doubts, WeakAnswer};
 use itoa::Buffer;
 use model_text::Logged;
 use packet::{Operation, Values};
@@ -53,35 +54,102 @@ pub fn put_verdict<A: Allocator>(
     }
 }
 
-/// Whether there is a yes or a no of a model, where a log says where its fences stand or not. A fence
-/// may turn a yes into a no, but not of coherence, nor where the log is sequentially consistent; and it
-/// turns no no into a yes.
-pub fn is_told(fences: bool, obeys: Obeys, model: MemoryModel) -> bool
-    ensures { result ≡ is_told fences obeys model }
+/// Whether a yes or a no of a model by rules is certain. What these models leave out may turn a yes into
+/// a no, but not where the log is sequentially consistent; what they count as too strong may turn a no
+/// into a yes, but not where the log isn't coherent.
+fn is_certain(doubts: Doubts, obeys: Obeys, obeyed: bool) -> bool
+    ensures { result ≡ is_certain doubts obeys obeyed }
+{
+    if obeyed {
+        !doubts.more || obeys.sc
+    } else {
+        !doubts.less || !obeys.coherent
+    }
+}
+
+/// Whether there is a yes or a no of a model, by what the models leave out of a log.
+pub fn is_told(doubts: Doubts, obeys: Obeys, model: MemoryModel) -> bool
+    ensures { result ≡ is_told doubts obeys model }
 {
     match model {
         MemoryModel::Coherent => true,
-        MemoryModel::Fenced => fences || obeys.sc || !obeys.fenced,
-        MemoryModel::Pso => fences || obeys.sc || !obeys.pso,
-        MemoryModel::Tso => fences || obeys.sc || !obeys.tso,
+        MemoryModel::Fenced => is_certain(doubts, obeys, obeys.fenced),
+        MemoryModel::Pso => is_certain(doubts, obeys, obeys.pso),
+        MemoryModel::Tso => is_certain(doubts, obeys, obeys.tso),
         MemoryModel::Sc => true,
+    }
+}
+
+/// Adds why there is neither a yes nor a no of a model.
+fn put_untold<A: Allocator>(text: &mut Vec<u8, A>, fences: bool) -> Result<(), AllocError>
+    ensures { OnOk result (text.new.items ≡ text.old.items ++ untold_text fences) }
+{
+    if fences {
+        put(
+            text,
+            b" not told: the log has annotations or weaker fences\n",
+        )
+    } else {
+        put(text, b" not told: a report has no fences\n")
     }
 }
 
 /// Adds the line of a model, with a yes or a no or neither.
 fn put_told<A: Allocator>(
     text: &mut Vec<u8, A>,
+    fences: bool,
     model: MemoryModel,
     told: bool,
     yes: bool,
 ) -> Result<(), AllocError>
-    ensures { OnOk result (text.new.items ≡ text.old.items ++ told_line model told yes) }
+    ensures { OnOk result (text.new.items ≡ text.old.items ++ told_line fences model told yes) }
 {
     if told {
         put_verdict(text, model, yes)
     } else {
         put(text, model.word().as_bytes())?;
-        put(text, b" not told: a report has no fences\n")
+        put_untold(text, fences)
+    }
+}
+
+/// Whether there is a yes or a no of RISC-V's model, where a log says where its fences stand or not.
+pub fn is_rvwmo_told(fences: bool, obeys: Obeys, obeyed: bool) -> bool
+    ensures { result ≡ is_rvwmo_told fences obeys obeyed }
+{
+    fences || obeys.sc || !obeyed
+}
+
+/// Adds the line of RISC-V's model.
+fn put_rvwmo_line<A: Allocator>(
+    text: &mut Vec<u8, A>,
+    told: bool,
+    yes: bool,
+) -> Result<(), AllocError>
+    ensures { OnOk result (text.new.items ≡ text.old.items ++ rvwmo_line told yes) }
+{
+    if !told {
+        put(text, b"rvwmo")?;
+        return put_untold(text, false);
+    }
+    if yes {
+        put(text, b"rvwmo yes\n")
+    } else {
+        put(text, b"rvwmo no\n")
+    }
+}
+
+/// Adds the line of RISC-V's model, where it is asked.
+fn put_rvwmo<A: Allocator>(
+    text: &mut Vec<u8, A>,
+    fences: bool,
+    obeys: Obeys,
+    obeyed: Option<bool>,
+) -> Result<(), AllocError>
+    ensures { OnOk result (text.new.items ≡ text.old.items ++ rvwmo_text fences obeys obeyed) }
+{
+    match obeyed {
+        None => Ok(()),
+        Some(yes) => put_rvwmo_line(text, is_rvwmo_told(fences, obeys, yes), yes),
     }
 }
 
@@ -90,16 +158,18 @@ pub(crate) fn put_obeys<A: Allocator>(
     text: &mut Vec<u8, A>,
     fences: bool,
     obeys: Obeys,
+    weak: WeakAnswer,
 ) -> Result<(), AllocError>
-    ensures { OnOk result (text.new.items ≡ text.old.items ++ obeys_text fences obeys) }
+    ensures { OnOk result (text.new.items ≡ text.old.items ++ obeys_text fences obeys weak) }
 {
     put_verdict(text, MemoryModel::Coherent, obeys.coherent)?;
-    let fenced_told = is_told(fences, obeys, MemoryModel::Fenced);
-    put_told(text, MemoryModel::Fenced, fenced_told, obeys.fenced)?;
-    let pso_told = is_told(fences, obeys, MemoryModel::Pso);
-    put_told(text, MemoryModel::Pso, pso_told, obeys.pso)?;
-    let tso_told = is_told(fences, obeys, MemoryModel::Tso);
-    put_told(text, MemoryModel::Tso, tso_told, obeys.tso)?;
+    let fenced_told = is_told(weak.doubts, obeys, MemoryModel::Fenced);
+    put_told(text, fences, MemoryModel::Fenced, fenced_told, obeys.fenced)?;
+    put_rvwmo(text, fences, obeys, weak.obeyed)?;
+    let pso_told = is_told(weak.doubts, obeys, MemoryModel::Pso);
+    put_told(text, fences, MemoryModel::Pso, pso_told, obeys.pso)?;
+    let tso_told = is_told(weak.doubts, obeys, MemoryModel::Tso);
+    put_told(text, fences, MemoryModel::Tso, tso_told, obeys.tso)?;
     put_verdict(text, MemoryModel::Sc, obeys.sc)
 }
 

@@ -2,7 +2,6 @@
 -- format).
 use Rattle.std.specs.Prelude.{ℕ, ◌+◌, ◌&&◌, not, Bool, true, false, List, [], ◌∷◌, Option, Some, None}
 use Rattle.std.specs.Prelude.{option_map, find, is_some, Result, Ok, Err}
-use Rattle.lexer.specs.Words.{first_words}
 use Rattle.lexer.specs.Outcome.{then_lines, refusal_at}
 use Rattle.lexer.specs.declared.refusal.Refusal.{Refusal}
 use Rattle.memory_models.specs.declared.kinds.Kind.{Kind}
@@ -12,7 +11,7 @@ use Rattle.trace_lines.specs.Reasons.{unless_refused}
 use Rattle.model_text.specs.declared.logged.Logged.{Logged}
 use Rattle.model_text.specs.declared.reason.LogReason.{LogReason}
 use Rattle.model_text.specs.declared.reason.LogReason.TheVariants as reason
-use Rattle.model_text.specs.Lines.{after_words_of_log}
+use Rattle.model_text.specs.Lines.{after_words_of_log, log_words}
 use Rattle.model_text.specs.Made.{LogLines, nothing_logged}
 use Rattle.model_text.specs.Traces.{kind_of_step}
 
@@ -46,7 +45,7 @@ values_ended r number =
 abbrev pub values_from : LogLines → ℕ → List (List ℕ) → Result LogLines (Refusal LogReason)
 values_from r number [] = values_ended r number
 values_from r number (line ∷ lines) =
-    then_lines number (after_words_of_log r number (first_words line))
+    then_lines number (after_words_of_log r number (log_words line))
     (λ next. values_from next (number + 1) lines)
 
 -- the log of a text, given as the list of its lines, or where and why it is refused

@@ -7,9 +7,10 @@ ghost use Rattle.model_text.specs.Views.{log_so_far};
 ghost use Rattle.model_replies.specs.Reading.{first_unreplied, lacks_reply, reads_word};
 ghost use Rattle.model_replies.specs.Reading.{values_ended, values_of};
 
-use lexer::{Refusal, first_words, next_line};
+use lexer::{Refusal, next_line};
 use memory_models::Kind;
 use model_text::trace::kind_of_step;
+use model_text::words::log_words;
 use model_text::{Log, LogReason, Logged};
 use std::alloc::Allocator;
 use trace_lines::LineReason;
@@ -76,7 +77,7 @@ pub fn read_values<A: Allocator + Copy>(alloc: A, text: &[u8]) -> Result<Log<A>,
     let mut number = 1u64;
     let mut rest = text;
     while let Some((line, after)) = next_line(rest) {
-        let (words, count) = first_words(line);
+        let (words, count) = log_words(line);
         if let Err(reason) = log.take(alloc, number, &words[..count]) {
             return Err(Refusal::at(number, reason));
         }

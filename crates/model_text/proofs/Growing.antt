@@ -1,6 +1,6 @@
 -- Lists that grow in a loop.
 use Rattle.std.proofs.Common.{◌≡◌, ℕ, zero, suc, ◌+◌, ◌<◌, ◌≤◌, cond, Bool, true, false, List, [], ◌∷◌, ◌++◌, length, map, take, Vec, refl, sym, ◌∙◌, ap, arith, get_or}
-use Rattle.std.specs.Prelude.{not, ◌==◌, nat_lt, fold, min}
+use Rattle.std.specs.Prelude.{not, ◌==◌, nat_lt, fold, min, Option}
 use Rattle.std.specs.List.{range_with_len, flat_map, concat}
 use Rattle.std.proofs.lemmas.List.{map_more, append_assoc, take_min}
 use Rattle.std.proofs.lemmas.List.Folds.{concat-append, flat_map-map}
@@ -9,6 +9,9 @@ use Rattle.std.proofs.lemmas.List.Sums.{fold_more, prefix_len-le-length}
 use Rattle.std.proofs.lemmas.Grind.{flat_map-append}
 use Rattle.packet.specs.Memory.{new_word}
 use Rattle.trace_lines.specs.Head.{HeadSpec, no_head}
+use Rattle.weak_models.specs.declared.notes.Dependency.{Dependency}
+use Rattle.weak_models.specs.declared.notes.Note.{Note}
+use Rattle.model_text.specs.declared.annotation.Reservation.{Reservation}
 use Rattle.model_text.specs.declared.logged.Logged.{Logged}
 use Rattle.model_text.specs.InsideRows.{row_lists}
 use Rattle.model_text.specs.Made.{LogLines}
@@ -74,26 +77,34 @@ pub place_low : (list : List ℕ) (count x : ℕ) → place_below list count x �
 place_low list count x = low_cond (nat_lt x count) (place_in list x) (length list) (prefix_len-le-length (λ (y : ℕ). not (y == x)) list)
 
 -- nothing is given at first
-abbrev pub logged_so : HeadSpec → List (ℕ × ℕ) → List ℕ → List (List ℕ) → List (List ℕ) → List Logged → LogLines
-logged_so head places addresses rows orders made = record {
+abbrev pub logged_so : HeadSpec → List (ℕ × ℕ) → List ℕ → List (List ℕ) → List (List ℕ) → List Logged → List (ℕ × Note)
+    → List (ℕ × Option Reservation) → List Dependency → LogLines
+logged_so head places addresses rows orders made notes reserved dependencies = record {
   head = head;
   places = places;
   addresses = addresses;
   rows = rows;
   orders = orders;
   made = made;
+  notes = notes;
+  reserved = reserved;
+  dependencies = dependencies;
 }
 
 pub nothing_is : (n : ℕ) (head : HeadSpec) (places : List (ℕ × ℕ)) (addresses : List ℕ) (rows orders : List (List ℕ)) (made : List Logged)
-    → head ≡ no_head → places ≡ [] → addresses ≡ [] → rows ≡ no_rows n → orders ≡ no_rows 0 → made ≡ []
-    → logged_so head places addresses rows orders made ≡ logged_so no_head [] [] (no_rows n) (no_rows 0) []
-nothing_is n head places addresses rows orders made h p a r o m =
-    ap (λ z. logged_so z places addresses rows orders made) h
-    ∙ (ap (λ z. logged_so no_head z addresses rows orders made) p
-    ∙ (ap (λ z. logged_so no_head [] z rows orders made) a
-    ∙ (ap (λ z. logged_so no_head [] [] z orders made) r
-    ∙ (ap (λ z. logged_so no_head [] [] (no_rows n) z made) o
-    ∙ ap (λ z. logged_so no_head [] [] (no_rows n) (no_rows 0) z) m))))
+    (notes : List (ℕ × Note)) (reserved : List (ℕ × Option Reservation)) (dependencies : List Dependency)
+    → head ≡ no_head → places ≡ [] → addresses ≡ [] → rows ≡ no_rows n → orders ≡ no_rows 0 → made ≡ [] → notes ≡ [] → reserved ≡ [] → dependencies ≡ []
+    → logged_so head places addresses rows orders made notes reserved dependencies ≡ logged_so no_head [] [] (no_rows n) (no_rows 0) [] [] [] []
+nothing_is n head places addresses rows orders made notes reserved dependencies h p a r o m e s d =
+    ap (λ z. logged_so z places addresses rows orders made notes reserved dependencies) h
+    ∙ (ap (λ z. logged_so no_head z addresses rows orders made notes reserved dependencies) p
+    ∙ (ap (λ z. logged_so no_head [] z rows orders made notes reserved dependencies) a
+    ∙ (ap (λ z. logged_so no_head [] [] z orders made notes reserved dependencies) r
+    ∙ (ap (λ z. logged_so no_head [] [] (no_rows n) z made notes reserved dependencies) o
+    ∙ (ap (λ z. logged_so no_head [] [] (no_rows n) (no_rows 0) z notes reserved dependencies) m
+    ∙ (ap (λ z. logged_so no_head [] [] (no_rows n) (no_rows 0) [] z reserved dependencies) e
+    ∙ (ap (λ z. logged_so no_head [] [] (no_rows n) (no_rows 0) [] [] z dependencies) s
+    ∙ ap (λ z. logged_so no_head [] [] (no_rows n) (no_rows 0) [] [] [] z) d)))))))
 
 -- more writes than there are leave what all leave
 pub word_of_min : (steps : List Logged) (writes : List ℕ) (n : ℕ) → word_of_writes steps writes (min n (length writes)) ≡ word_of_writes steps writes n

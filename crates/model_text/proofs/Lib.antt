@@ -1,4 +1,5 @@
 pub mod Growing
+pub mod LongLines
 pub mod NumberLists
 pub mod Refusing
 pub mod Valued

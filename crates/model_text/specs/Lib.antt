@@ -1,8 +1,11 @@
+pub mod Annotations
+pub mod Depends
 pub mod Form
 pub mod InsideRows
 pub mod Kinds
 pub mod Lines
 pub mod Made
+pub mod Noted
 pub mod OneMemory
 pub mod Reasons
 pub mod Rows

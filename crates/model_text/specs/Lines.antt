@@ -1,9 +1,9 @@
 -- The log text: what each line makes of what the lines before it gave, and what the whole text is
 -- (this project's own format).
-use Rattle.std.specs.Prelude.{ℕ, ◌+◌, ◌==◌, not, List, [], ◌∷◌, length, Option, Some, None}
+use Rattle.std.specs.Prelude.{ℕ, ◌+◌, ◌==◌, not, List, [], ◌∷◌, length, take, Option, Some, None}
 use Rattle.std.specs.Prelude.{option_map, find, Result, Ok, Err, if◌then◌else◌, codes}
 use Rattle.std.specs.Str.{bytes_eq}
-use Rattle.lexer.specs.Words.{first_words, begins_comment}
+use Rattle.lexer.specs.Words.{words_of, begins_comment}
 use Rattle.lexer.specs.Outcome.{◌>>=◌, then_lines, refusal_at}
 use Rattle.lexer.specs.declared.refusal.Refusal.{Refusal}
 use Rattle.trace_lines.specs.declared.reason.LineReason.{LineReason}
@@ -13,6 +13,7 @@ use Rattle.trace_lines.specs.Reasons.{map_err, unless_refused}
 use Rattle.model_text.specs.declared.logged.Logged.{Logged}
 use Rattle.model_text.specs.declared.reason.LogReason.{LogReason}
 use Rattle.model_text.specs.declared.reason.LogReason.TheVariants as reason
+use Rattle.model_text.specs.Depends.{after_depends_line}
 use Rattle.model_text.specs.Made.{LogLines, nothing_logged, after_made_line}
 use Rattle.model_text.specs.Sources.{after_wrote_line, after_read_line, after_served_line}
 use Rattle.model_text.specs.Sources.{after_replied_line, is_told}
@@ -30,10 +31,15 @@ after_keyword r line keyword values =
     else (if bytes_eq keyword (codes "read") then after_read_line r values
     else (if bytes_eq keyword (codes "served") then after_served_line r values
     else (if bytes_eq keyword (codes "replied") then after_replied_line r line values
+    else (if bytes_eq keyword (codes "depends") then after_depends_line r values
     else (if bytes_eq keyword (codes "init")
     then head_logged r (after_init_line r.head (not (length r.made == 0)) values)
     else (if bytes_eq keyword (codes "words") then head_logged r (after_words_line r.head values)
-    else Err reason.UnknownKeyword)))))))
+    else Err reason.UnknownKeyword))))))))
+
+-- the words of a line that count: a line that means something has fewer than 10, comments apart
+abbrev pub log_words : List ℕ → List (List ℕ)
+log_words line = take 10 (words_of line)
 
 -- what the words of a line make of it; a line without words and a comment are skipped
 abbrev pub after_words_of_log : LogLines → ℕ → List (List ℕ) → Result LogLines LogReason
@@ -61,7 +67,7 @@ log_ended r number =
 abbrev pub log_from : LogLines → ℕ → List (List ℕ) → Result LogLines (Refusal LogReason)
 log_from r number [] = log_ended r number
 log_from r number (line ∷ lines) =
-    then_lines number (after_words_of_log r number (first_words line))
+    then_lines number (after_words_of_log r number (log_words line))
     (λ next. log_from next (number + 1) lines)
 
 -- the log of a text, given as the list of its lines, or where and why it is refused

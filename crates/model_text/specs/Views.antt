@@ -11,4 +11,7 @@ log_so_far r = record {
   rows = rows_now r.rows;
   orders = rows_now r.orders;
   made = r.made.items;
+  notes = r.notes.entries;
+  reserved = r.reserved.entries;
+  dependencies = r.dependencies.items;
 }

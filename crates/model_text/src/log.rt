@@ -4,11 +4,13 @@ ghost use Rattle.std.specs.Prelude.{◌≡◌, IfOk};
 ghost use Rattle.model_text.specs.Made.{nothing_logged};
 ghost use Rattle.model_text.specs.Views.{log_so_far};
 
+use crate::annotation::Reservation;
 use crate::logged::Logged;
 use crate::rows::Rows;
 use std::alloc::{AllocError, Allocator, Global};
 use std::collections::BTreeMap;
 use trace_lines::Head;
+use weak_models::{Dependency, Note};
 
 /// What the lines of a log give.
 #[derive(Drop)]
@@ -25,6 +27,12 @@ pub struct Log<A: Allocator = Global> {
     pub orders: Rows<A>,
     /// The operations by number.
     pub made: Vec<Logged, A>,
+    /// What `made` lines say of operations beside their kinds, by their numbers; pairs by numbers, too.
+    pub notes: BTreeMap<usize, Note, A>,
+    /// Of each processor its last load reserved; `None` where a store conditional came behind it.
+    pub reserved: BTreeMap<u32, Option<Reservation>, A>,
+    /// The dependencies, by the numbers of operations.
+    pub dependencies: Vec<Dependency, A>,
 }
 
 impl<A: Allocator + Copy> Log<A> {
@@ -41,6 +49,9 @@ impl<A: Allocator + Copy> Log<A> {
             rows,
             orders,
             made: Vec::new(alloc),
+            notes: BTreeMap::new(alloc),
+            reserved: BTreeMap::new(alloc),
+            dependencies: Vec::new(alloc),
         })
     }
 }

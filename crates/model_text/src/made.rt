@@ -3,12 +3,15 @@
 ghost use Rattle.std.specs.Prelude.{◌≡◌, map};
 ghost use Rattle.lexer.specs.Outcome.{Makes};
 ghost use Rattle.model_text.specs.Made.{after_made_line, made_read, add_operation, with_address};
+ghost use Rattle.model_text.specs.Made.{add_step, step_read};
 ghost use Rattle.model_text.specs.Made.{add_logged, number_of_address};
 ghost use Rattle.model_text.specs.Views.{log_so_far};
 
+use crate::annotation::{Annotation, behind_operands, operands, step_annotation};
 use crate::form::spelled_step;
 use crate::log::Log;
 use crate::logged::{Logged, Source};
+use crate::noted::address_in;
 use crate::reason::{LogKeyword, LogReason};
 use packet::Operation;
 use std::alloc::Allocator;
@@ -26,21 +29,55 @@ impl<A: Allocator + Copy> Log<A> {
             (after_made_line (log_so_far self.old) line (map (λ value. value.now) values.now)) }
     {
         match values {
-            [processor, word, operands @ ..] => {
+            [processor, word, words @ ..] => {
                 let p = number_at(1, processor)?;
-                let step = spelled_step(word, operands)?;
-                self.made(alloc, line, p, step)
+                self.take_step(alloc, line, p, word, words)
             }
             _ => Err(LogReason::WordCount(LogKeyword::Made)),
         }
     }
 
-    /// A processor made an operation or a fence.
-    fn made(&mut self, alloc: A, line: u64, p: u128, step: Option<Form>) -> Result<(), LogReason>
+    /// Takes what stands behind the processor of a `made` line.
+    fn take_step(
+        &mut self,
+        alloc: A,
+        line: u64,
+        p: u128,
+        word: &[u8],
+        words: &[&[u8]],
+    ) -> Result<(), LogReason>
         ensures { Makes (LogReason.Line LineReason.Memory) (log_so_far self.new) result
-            (made_read (log_so_far self.old) line p step) }
+            (step_read (log_so_far self.old) line p word.now
+            (map (λ word. word.now) words.now)) }
+    {
+        let step = spelled_step(word, operands(word, words))?;
+        let annotation = step_annotation(step, behind_operands(word, words))?;
+        self.made(alloc, line, p, step, annotation)
+    }
+
+    /// A processor made an operation or a fence.
+    fn made(
+        &mut self,
+        alloc: A,
+        line: u64,
+        p: u128,
+        step: Option<Form>,
+        annotation: Option<Annotation>,
+    ) -> Result<(), LogReason>
+        ensures { Makes (LogReason.Line LineReason.Memory) (log_so_far self.new) result
+            (made_read (log_so_far self.old) line p step annotation) }
     {
         let p = self.head.processor(p)?;
+        let number = self.made.len();
+        self.add_step(alloc, line, p, step)?;
+        self.annotate_if(p, number, address_in(step), annotation)
+    }
+
+    /// Adds an operation or a fence of a processor below 4096.
+    fn add_step(&mut self, alloc: A, line: u64, p: u32, step: Option<Form>) -> Result<(), LogReason>
+        ensures { Makes (LogReason.Line LineReason.Memory) (log_so_far self.new) result
+            (add_step (log_so_far self.old) line p step) }
+    {
         match step {
             None => self.add_logged(Logged {
                 line,

@@ -54,6 +54,9 @@ impl<A: Allocator + Copy> Log<A> {
         if keyword == b"replied".as_slice() {
             return self.take_replied(line, values);
         }
+        if keyword == b"depends".as_slice() {
+            return self.take_depends(values);
+        }
         if keyword == b"init".as_slice() {
             return self.take_init(values);
         }

@@ -14,6 +14,7 @@ pub enum LogKeyword {
     Read,
     Served,
     Replied,
+    Depends,
 }
 
 /// Why a line of a log is refused.
@@ -49,6 +50,24 @@ pub enum LogReason {
     RepliedTwice,
     /// No line gives the reply of an operation that reads its word, and nothing else says what it read.
     ReplyMissing,
+    /// The words behind an operation's operands are no annotations, or not in their order.
+    NotAnnotation,
+    /// The words behind a fence aren't what it keeps in order.
+    NotFenceOrder,
+    /// No load reserved of its processor stands before a store conditional, or another one has it.
+    NotReserved,
+    /// The load reserved before a store conditional is on another word.
+    ReservedWord,
+    /// The word behind an operation that depends is not `on`.
+    NotOn,
+    /// A word names no kind of dependency.
+    NotDependency,
+    /// An operation doesn't stand behind the one that it depends on.
+    NotBehind,
+    /// The operation that another depends on gives its processor nothing.
+    GivesNothing,
+    /// The operation whose data depend writes nothing.
+    DataOfLoad,
 }
 
 impl From<LineReason> for LogReason {
@@ -83,6 +102,15 @@ impl Reason for LogReason {
             LogReason::SourceMissing => Fault::Setting,
             LogReason::RepliedTwice => Fault::Setting,
             LogReason::ReplyMissing => Fault::Setting,
+            LogReason::NotAnnotation => Fault::Line,
+            LogReason::NotFenceOrder => Fault::Line,
+            LogReason::NotReserved => Fault::Range,
+            LogReason::ReservedWord => Fault::Address,
+            LogReason::NotOn => Fault::Line,
+            LogReason::NotDependency => Fault::Line,
+            LogReason::NotBehind => Fault::Range,
+            LogReason::GivesNothing => Fault::Line,
+            LogReason::DataOfLoad => Fault::Line,
         }
     }
 }

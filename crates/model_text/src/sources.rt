@@ -262,7 +262,7 @@ impl<A: Allocator + Copy> Log<A> {
 }
 
 /// The number at an index of a row.
-fn number_at_index(row: &[usize], index: u128) -> Option<usize>
+pub(crate) fn number_at_index(row: &[usize], index: u128) -> Option<usize>
     ensures { result ≡ slice_get row.now index }
 {
     if index >= row.len() as u128 {

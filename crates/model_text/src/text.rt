@@ -10,7 +10,8 @@ use crate::log::Log;
 use crate::logged::Logged;
 use crate::reason::LogReason;
 use crate::sources::is_told;
-use lexer::{Refusal, first_words, next_line};
+use crate::words::log_words;
+use lexer::{Refusal, next_line};
 use std::alloc::Allocator;
 use trace_lines::LineReason;
 
@@ -55,7 +56,7 @@ pub fn read_log<A: Allocator + Copy>(alloc: A, text: &[u8]) -> Result<Log<A>, Re
     let mut number = 1u64;
     let mut rest = text;
     while let Some((line, after)) = next_line(rest) {
-        let (words, count) = first_words(line);
+        let (words, count) = log_words(line);
         if let Err(reason) = log.take(alloc, number, &words[..count]) {
             return Err(Refusal::at(number, reason));
         }

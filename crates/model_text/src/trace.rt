@@ -81,7 +81,12 @@ pub fn opening_step<A: Allocator>(log: &Log<A>, w: usize) -> Logged
 }
 
 /// The place in the trace of the operation of a number.
-fn trace_spot<A: Allocator>(log: &Log<A>, numbers: &[usize], places: &[usize], n: usize) -> usize
+pub(crate) fn trace_spot<A: Allocator>(
+    log: &Log<A>,
+    numbers: &[usize],
+    places: &[usize],
+    n: usize,
+) -> usize
     requires numbers { numbers.now ≡ numbers_of_log (log_so_far log.now) }
     requires places { ArePlaces numbers.now (length log.now.made.items) places.now }
     ensures { result ≡ trace_spot (log_so_far log.now) n }

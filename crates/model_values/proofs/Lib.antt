@@ -3,6 +3,8 @@ pub mod Explained
 pub mod Settled
 pub mod Split
 pub mod Rivals
+pub mod Apart
+pub mod Forcing
 pub mod Accepted
 pub mod Written
 pub mod ByValues

@@ -1,8 +1,10 @@
 pub mod Unordered
+pub mod Forced
 pub mod Known
 pub mod Placed
 pub mod Answers
 pub mod Values
+pub mod Sorted
 pub mod Searches
 pub mod ValuedVerdict
 pub mod Replies

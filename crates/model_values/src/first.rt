@@ -58,7 +58,7 @@ fn is_read_by(operations: &[Operation], sources: &[usize], x: usize, y: usize) -
 }
 
 /// Whether one operation comes before another in every order that explains the trace.
-fn starts(question: &Unordered, x: usize, y: usize) -> bool
+pub(crate) fn starts(question: &Unordered, x: usize, y: usize) -> bool
     requires x { x < length question.now.operations.now }
     requires y { y < length question.now.operations.now }
     ensures { result ≡ true → IsFirstOf question.now.rules.now question.now.operations.now

@@ -3,15 +3,25 @@
 #![tactic(auto)]
 
 mod accept;
+mod arcs;
 pub mod by_values;
+mod by_word;
+mod conflict;
+mod decided;
 mod first;
+mod forced;
+mod guess;
 mod known;
 pub mod laws;
+mod lists;
 mod placed;
 pub mod question;
+mod schedule;
 mod search;
 mod spread;
+mod starting;
 pub mod valued;
+mod waits;
 
 pub use by_values::{ValuedVerdict, judge_valued};
 pub use question::{Explanation, OrderVerdict, Unordered};

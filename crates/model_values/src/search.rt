@@ -12,6 +12,7 @@ ghost use Rattle.model_values.specs.Known.{is_known};
 ghost use Rattle.model_values.specs.Unordered.{IsOrderOf};
 
 use crate::accept::is_placing;
+use crate::decided::decided;
 use crate::first::first_table;
 use crate::known::{add, forget, is_around, is_before};
 use crate::placed::{count_writes, placed_by, writes_by};
@@ -249,7 +250,7 @@ fn search<A: Allocator + Copy>(
 
 /// Judges by the rules of a memory model a trace that gives no order of each word's writes. The answer
 /// is an order of each word's writes with which the trace obeys the rules, or that no order does so, or
-/// `Undecided`. The search looks at `nodes` tables of what is known at most. With `None` it looks at as
+/// `Undecided`. A guess comes first, which is checked. Where it fails, a search looks at `nodes` tables of what is known at most. With `None` it looks at as
 /// many as it takes, and is never `Undecided`.
 ///
 /// Errors: out of memory, and no other.
@@ -263,6 +264,9 @@ pub fn judge_unordered<A: Allocator + Copy>(
         ⊎ IsChainedOn (rule_at question.now.rules.now k) }
     ensures { IfOk result (IsOrderVerdict question.now nodes) }
 {
+    if let Some(verdict) = decided(alloc, question)? {
+        return Ok(verdict);
+    }
     let mut table = first_table(alloc, question)?;
     search(alloc, question, &mut table, nodes)
 }

@@ -9,7 +9,7 @@ use memory_models::kinds::is_write;
 use memory_models::{Kind, Operation};
 
 /// Whether a load or an atomic has a write on its word that is neither its source nor itself.
-fn is_rival(operations: &[Operation], sources: &[usize], x: usize, w: usize) -> bool
+pub(crate) fn is_rival(operations: &[Operation], sources: &[usize], x: usize, w: usize) -> bool
     ensures { result ≡ true → IsRival operations.now sources.now x w }
 {
     if x >= operations.len() || w >= operations.len() || x >= sources.len() {
@@ -31,7 +31,7 @@ fn is_rival(operations: &[Operation], sources: &[usize], x: usize, w: usize) -> 
 }
 
 /// Whether the second is a load, and the first of its processor before it.
-fn is_own_load(operations: &[Operation], w: usize, x: usize) -> bool
+pub(crate) fn is_own_load(operations: &[Operation], w: usize, x: usize) -> bool
     requires w { w < length operations.now }
     requires x { x < length operations.now }
     ensures { result ≡ true → IsOwnLoad operations.now w x }

@@ -5,6 +5,7 @@ ghost use Rattle.std.specs.Prelude.{IfNone, IfOk, IfSome};
 ghost use Rattle.model_values.specs.Values.{AreAlikeValues, AreSourcesOf, IsKnownSource, IsLeftBy};
 ghost use Rattle.model_values.specs.Values.{IsReader, IsUnwritten};
 
+use crate::by_word::{Writes, are_unlike, sorted_writes};
 use memory_models::kinds::is_write;
 use memory_models::{Kind, Operation};
 use std::alloc::{AllocError, Allocator, Global};
@@ -36,7 +37,7 @@ pub enum Sources<A: Allocator = Global> {
 }
 
 /// The word at a place; 0 where there is none.
-fn word_at(words: &[u64], x: usize) -> u64
+pub(crate) fn word_at(words: &[u64], x: usize) -> u64
     ensures { result ≡ slice_index words.now x }
 {
     if x < words.len() { words[x] } else { 0 }
@@ -85,10 +86,18 @@ fn alike_with(operations: &[Operation], left: &[u64], x: usize) -> Option<usize>
 }
 
 /// Two writes that left the same in one word.
-fn find_alike(operations: &[Operation], left: &[u64]) -> Option<(usize, usize)>
+fn find_alike(
+    operations: &[Operation],
+    left: &[u64],
+    order: &[usize],
+    places: &[usize],
+) -> Option<(usize, usize)>
     ensures some { IfSome result (λ pair. AreAlikeValues operations.now left.now pair.0 pair.1) }
     ensures none { IfNone result ((x y : ℕ) → AreAlikeValues operations.now left.now x y → ⊥) }
 {
+    if are_unlike(operations, left, order, places) {
+        return None;
+    }
     for x in 0..operations.len() {
         if let Some(y) = alike_with(operations, left, x) {
             return Some((x, y));
@@ -111,14 +120,17 @@ fn is_left_by(valued: &Valued, x: usize, s: usize) -> bool
         && word_at(valued.left, s) == word_at(valued.found, x)
 }
 
-/// The write that left what an operation found in its word.
-fn source_of(valued: &Valued, x: usize) -> Option<usize>
+/// The write that left what an operation found in its word: the likely one, or else any.
+fn source_of(valued: &Valued, x: usize, likely: usize) -> Option<usize>
     requires x { x < length valued.now.operations.now }
     ensures some { IfSome result (λ s.
         IsLeftBy valued.now.operations.now valued.now.left.now valued.now.found.now x s) }
     ensures none { IfNone result ((s : ℕ)
         → IsLeftBy valued.now.operations.now valued.now.left.now valued.now.found.now x s → ⊥) }
 {
+    if likely < valued.operations.len() && is_left_by(valued, x, likely) {
+        return Some(likely);
+    }
     for s in 0..valued.operations.len() {
         if is_left_by(valued, x, s) {
             return Some(s);
@@ -128,7 +140,7 @@ fn source_of(valued: &Valued, x: usize) -> Option<usize>
 }
 
 /// The source of an operation: of a load or an atomic that write, of another operation 0.
-fn source_at(valued: &Valued, x: usize) -> Option<usize>
+fn source_at<A: Allocator>(valued: &Valued, writes: &Writes<A>, x: usize) -> Option<usize>
     requires x { x < length valued.now.operations.now }
     ensures some { IfSome result (IsKnownSource valued.now x) }
     ensures none { IfNone result (IsUnwritten valued.now x) }
@@ -136,7 +148,7 @@ fn source_at(valued: &Valued, x: usize) -> Option<usize>
     if !is_reader(valued.operations, x) {
         return Some(0);
     }
-    source_of(valued, x)
+    source_of(valued, x, writes.likely_source(valued, x))
 }
 
 /// The sources of loads and atomics; or two writes that left the same in one word; or an operation that
@@ -149,12 +161,14 @@ pub fn sources_by_values<A: Allocator + Copy>(
 ) -> Result<Sources<A>, AllocError>
     ensures { IfOk result (AreSourcesOf valued.now) }
 {
-    if let Some((x, y)) = find_alike(valued.operations, valued.left) {
+    let writes = sorted_writes(alloc, valued)?;
+    let (order, places) = (&writes.order, &writes.places);
+    if let Some((x, y)) = find_alike(valued.operations, valued.left, order, places) {
         return Ok(Sources::Alike(x, y));
     }
     let mut sources = Vec::new(alloc);
     for x in 0..valued.operations.len() {
-        let Some(source) = source_at(valued, x) else {
+        let Some(source) = source_at(valued, &writes, x) else {
             return Ok(Sources::Unwritten(x));
         };
         sources.push(source)?;

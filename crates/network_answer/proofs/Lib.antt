@@ -4,3 +4,4 @@ mod Totalled
 pub mod Counted
 mod Mapped
 mod OneFlit
+pub mod Sized

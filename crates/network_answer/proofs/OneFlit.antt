@@ -1,7 +1,7 @@
 -- What stands behind the text of a judgement where no numbers rise along the escapes.
-use Rattle.std.proofs.Common.{◌≡◌, ℕ, ◌+◌, ◌-◌, ◌<◌, Bool, true, List, [], length, map, refl, sym, ◌∙◌, ap, subst, arith}
-use Rattle.std.specs.Prelude.{◌∷◌, ◌++◌, slice_index, get_or, Vec, Result, Ok, Err, IfOk}
-use Rattle.std.proofs.lemmas.List.{get_or_read, get_or-map, length-map}
+use Rattle.std.proofs.Common.{◌≡◌, ℕ, ◌+◌, ◌-◌, ◌<◌, Bool, true, false, List, [], length, map, refl, sym, ◌∙◌, ap, subst, arith}
+use Rattle.std.specs.Prelude.{◌∷◌, slice_index, get_or}
+use Rattle.std.proofs.lemmas.List.{get_or-map, length-map}
 use Rattle.network_judge.specs.declared.table.Kind.{Kind}
 use Rattle.network_judge.specs.declared.table.Join.{Join}
 use Rattle.network_judge.specs.declared.table.Reply.{Reply}
@@ -13,7 +13,6 @@ use Rattle.network_adaptive.specs.declared.accepting.JudgedNet.{JudgedNet}
 use Rattle.network_adaptive.specs.declared.accepting.JudgedNet.TheVariants.{WrongPair, WrongChoice, Judged}
 use Rattle.network_adaptive.proofs.Rising.{adaptive_is}
 use Rattle.network_adaptive.proofs.Circles.{are_answers}
-use Rattle.adaptive_deadlock.specs.Fillings.{Filling}
 use Rattle.adaptive_deadlock.proofs.Empties.{never_locks}
 use Rattle.dead_sets.specs.FillingFlags.{filling_of}
 use Rattle.dead_sets.specs.Deciding.{IsDecidedOf}
@@ -29,7 +28,7 @@ use Rattle.network_text.specs.Choosing.{ChoosingText}
 use Rattle.network_answer.specs.declared.answer.Answer.{Answer}
 use Rattle.network_answer.specs.Judging.{IsMarkedJudgement}
 use Rattle.network_answer.specs.Routing.{TellsJudged, TellsChoosingOf}
-use Rattle.network_answer.specs.OneFlit.{filling_line, filling_line_at, decided_text, PromisesOfDeadSets, lacks_numbers, IsBehindText, StandsBehind}
+use Rattle.network_answer.specs.OneFlit.{filling_line, filling_line_at, decided_text, PromisesOfDeadSets, has_rising, lacks_numbers, IsBehindText, StandsBehind}
 
 module _ (t : ChoiceTable) (replies : List Reply) where
   -- the lists of a network that is judged are those of a network
@@ -48,13 +47,17 @@ module _ (t : ChoiceTable) (replies : List Reply) where
   promised (Open flags) shaped are holds = tt
 
   -- what is written of dead sets stands behind a verdict without numbers
-  pub decided_returned : {A E : Type 0} (judged : JudgedNet A) (found : Decided A) (r : Result (Vec ℕ A) E) → lacks_numbers judged ≡ true
+  pub decided_stands : {A : Type 0} (judged : JudgedNet A) (found : Decided A) (text : List ℕ) (never : Bool) → lacks_numbers judged ≡ true
       → IsJudgedNet t replies judged → AreReplies (table t) replies → IsDecidedOf t replies found
-      → IfOk r (λ text. text.items ≡ decided_text found) → IfOk r (λ text. StandsBehind t replies judged text.items)
-  decided_returned {A} judged found (Ok text) lacks is are holds written =
-      subst (λ b. IsBehindText A b t replies text.items) (sym lacks)
-      (record { found = found; holds = holds; promises = promised found (shaped_of judged lacks is) are holds; is = written })
-  decided_returned judged found (Err e) lacks is are holds written = tt
+      → text ≡ decided_text found → never ≡ has_rising found → StandsBehind t replies judged text never
+  decided_stands {A} judged found text never lacks is are holds written told =
+      subst (λ b. IsBehindText A b t replies text never) (sym lacks)
+      (record { found = found; never_is = told; holds = holds; promises = promised found (shaped_of judged lacks is) are holds; is = written })
+
+  -- nothing stands behind another verdict
+  pub nothing_stands : {A : Type 0} (judged : JudgedNet A) (text : List ℕ) → lacks_numbers judged ≡ false → text ≡ []
+      → StandsBehind t replies judged text false
+  nothing_stands {A} judged text has none = subst (λ b. IsBehindText A b t replies text false) (sym has) (none, refl)
 
 -- the lists of a network are those of the same lists
 pub shaped_moved : (kinds of_kinds : List Kind) (joins of_joins : List Join) (ways : ℕ) (choices : List ℕ) (marks : List Bool) → kinds ≡ of_kinds
@@ -74,13 +77,13 @@ decided_moved kinds of_kinds joins of_joins replies of_replies ways choices mark
 
 -- what stands behind the text of a judgement does so of the same lists
 pub behind_moved : {A : Type 0} (new old : reading.Reading A) (ways : ℕ) (choices listed : List ℕ) (flags marks : List Bool) (judged : JudgedNet A)
-    (text : List ℕ) → new ≡ old → choices ≡ listed → flags ≡ marks
-    → StandsBehind (choosing_of new.kinds.items new.joins.items ways choices flags) new.replies.items judged text
-    → StandsBehind (choosing_of old.kinds.items old.joins.items ways listed marks) old.replies.items judged text
-behind_moved new old ways choices listed flags marks judged text same is marked stands =
-    subst (λ (m : List Bool). StandsBehind (choosing_of old.kinds.items old.joins.items ways listed m) old.replies.items judged text) marked
-    (subst (λ (c : List ℕ). StandsBehind (choosing_of old.kinds.items old.joins.items ways c flags) old.replies.items judged text) is
-    (subst (λ f. StandsBehind (choosing_of f.kinds.items f.joins.items ways choices flags) f.replies.items judged text) same stands))
+    (text : List ℕ) (never : Bool) → new ≡ old → choices ≡ listed → flags ≡ marks
+    → StandsBehind (choosing_of new.kinds.items new.joins.items ways choices flags) new.replies.items judged text never
+    → StandsBehind (choosing_of old.kinds.items old.joins.items ways listed marks) old.replies.items judged text never
+behind_moved new old ways choices listed flags marks judged text never same is marked stands =
+    subst (λ (m : List Bool). StandsBehind (choosing_of old.kinds.items old.joins.items ways listed m) old.replies.items judged text never) marked
+    (subst (λ (c : List ℕ). StandsBehind (choosing_of old.kinds.items old.joins.items ways c flags) old.replies.items judged text never) is
+    (subst (λ f. StandsBehind (choosing_of f.kinds.items f.joins.items ways choices flags) f.replies.items judged text never) same stands))
 
 -- what is judged of a text is judged of the same lists
 pub judged_moved : {A : Type 0} (n : choosing.Choosing A) (new : reading.Reading A) (choices : List ℕ) (flags marks : List Bool) (judged : JudgedNet A)

@@ -2,13 +2,14 @@
 -- own format).
 use Rattle.std.specs.Prelude.{◌≡◌, ◌⊎◌, ℕ, ◌+◌, ◌-◌, ◌<◌, ◌==◌, Bool, true, false}
 use Rattle.std.specs.Prelude.{if◌then◌else◌, List, [], ◌∷◌, ◌++◌, length, slice_index, Vec}
-use Rattle.std.specs.Prelude.{Result, Ok, Err, Option, None, IsSomeAnd, codes, decimal}
+use Rattle.std.specs.Prelude.{Result, Ok, Err, Option, Some, None, IsSomeAnd, codes, decimal, nat_le, ◌≤◌}
 use Rattle.torus.specs.declared.fault.Fault.TheVariants as fault
 use Rattle.script.specs.declared.fault.LineFault.{LineFault}
 use Rattle.network_judge.specs.declared.table.By.{By}
 use Rattle.network_judge.specs.declared.table.By.TheVariants.{To, Replied}
 use Rattle.network_judge.specs.declared.table.Join.{Join}
 use Rattle.network_judge.specs.declared.table.Link.{Link}
+use Rattle.network_judge.specs.declared.table.Reply.{Reply}
 use Rattle.network_judge.specs.declared.table.NoRoute as no_route
 use Rattle.network_judge.specs.declared.table.Why.{Why}
 use Rattle.network_judge.specs.declared.table.Why.TheVariants.{NoSender, NoReceiver, Leaves}
@@ -24,6 +25,7 @@ use Rattle.network_judge.specs.Table.{Table}
 use Rattle.network_answer.specs.Totals.{HasTotals}
 use Rattle.network_answer.specs.declared.totals.Totals.{Totals}
 use Rattle.network_judge.specs.LockUps.{LocksUp, HasOneFlitPackets}
+use Rattle.packet_lengths.specs.Lengths.{LocksUpOf, HasPacketsOf}
 use Rattle.network_judge.specs.Clear.{fill_at}
 use Rattle.network_answer.specs.declared.answer.Answer.{Answer}
 use Rattle.network_text.specs.Lines.{first_lines}
@@ -152,15 +154,59 @@ IsTotalsText t (Rising numbers) last = TellsTotals t last
 IsTotalsText t (NoRoute r) last = last ≡ []
 IsTotalsText t (Cycle links) last = TellsTotals t last
 
--- what is written of a network with a verdict: the text of the verdict with what stands behind it, and
--- what packets go over
+-- how many flits channels hold at least, of which each can hold a packet of so many with the latch
+-- behind it
+abbrev pub least_depth : ℕ → ℕ
+least_depth size = if nat_le size 2 then 1 else size - 1
+
+-- with packets of so many flits alone a network can deadlock, if each of its channels can hold one with
+-- the latch behind it, in each format that has such packets
+abbrev pub LocksUpByLength : NetworkSpec → ℕ → Type 0
+LocksUpByLength n size = (depth : ℕ) (flits : Flits) → least_depth size ≤ depth
+    → HasPacketsOf n.table flits size → LocksUpOf n.table n.replies depth flits size
+
+-- the words behind the number of flits
+abbrev pub flits_words : ℕ → List ℕ
+flits_words size = if size == 1 then codes " flit where channels hold "
+    else codes " flits where channels hold "
+
+-- the line that says so
+abbrev pub length_line : ℕ → List ℕ
+length_line size = pair_line (codes "locks up with packets of ") size (flits_words size)
+    (least_depth size) (codes " or more\n")
+
+-- the length of packets by these replies and the length of the text: that of the text, where no packet
+-- is answered
+abbrev pub unanswered_length : List Reply → Option ℕ → Option ℕ
+unanswered_length [] flits = flits
+unanswered_length (reply ∷ replies) flits = None
+
+-- the length that the line is of: one, if the verdict is a cycle
+abbrev pub told_length : {A : Type 0} → NetworkSpec → Verdict A → Option ℕ
+told_length n (Rising numbers) = None
+told_length n (NoRoute r) = None
+told_length n (Cycle links) = unanswered_length n.replies n.flits
+
+-- a text is the line of a length, if there is one, and what it says is so
+abbrev pub TellsLength : NetworkSpec → Option ℕ → List ℕ → Type 0
+TellsLength n None text = text ≡ []
+TellsLength n (Some size) text = (text ≡ length_line size) × LocksUpByLength n size
+
+-- what stands behind the text of a jam
+abbrev pub IsLengthText : {A : Type 0} → NetworkSpec → Verdict A → List ℕ → Type 0
+IsLengthText n v text = TellsLength n (told_length n v) text
+
+-- what is written of a network with a verdict: the text of the verdict with what stands behind it, that
+-- packets of the length of the text deadlock it, and what packets go over
 pub record IsJudgedText {A : Type 0} (n : NetworkSpec) (v : Verdict A) (text : List ℕ) : Type 0
   where
     pub jammed : List ℕ
     pub first : IsJammedText n v jammed
+    pub sized : List ℕ
+    pub lengths : IsLengthText n v sized
     pub last : List ℕ
     pub totals : IsTotalsText n.table v last
-    pub is : text ≡ jammed ++ last
+    pub is : text ≡ jammed ++ (sized ++ last)
 
 -- what the verdict of a network says, and whether its numbers rise
 pub record TellsNetworkVerdict {A : Type 0} (n : NetworkSpec) (a : Answer A) : Type 0 where

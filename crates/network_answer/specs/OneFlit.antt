@@ -1,7 +1,8 @@
 -- What is written where routers choose and no numbers rise along the escapes: that packets of one flit
 -- never deadlock; or the greatest dead set, and behind it channels that fill up until nothing can go
 -- (this project's own format).
-use Rattle.std.specs.Prelude.{◌≡◌, ℕ, ◌-◌, ◌<◌, Bool, true, false, not, if◌then◌else◌}
+use Rattle.std.specs.Prelude.{◌≡◌, ℕ, ◌-◌, ◌<◌, ◌==◌, Bool, true, false, not, if◌then◌else◌}
+use Rattle.std.specs.Prelude.{Option, Some, None}
 use Rattle.std.specs.Prelude.{List, [], ◌++◌, length, All, codes, decimal, map, slice_index, get_or}
 use Rattle.wormhole.specs.Events.{NetEvent}
 use Rattle.network_judge.specs.declared.table.Reply.{Reply}
@@ -74,13 +75,21 @@ PromisesOfDeadSets t replies (Rises numbers) = NeverLocksUpByOneFlit t replies
 PromisesOfDeadSets t replies (Fills flags items) = CanDeadlock t replies
 PromisesOfDeadSets t replies (Open flags) = Unit {0}
 
--- a text is what is written of the dead sets of a network
-pub record TellsDeadSets (A : Type 0) (t : ChoiceTable) (replies : List Reply) (text : List ℕ) : Type 0
-  where
-    pub found : Decided A
-    pub holds : IsDecidedOf t replies found
-    pub promises : PromisesOfDeadSets t replies found
-    pub is : text ≡ decided_text found
+-- whether it is decided that packets of one flit never deadlock
+abbrev pub has_rising : {A : Type 0} → Decided A → Bool
+has_rising (Rises numbers) = true
+has_rising (Fills flags items) = false
+has_rising (Open flags) = false
+
+-- a text is what is written of the dead sets of a network, and whether by it packets of one flit
+-- never deadlock
+pub record TellsDeadSets (A : Type 0) (t : ChoiceTable) (replies : List Reply) (text : List ℕ)
+    (never : Bool) : Type 0 where
+  pub found : Decided A
+  pub never_is : never ≡ has_rising found
+  pub holds : IsDecidedOf t replies found
+  pub promises : PromisesOfDeadSets t replies found
+  pub is : text ≡ decided_text found
 
 -- a network is judged, and no numbers rise along its escapes
 abbrev pub lacks_numbers : {A : Type 0} → JudgedNet A → Bool
@@ -89,10 +98,17 @@ lacks_numbers (WrongChoice c) = false
 lacks_numbers (Judged v) = not (verdict_rises v)
 
 -- there what is written of dead sets stands behind the text of the judgement, and else nothing
-abbrev pub IsBehindText : Type 0 → Bool → ChoiceTable → List Reply → List ℕ → Type 0
-IsBehindText A true t replies text = TellsDeadSets A t replies text
-IsBehindText A false t replies text = text ≡ []
+abbrev pub IsBehindText : Type 0 → Bool → ChoiceTable → List Reply → List ℕ → Bool → Type 0
+IsBehindText A true t replies text never = TellsDeadSets A t replies text never
+IsBehindText A false t replies text never = (text ≡ []) × (never ≡ false)
 
 -- that is so of a network that is judged
-abbrev pub StandsBehind : {A : Type 0} → ChoiceTable → List Reply → JudgedNet A → List ℕ → Type 0
-StandsBehind {A} t replies judged text = IsBehindText A (lacks_numbers judged) t replies text
+abbrev pub StandsBehind : {A : Type 0} → ChoiceTable → List Reply → JudgedNet A → List ℕ → Bool
+    → Type 0
+StandsBehind {A} t replies judged text never =
+    IsBehindText A (lacks_numbers judged) t replies text never
+
+-- whether it is said that all packets have one flit
+abbrev pub is_one_flit : Option ℕ → Bool
+is_one_flit None = false
+is_one_flit (Some flits) = flits == 1

@@ -1,6 +1,7 @@
 -- What is written of a network whose routers choose, and what is answered to a network text (this
 -- project's own format).
-use Rattle.std.specs.Prelude.{◌≡◌, ◌⊎◌, ℕ, ◌+◌, ◌==◌, if◌then◌else◌, Bool, true, false}
+use Rattle.std.specs.Prelude.{◌≡◌, ◌⊎◌, ℕ, ◌==◌, ◌||◌, ◌&&◌, if◌then◌else◌}
+use Rattle.std.specs.Prelude.{Bool, true, false, not}
 use Rattle.std.specs.Prelude.{List, [], ◌∷◌, ◌++◌}
 use Rattle.std.specs.Prelude.{length, slice_index}
 use Rattle.std.specs.Prelude.{Result, Ok, Err, Option, Some, None, codes, decimal}
@@ -29,7 +30,7 @@ use Rattle.network_adaptive.specs.declared.verdict.Verdict.TheVariants.{Rising, 
 use Rattle.network_adaptive.specs.Between.{dependency_at}
 use Rattle.network_text.specs.Choosing.{ChoosingText}
 use Rattle.network_answer.specs.Judging.{choice_table, IsMarkedJudgement, judgement_rises}
-use Rattle.network_answer.specs.OneFlit.{StandsBehind}
+use Rattle.network_answer.specs.OneFlit.{StandsBehind, is_one_flit}
 use Rattle.network_text.specs.Routing.{Routing, Fixed, Chosen, routing_of}
 
 -- why a channel is no choice
@@ -77,9 +78,7 @@ dependency_line edges k = how_line (dependency_at edges k).channel (dependency_a
 
 -- what is written of a cycle
 abbrev pub circuit_text : {A : Type 0} → List (dependency.Dependency A) → List ℕ
-circuit_text edges =
-    codes "cycle\n" ++ (first_lines (dependency_line edges) (length edges)
-    ++ codes "may lock up\n")
+circuit_text edges = codes "cycle\n" ++ first_lines (dependency_line edges) (length edges)
 
 -- what is written of a verdict on the network of these lines
 abbrev pub choosing_verdict_text : {A : Type 0} → Reading → Verdict A → List ℕ
@@ -89,21 +88,42 @@ choosing_verdict_text r (Rising numbers travel) =
 choosing_verdict_text r (NoEscape f) = no_escape_line (taken_cell r f.at f.to) f
 choosing_verdict_text r (Cycle edges) = circuit_text edges.items
 
+-- whether a verdict is a cycle
+abbrev pub is_circuit : {A : Type 0} → Verdict A → Bool
+is_circuit (Rising numbers travel) = false
+is_circuit (NoEscape f) = false
+is_circuit (Cycle edges) = true
+
 -- what is written of what is judged
 abbrev pub judgement_text : {A : Type 0} → Reading → JudgedNet A → List ℕ
 judgement_text r (WrongPair p) = no_route_line p
 judgement_text r (WrongChoice c) = no_choice_line c
 judgement_text r (Judged v) = choosing_verdict_text r v
 
--- what is judged of a network whose routers choose, what stands behind it, and whether its numbers rise
+-- whether a cycle is found
+abbrev pub has_circuit : {A : Type 0} → JudgedNet A → Bool
+has_circuit (WrongPair p) = false
+has_circuit (WrongChoice c) = false
+has_circuit (Judged v) = is_circuit v
+
+-- what stands behind a cycle: that it may deadlock, unless no packets of the text do
+abbrev pub may_text : Bool → Bool → List ℕ
+may_text circuit free = if circuit && not free then codes "may lock up\n" else []
+
+-- what is judged of a network whose routers choose, what stands behind it, and whether it never
+-- deadlocks: its numbers rise, or all packets have one flit and such packets never deadlock
 pub record TellsJudged {A : Type 0} (t : ChoosingText) (a : Answer A) : Type 0 where
   pub judged : JudgedNet A
   pub marks : List Bool
   pub holds : IsMarkedJudgement t marks judged
   pub behind : List ℕ
-  pub stands : StandsBehind (choice_table t marks) t.fixed.replies judged behind
-  pub text : a.text.items ≡ judgement_text t.fixed judged ++ behind
-  pub rising : a.rising ≡ judgement_rises judged
+  pub never : Bool
+  pub stands : StandsBehind (choice_table t marks) t.fixed.replies judged behind never
+  pub free : Bool
+  pub free_is : free ≡ (is_one_flit t.fixed.flits && never)
+  pub text : a.text.items
+      ≡ judgement_text t.fixed judged ++ (may_text (has_circuit judged) free ++ behind)
+  pub rising : a.rising ≡ (judgement_rises judged || free)
 
 -- what is said of such a network with these pairs
 abbrev pub TellsChoosingOf : {A : Type 0} → List Join → ChoosingText → Answer A → Type 0

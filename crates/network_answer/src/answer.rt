@@ -17,7 +17,7 @@ use torus::Fault;
 pub struct Answer<A: Allocator = Global> {
     /// The text of the verdict, and behind a cycle that of a jam.
     pub text: Vec<u8, A>,
-    /// Whether the channels' numbers rise.
+    /// Whether the channels' numbers rise, or packets have one flit and never deadlock.
     pub rising: bool,
 }
 

@@ -7,6 +7,7 @@ ghost use Rattle.network_answer.specs.Answer.{fill_line, fill_line_at, jam_text}
 ghost use Rattle.network_answer.specs.Answer.{IsFoundVerdict, IsJammedText, IsJudgedText};
 
 use crate::going::totals_text;
+use crate::lengths::length_text;
 use crate::verdict::{put_number, put_pair, verdict_text};
 use network_judge::{Fill, Verdict, find_jam};
 use network_text::network::Network;
@@ -84,8 +85,8 @@ fn jammed_text<A: Allocator + Copy>(
     Ok(text)
 }
 
-/// The text of what is judged of a network: that of its verdict, behind a cycle that of a jam, and
-/// where each pair has a route, what its packets go over.
+/// The text of what is judged of a network: that of its verdict, behind a cycle that of a jam and of the
+/// length of packets, and where each pair has a route, what its packets go over.
 ///
 /// Errors: out of memory.
 pub fn judged_text<A: Allocator + Copy>(
@@ -97,7 +98,9 @@ pub fn judged_text<A: Allocator + Copy>(
     ensures { IfOk result (λ text. IsJudgedText network.now verdict.now text.items) }
 {
     let mut text = jammed_text(alloc, network, verdict)?;
+    let sized = length_text(alloc, network, verdict)?;
     let last = totals_text(alloc, network, verdict)?;
+    text.extend_from_slice(&sized)?;
     text.extend_from_slice(&last)?;
     Ok(text)
 }

@@ -8,6 +8,7 @@ ghost use Rattle.network_answer.specs.Routing.{misfit_words, no_choice_line, no_
 ghost use Rattle.network_answer.specs.Routing.{travel_line, spaced_number, over_words, how_line};
 ghost use Rattle.network_answer.specs.Routing.{dependency_line, circuit_text};
 ghost use Rattle.network_answer.specs.Routing.{choosing_verdict_text, judgement_text};
+ghost use Rattle.network_answer.specs.Routing.{is_circuit, has_circuit, may_text};
 
 use crate::verdict::{put_no_route, put_number, put_numbers, put_pair};
 use network_adaptive::accepting::JudgedNet;
@@ -142,8 +143,7 @@ fn put_cycle<A: Allocator>(out: &mut Vec<u8, A>, edges: &[Dependency<A>]) -> Res
     ensures { OnOk result (out.new.items ≡ out.old.items ++ circuit_text edges.now) }
 {
     out.extend_from_slice(b"cycle\n")?;
-    put_dependencies(out, edges)?;
-    out.extend_from_slice(b"may lock up\n")
+    put_dependencies(out, edges)
 }
 
 /// Adds the text of a verdict on the network of a text.
@@ -186,4 +186,40 @@ pub fn judgement_text<A: Allocator + Copy>(
         JudgedNet::Judged(v) => put_verdict(&mut text, reading, v)?,
     }
     Ok(text)
+}
+
+/// Whether a verdict is a cycle.
+fn is_circuit<A: Allocator>(verdict: &Verdict<A>) -> bool
+    ensures { result ≡ is_circuit verdict.now }
+{
+    match verdict {
+        Verdict::Rising(_, _) => false,
+        Verdict::NoEscape(_) => false,
+        Verdict::Cycle(_) => true,
+    }
+}
+
+/// Whether a cycle is found.
+pub(crate) fn has_circuit<A: Allocator>(judged: &JudgedNet<A>) -> bool
+    ensures { result ≡ has_circuit judged.now }
+{
+    match judged {
+        JudgedNet::WrongPair(_) => false,
+        JudgedNet::WrongChoice(_) => false,
+        JudgedNet::Judged(verdict) => is_circuit(verdict),
+    }
+}
+
+/// Adds that a cycle may deadlock, unless no packets of the text do.
+pub(crate) fn put_may<A: Allocator>(
+    out: &mut Vec<u8, A>,
+    circuit: bool,
+    free: bool,
+) -> Result<(), AllocError>
+    ensures { OnOk result (out.new.items ≡ out.old.items ++ may_text circuit free) }
+{
+    if circuit && !free {
+        return out.extend_from_slice(b"may lock up\n");
+    }
+    Ok(())
 }

@@ -1,6 +1,6 @@
 //! The judgement of a network whose routers choose, by its lists.
 
-ghost use Rattle.std.specs.Prelude.{◌≡◌, true, IfOk, OnOk};
+ghost use Rattle.std.specs.Prelude.{◌≡◌, ◌||◌, true, IfOk, OnOk};
 ghost use Rattle.network_text.specs.ChoosingRead.{choosing_text_of, IsChoosingRead};
 ghost use Rattle.network_text.specs.ChoiceLists.{choice_list};
 ghost use Rattle.network_answer.specs.Judging.{IsChoosingJudgement, IsMarkedJudgement};
@@ -83,8 +83,15 @@ pub(crate) fn verdict_rises<A: Allocator>(verdict: &Verdict<A>) -> bool
     }
 }
 
+/// Whether a network never deadlocks: there are numbers that rise, or no packets of the text do.
+pub(crate) fn never_locks_up<A: Allocator>(judged: &JudgedNet<A>, free: bool) -> bool
+    ensures { result ≡ (judgement_rises judged.now || free) }
+{
+    judgement_rises(judged) || free
+}
+
 /// Whether there are numbers that rise.
-pub(crate) fn judgement_rises<A: Allocator>(judged: &JudgedNet<A>) -> bool
+fn judgement_rises<A: Allocator>(judged: &JudgedNet<A>) -> bool
     ensures { result ≡ judgement_rises judged.now }
 {
     match judged {

@@ -9,6 +9,7 @@ mod going;
 pub mod jam;
 pub mod judgement;
 pub mod judging;
+mod lengths;
 pub mod one_flit;
 pub mod routing;
 pub mod totals;

@@ -2,7 +2,7 @@
 //! that packets of one flit never deadlock, or the greatest dead set, with channels that fill up until
 //! nothing can go.
 
-ghost use Rattle.std.specs.Prelude.{◌≡◌, ◌++◌, ◌<◌, Bool, List, length, map, IfOk, OnOk};
+ghost use Rattle.std.specs.Prelude.{◌≡◌, ◌++◌, ◌<◌, ◌&&◌, Bool, List, length, map, IfOk, OnOk};
 ghost use Rattle.network_adaptive.specs.Choosing.{choosing_of};
 ghost use Rattle.network_adaptive.specs.Shape.{IsJudgedNet};
 ghost use Rattle.dead_sets.specs.FillingFlags.{filling_of};
@@ -10,7 +10,7 @@ ghost use Rattle.network_text.specs.Lines.{first_lines};
 ghost use Rattle.network_text.specs.Reading.{IsRead};
 ghost use Rattle.network_answer.specs.OneFlit.{dead_line, dead_set_text, spaced_back, filling_line};
 ghost use Rattle.network_answer.specs.OneFlit.{filling_line_at, filling_text, decided_text};
-ghost use Rattle.network_answer.specs.OneFlit.{lacks_numbers, StandsBehind};
+ghost use Rattle.network_answer.specs.OneFlit.{has_rising, is_one_flit, lacks_numbers, StandsBehind};
 
 use crate::judging::verdict_rises;
 use crate::verdict::{put_number, put_numbers};
@@ -111,6 +111,42 @@ fn decided_text<A: Allocator + Copy>(alloc: A, found: &Decided<A>) -> Result<Vec
     Ok(text)
 }
 
+/// What stands behind the text of a judgement.
+#[derive(Drop)]
+pub(crate) struct Behind<A: Allocator> {
+    pub(crate) text: Vec<u8, A>,
+    /// Whether by it packets of one flit never deadlock.
+    pub(crate) never: bool,
+}
+
+/// Whether it is decided that packets of one flit never deadlock.
+fn has_rising<A: Allocator>(found: &Decided<A>) -> bool
+    ensures { result ≡ has_rising found.now }
+{
+    match found {
+        Decided::Rises(_) => true,
+        Decided::Fills(_, _) => false,
+        Decided::Open(_) => false,
+    }
+}
+
+/// Whether it is said that all packets have one flit.
+fn is_one_flit(flits: Option<u32>) -> bool
+    ensures { result ≡ is_one_flit flits }
+{
+    match flits {
+        None => false,
+        Some(flits) => flits == 1,
+    }
+}
+
+/// Whether no packets of a text deadlock: all have one flit, and packets of one flit never do.
+pub(crate) fn is_free(flits: Option<u32>, never: bool) -> bool
+    ensures { result ≡ (is_one_flit flits && never) }
+{
+    is_one_flit(flits) && never
+}
+
 /// Whether no numbers rise along the escapes of a network, which is judged.
 fn lacks_numbers<A: Allocator>(judged: &JudgedNet<A>) -> bool
     ensures { result ≡ lacks_numbers judged.now }
@@ -122,7 +158,7 @@ fn lacks_numbers<A: Allocator>(judged: &JudgedNet<A>) -> bool
     }
 }
 
-/// The text that stands behind that of a judgement, by the choices and the marks of escapes as they are
+/// What stands behind the text of a judgement, by the choices and the marks of escapes as they are
 /// judged.
 ///
 /// Errors: out of memory.
@@ -133,17 +169,20 @@ pub(crate) fn behind_text<A: Allocator + Copy>(
     choices: &[u32],
     marks: &[bool],
     judged: &JudgedNet<A>,
-) -> Result<Vec<u8, A>, AllocError>
+) -> Result<Behind<A>, AllocError>
     requires read { IsRead fixed.now }
     requires judged { IsJudgedNet
         (choosing_of fixed.now.kinds.items fixed.now.joins.items ways choices.now marks.now)
         fixed.now.replies.items judged.now }
-    ensures { IfOk result (λ text. StandsBehind
+    ensures { IfOk result (λ it. StandsBehind
         (choosing_of fixed.now.kinds.items fixed.now.joins.items ways choices.now marks.now)
-        fixed.now.replies.items judged.now text.items) }
+        fixed.now.replies.items judged.now it.text.items it.never) }
 {
     if !lacks_numbers(judged) {
-        return Ok(Vec::new(alloc));
+        return Ok(Behind {
+            text: Vec::new(alloc),
+            never: false,
+        });
     }
     let kinds = &fixed.kinds;
     let found = decide(
@@ -155,5 +194,7 @@ pub(crate) fn behind_text<A: Allocator + Copy>(
         choices,
         marks,
     )?;
-    decided_text(alloc, &found)
+    let text = decided_text(alloc, &found)?;
+    let never = has_rising(&found);
+    Ok(Behind { text, never })
 }

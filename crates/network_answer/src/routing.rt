@@ -9,9 +9,9 @@ ghost use Rattle.lexer.specs.Outcome.{Gives};
 ghost use Rattle.network_text.specs.Choosing.{text_or_why};
 
 use crate::answer::{Answer, answered, no_pair};
-use crate::judgement::judgement_text;
-use crate::judging::{judgement_of, judgement_rises};
-use crate::one_flit::behind_text;
+use crate::judgement::{has_circuit, judgement_text, put_may};
+use crate::judging::{judgement_of, never_locks_up};
+use crate::one_flit::{behind_text, is_free};
 use lexer::Refusal;
 use network_text::NetworkReason;
 use network_text::choosing::{Choosing, Routers};
@@ -47,11 +47,12 @@ fn answered_choosing<A: Allocator + Copy>(
     let fixed = &network.fixed;
     let mut text = judgement_text(alloc, fixed, &it.judged)?;
     let behind = behind_text(alloc, fixed, ways, &it.choices, &it.marks, &it.judged)?;
-    text.extend_from_slice(&behind)?;
-    Ok(Answer {
-        text,
-        rising: judgement_rises(&it.judged),
-    })
+    let free = is_free(fixed.flits, behind.never);
+    let circuit = has_circuit(&it.judged);
+    put_may(&mut text, circuit, free)?;
+    text.extend_from_slice(&behind.text)?;
+    let rising = never_locks_up(&it.judged, free);
+    Ok(Answer { text, rising })
 }
 
 /// Judges the network of a text, and makes the text of what is judged.

@@ -1,5 +1,5 @@
 -- Moves that are made.
-use Rattle.std.proofs.Common.{◌≡◌, ℕ, Bool, true, false, List, ◌++◌, length, take, refl, sym, subst}
+use Rattle.std.proofs.Common.{◌≡◌, ℕ, ◌<◌, Bool, true, false, List, ◌++◌, length, take, refl, sym, subst}
 use Rattle.std.proofs.lemmas.List.{take_at}
 use Rattle.wormhole.specs.Net.{Net}
 use Rattle.wormhole.specs.State.{NetLine, NetState}
@@ -7,14 +7,15 @@ use Rattle.wormhole.specs.Events.{lines_after}
 use Rattle.network_judge.specs.Table.{Table}
 use Rattle.network_judge.specs.Verdicts.{AllArrive}
 use Rattle.network_judge.specs.LockUps.{plain_format}
+use Rattle.network_judge.specs.declared.table.Reply.{Reply}
 use Rattle.network_machine.specs.declared.channel.Channel.{Channel}
 use Rattle.network_machine.specs.declared.moves.Move.{Move}
-use Rattle.network_machine.specs.declared.moves.Move.TheVariants.{Put}
+use Rattle.network_machine.specs.declared.moves.Move.TheVariants.{Send, More, Take, Put, Accept, Credit}
 use Rattle.network_machine.specs.Keeping.{AllKeepToRoutes}
-use Rattle.network_machine.specs.Moves.{MakesEvent, event_move}
+use Rattle.network_machine.specs.Moves.{MakesEvent, event_move, move_channel, AsksChannelAlone, HasAnswerCredits}
 use Rattle.network_machine.specs.Forwards.{forward, Forwards}
 use Rattle.network_machine.specs.Outputs.{IsWayOut}
-use Rattle.network_machine.specs.Machine.{NetworkMachineSpec, ShowsNetwork, plain_network, Permits, Prevents, MakesAll, MovesAll, SameTables, HasMadeMove}
+use Rattle.network_machine.specs.Machine.{NetworkMachineSpec, ShowsNetwork, plain_network, Permits, Prevents, MakesAll, MovesAll, SameTables, HasMadeMove, IsInReach}
 use Rattle.network_machine.proofs.Keeping.{keeps_on}
 use Rattle.network_machine.proofs.Puts.{same_way}
 
@@ -51,13 +52,14 @@ moved old new of arrive same allows true made = λ number top depth s shows.
 moved old new of arrive same allows false made = λ number top depth s shows.
     (let a = allows number top depth s shows in absurd (made number top depth s shows a.0 a.1.is a.1.may))
 
--- a put that was made
-pub puts_move : (old new : NetworkMachineSpec) (x : ℕ) → AllArrive old.table → SameTables old new → MakesAll old new (Put x) true → MovesAll old new (Put x)
-puts_move old new x arrive same made = λ number top depth s shows.
+-- a move that was made and asks for no answer
+moved_plainly : (old new : NetworkMachineSpec) (of : Move) → ((ls : ℕ → NetLine) → HasAnswerCredits old.replies ls of) → AllArrive old.table → SameTables old new
+    → MakesAll old new of true → MovesAll old new of
+moved_plainly old new of answers arrive same made = λ number top depth s shows.
     (let h = made number top depth s shows in
     record {
       event = h.0;
-      can = record { is = h.1; may = h.2; answers = tt };
+      can = record { is = h.1; may = h.2; answers = answers s.lines };
       shows = record {
         lines = h.3;
         keep = subst (λ (t : Table). AllKeepToRoutes t (lines_after (plain_network old.table number top depth) s.lines h.0)) (sym same.table)
@@ -66,5 +68,38 @@ puts_move old new x arrive same made = λ number top depth s shows.
     })
 
 -- and one that no event makes
+prevented : (old new : NetworkMachineSpec) (of : Move) → MakesAll old new of false → Prevents old of
+prevented old new of made = λ number top depth s shows e can. made number top depth s shows e can.is can.may
+
+-- a put
+pub puts_move : (old new : NetworkMachineSpec) (x : ℕ) → AllArrive old.table → SameTables old new → MakesAll old new (Put x) true → MovesAll old new (Put x)
+puts_move old new x arrive same made = moved_plainly old new (Put x) (λ ls. tt) arrive same made
+
 pub puts_prevent : (old new : NetworkMachineSpec) (x : ℕ) → MakesAll old new (Put x) false → Prevents old (Put x)
-puts_prevent old new x made = λ number top depth s shows e can. made number top depth s shows e can.is can.may
+puts_prevent old new x made = prevented old new (Put x) made
+
+-- a move that asks for what stands at its channel alone
+pub in_reach : (m : NetworkMachineSpec) (of : Move) → AsksChannelAlone of → move_channel of < length m.channels → IsInReach m of
+in_reach m (Send p) alone here = absurd alone
+in_reach m (More x) alone here = here
+in_reach m (Take x) alone here = here
+in_reach m (Put x) alone here = absurd alone
+in_reach m (Accept x) alone here = absurd alone
+in_reach m (Credit x) alone here = here
+
+no_answers : (replies : List Reply) (ls : ℕ → NetLine) (of : Move) → AsksChannelAlone of → HasAnswerCredits replies ls of
+no_answers replies ls (Send p) alone = absurd alone
+no_answers replies ls (More x) alone = tt
+no_answers replies ls (Take x) alone = tt
+no_answers replies ls (Put x) alone = absurd alone
+no_answers replies ls (Accept x) alone = absurd alone
+no_answers replies ls (Credit x) alone = tt
+
+pub moves_alone : (old new : NetworkMachineSpec) (of : Move) → AsksChannelAlone of → AllArrive old.table → SameTables old new
+    → (b : Bool) → MakesAll old new of b → b ≡ true → MovesAll old new of
+moves_alone old new of alone arrive same true made is = moved_plainly old new of (λ ls. no_answers old.replies ls of alone) arrive same made
+moves_alone old new of alone arrive same false made is = absurd (cc)
+
+pub prevents_alone : (old new : NetworkMachineSpec) (of : Move) → (b : Bool) → MakesAll old new of b → b ≡ false → Prevents old of
+prevents_alone old new of true made is = absurd (cc)
+prevents_alone old new of false made is = prevented old new of made

@@ -44,6 +44,16 @@ IsOfOneChannel (Put x) = ⊥
 IsOfOneChannel (Accept x) = Unit {0}
 IsOfOneChannel (Credit x) = Unit {0}
 
+-- a move asks for what stands at its channel alone: a packet asks for its pair too, a put for an output,
+-- and a receiver for its answers
+abbrev pub AsksChannelAlone : Move → Type 0
+AsksChannelAlone (Send p) = ⊥
+AsksChannelAlone (More x) = Unit {0}
+AsksChannelAlone (Take x) = Unit {0}
+AsksChannelAlone (Put x) = ⊥
+AsksChannelAlone (Accept x) = ⊥
+AsksChannelAlone (Credit x) = Unit {0}
+
 -- a receiver that takes a flit has a credit on each channel on which it answers
 abbrev pub HasAnswerCredits : List Reply → (ℕ → NetLine) → Move → Type 0
 HasAnswerCredits replies ls (Send p) = Unit {0}

@@ -1,12 +1,12 @@
 //! Moves that are attempted.
 
-ghost use Rattle.std.specs.Prelude.{◌≡◌, true, false, OnOk, OnErr, IfErr, IfSome, IfNone};
+ghost use Rattle.std.specs.Prelude.{◌≡◌, ◌<◌, length, true, false, OnOk, OnErr, IfErr, IfSome, IfNone};
 ghost use Rattle.network_machine.specs.declared.moves.Move.TheVariants.{Send, More, Take, Put, Accept, Credit};
 ghost use Rattle.network_machine.specs.Machine.{SameTables, MovesAll, Prevents, MakesAll};
 ghost use Rattle.network_machine.specs.Machine.{IsInReach, KeepsOtherChannels};
 ghost use Rattle.network_machine.specs.Outputs.{IsWayOut};
 ghost use Rattle.network_judge.specs.Verdicts.{AllArrive};
-ghost use Rattle.network_machine.specs.Moves.{move_channel, IsOfOneChannel};
+ghost use Rattle.network_machine.specs.Moves.{move_channel, IsOfOneChannel, AsksChannelAlone};
 
 use crate::flit::{is_head, is_tail};
 use crate::machine::Machine;
@@ -14,6 +14,18 @@ use crate::moves::{Hindrance, Move, Packet};
 use crate::steps::{accept_at, begin_at, credit_at, forward_known, send_more_at, take_at};
 use network_judge::walk::{is_receiver, is_sender};
 use std::alloc::Allocator;
+
+/// Whether a move asks for what stands at its channel alone.
+fn asks_channel_alone(of: Move) -> bool
+    ensures { result ≡ true → AsksChannelAlone of }
+{
+    match of {
+        Move::More(_) => true,
+        Move::Take(_) => true,
+        Move::Credit(_) => true,
+        _ => false,
+    }
+}
 
 impl<'a, A: Allocator> Machine<'a, A> {
     /// Begins a packet.
@@ -31,6 +43,7 @@ impl<'a, A: Allocator> Machine<'a, A> {
         requires { IsInReach self.old (More x) }
         ensures made { MakesAll self.old self.new (More x) result }
         ensures others { KeepsOtherChannels self.old self.new x x }
+        ensures stays { result ≡ false → self.new ≡ self.old }
         ensures same { SameTables self.old self.new }
     {
         if !is_sender(self.kind(x)) {
@@ -44,6 +57,7 @@ impl<'a, A: Allocator> Machine<'a, A> {
         requires { IsInReach self.old (Take x) }
         ensures made { MakesAll self.old self.new (Take x) result }
         ensures others { KeepsOtherChannels self.old self.new x x }
+        ensures stays { result ≡ false → self.new ≡ self.old }
         ensures same { SameTables self.old self.new }
     {
         if is_receiver(self.kind(x)) {
@@ -103,6 +117,7 @@ impl<'a, A: Allocator> Machine<'a, A> {
         requires { IsInReach self.old (Credit x) }
         ensures made { MakesAll self.old self.new (Credit x) result }
         ensures others { KeepsOtherChannels self.old self.new x x }
+        ensures stays { result ≡ false → self.new ≡ self.old }
         ensures same { SameTables self.old self.new }
     {
         credit_at(&mut self.channels, x)
@@ -114,6 +129,7 @@ impl<'a, A: Allocator> Machine<'a, A> {
         ensures made { MakesAll self.old self.new of result }
         ensures others { IsOfOneChannel of
             → KeepsOtherChannels self.old self.new (move_channel of) (move_channel of) }
+        ensures stays { AsksChannelAlone of → result ≡ false → self.new ≡ self.old }
         ensures same { SameTables self.old self.new }
     {
         match of {
@@ -146,6 +162,21 @@ impl<'a, A: Allocator> Machine<'a, A> {
         Some(y)
     }
 
+    /// Attempts a move that asks for what stands at its channel alone.
+    fn try_alone(&mut self, of: Move) -> bool
+        requires alone { AsksChannelAlone of }
+        requires here { move_channel of < length self.old.channels }
+        requires arrive { AllArrive self.old.table }
+        ensures moves { result ≡ true → MovesAll self.old self.new of }
+        ensures others { result ≡ true
+            → KeepsOtherChannels self.old self.new (move_channel of) (move_channel of) }
+        ensures prevented { result ≡ false → Prevents self.old of }
+        ensures stays { result ≡ false → self.new ≡ self.old }
+        ensures same { SameTables self.old self.new }
+    {
+        self.make(of)
+    }
+
     /// Attempts another move than a put.
     fn try_here(&mut self, of: Move) -> bool
         requires { IsOfOneChannel of }
@@ -156,6 +187,11 @@ impl<'a, A: Allocator> Machine<'a, A> {
         ensures stays { result ≡ false → self.new ≡ self.old }
         ensures same { SameTables self.old self.new }
     {
+        if asks_channel_alone(of) {
+            if of.channel() < self.channels() {
+                return self.try_alone(of);
+            }
+        }
         if !self.is_free(of) {
             return false;
         }

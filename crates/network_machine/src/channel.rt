@@ -35,6 +35,7 @@ pub fn take(channel: &mut Channel) -> bool
     requires { ChannelHasRoom channel.old }
     ensures room { ChannelHasRoom channel.new }
     ensures owner { channel.new.owner ≡ channel.old.owner }
+    ensures stays { result ≡ false → channel.new ≡ channel.old }
     ensures line { (l : NetLine) → ShowsLine l channel.old → TakesFlit l channel.new result }
 {
     if channel.latch.is_some() || channel.flits.is_empty() {
@@ -68,6 +69,7 @@ pub fn credit(channel: &mut Channel) -> bool
     requires { ChannelHasRoom channel.old }
     ensures room { ChannelHasRoom channel.new }
     ensures owner { channel.new.owner ≡ channel.old.owner }
+    ensures stays { result ≡ false → channel.new ≡ channel.old }
     ensures line { (l : NetLine) → ShowsLine l channel.old → Credits l channel.new result }
 {
     if channel.returning == 0 {
@@ -151,6 +153,7 @@ pub fn send_more(channel: &mut Channel) -> bool
     requires { ChannelHasRoom channel.old }
     ensures room { ChannelHasRoom channel.new }
     ensures owner { channel.new.owner ≡ channel.old.owner }
+    ensures stays { result ≡ false → channel.new ≡ channel.old }
     ensures line { (l : NetLine) → ShowsLine l channel.old → SendsMore l channel.new result }
 {
     if channel.left == 0 {

@@ -15,7 +15,7 @@ pub mod moves;
 mod opening;
 mod output;
 pub mod owned;
-mod pairs;
+pub mod pairs;
 mod run;
 mod steps;
 

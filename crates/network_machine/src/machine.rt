@@ -10,7 +10,7 @@ ghost use Rattle.network_machine.specs.Machine.{IsOpenedNetwork};
 use crate::channel::Channel;
 use crate::opening::empty_channels;
 use crate::owned::Owned;
-use crate::pairs::{pair_at, rows_of};
+use crate::pairs::{is_joined, rows_of};
 use network_judge::columns::{columns_of, ends_of};
 use network_judge::walk::{cell, kind_at};
 use network_judge::{Join, Kind, Reply};
@@ -87,13 +87,7 @@ impl<'a, A: Allocator> Machine<'a, A> {
     pub(crate) fn is_joined(&self, from: usize, to: usize) -> bool
         ensures { result ≡ joins_of self.now.table from to }
     {
-        match pair_at(&self.pairs, from, to) {
-            Some(is_one) => is_one,
-            None => self
-                .joins
-                .iter()
-                .any(|pair| pair.from == from && pair.to == to),
-        }
+        is_joined(&self.pairs, self.joins, from, to)
     }
 
     /// The kind of a channel, and none beyond the channels.

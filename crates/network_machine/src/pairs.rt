@@ -1,7 +1,9 @@
 //! Which source-destination pairs packets go between, in a row for each channel, so that none is looked for
 //! among all pairs.
 
-ghost use Rattle.std.specs.Prelude.{◌≡◌, IfOk, IfSome, false, true, slice_set, length, replicate};
+ghost use Rattle.std.specs.Prelude.{◌≡◌, ◌==◌, ◌&&◌, IfOk, IfSome, false, true, slice_set, length};
+ghost use Rattle.std.specs.Prelude.{replicate};
+ghost use Rattle.std.specs.List.{list_any};
 ghost use Rattle.network_machine.specs.Pairs.{cells_of, cell_marked, TellsPair, ArePairs, NoPairs};
 
 use network_judge::walk::{is_sender, kind_at};
@@ -9,7 +11,7 @@ use network_judge::{Join, Kind};
 use std::alloc::{AllocError, Allocator};
 
 /// Whether packets go from the source to the destination of a pair, if it has a cell.
-pub(crate) fn pair_at<A: Allocator>(rows: &[Vec<bool, A>], x: usize, y: usize) -> Option<bool>
+fn pair_at<A: Allocator>(rows: &[Vec<bool, A>], x: usize, y: usize) -> Option<bool>
     ensures { IfSome result (TellsPair (cells_of rows.now) x y) }
 {
     if x >= rows.len() {
@@ -20,6 +22,22 @@ pub(crate) fn pair_at<A: Allocator>(rows: &[Vec<bool, A>], x: usize, y: usize) -
         return None;
     }
     Some(row[y])
+}
+
+/// Whether packets go from one channel to another, by the rows of all pairs.
+pub fn is_joined<A: Allocator>(
+    rows: &[Vec<bool, A>],
+    joins: &[Join],
+    from: usize,
+    to: usize,
+) -> bool
+    requires { ArePairs joins.now (cells_of rows.now) }
+    ensures { result ≡ list_any (λ pair. pair.from == from && pair.to == to) joins.now }
+{
+    match pair_at(rows, from, to) {
+        Some(is_one) => is_one,
+        None => joins.iter().any(|pair| pair.from == from && pair.to == to),
+    }
 }
 
 /// Marks a cell of a row, if it is there.
@@ -83,10 +101,10 @@ fn empty_rows<A: Allocator + Copy>(
     Ok(rows)
 }
 
-/// The rows of some pairs.
+/// The rows of some pairs, one for each channel.
 ///
 /// Errors: out of memory.
-pub(crate) fn rows_of<A: Allocator + Copy>(
+pub fn rows_of<A: Allocator + Copy>(
     alloc: A,
     kinds: &[Kind],
     joins: &[Join],

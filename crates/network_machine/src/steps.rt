@@ -39,6 +39,7 @@ pub(crate) fn send_more_at(channels: &mut [Channel], x: usize) -> bool
     ensures room { ChannelsHaveRoom channels.new }
     ensures owners { SameOwners channels.old channels.new }
     ensures others { OthersStay channels.old channels.new x x }
+    ensures stays { result ≡ false → channels.new ≡ channels.old }
     ensures lines { (n : Net) (ls : ℕ → NetLine) → x < n.channels → n.injects x ≡ true
         → ShowAll ls channels.old → MakesEvent n ls (More x) channels.new result }
 {
@@ -54,6 +55,7 @@ pub(crate) fn take_at(channels: &mut [Channel], x: usize) -> bool
     ensures room { ChannelsHaveRoom channels.new }
     ensures owners { SameOwners channels.old channels.new }
     ensures others { OthersStay channels.old channels.new x x }
+    ensures stays { result ≡ false → channels.new ≡ channels.old }
     ensures lines { (n : Net) (ls : ℕ → NetLine) → x < n.channels → n.ejects x ≡ false
         → ShowAll ls channels.old → MakesEvent n ls (Take x) channels.new result }
 {
@@ -68,6 +70,7 @@ pub(crate) fn credit_at(channels: &mut [Channel], x: usize) -> bool
     ensures room { ChannelsHaveRoom channels.new }
     ensures owners { SameOwners channels.old channels.new }
     ensures others { OthersStay channels.old channels.new x x }
+    ensures stays { result ≡ false → channels.new ≡ channels.old }
     ensures lines { (n : Net) (ls : ℕ → NetLine) → x < n.channels
         → ShowAll ls channels.old → MakesEvent n ls (Credit x) channels.new result }
 {

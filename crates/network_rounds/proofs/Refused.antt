@@ -1,11 +1,13 @@
 -- Where a bad line is refused.
-use Rattle.std.proofs.Common.{◌≡◌, ◌⊎◌, inl, inr, ℕ, refl, sym, ◌∙◌, ap}
-use Rattle.std.specs.Prelude.{Result, Err}
+use Rattle.std.proofs.Common.{◌≡◌, ◌⊎◌, inl, inr, ℕ, List, refl, sym, ◌∙◌, ap}
+use Rattle.std.specs.Prelude.{Result, Ok, Err, IfErr}
+use Rattle.network_judge.specs.declared.table.Join.{Join}
 use Rattle.network_rounds.specs.declared.reason.TrafficReason.{TrafficReason}
 use Rattle.network_rounds.specs.declared.reason.TrafficReason.TheVariants as reason
 use Rattle.lexer.specs.declared.refusal.Refusal.{Refusal}
 use Rattle.lexer.specs.Outcome.{line_of_fault, refusal_at}
 use Rattle.network_rounds.specs.Reasons.{traffic_fault_of}
+use Rattle.network_rounds.specs.Joined.{IsFirstApart, RefusesApart}
 use Rattle.network_rounds.specs.Traffic.{TrafficSpec}
 
 -- but for out of memory it stands at its line
@@ -31,3 +33,9 @@ refused_at e n got all is found =
         | inr here ↦ inr (bad ∙ ap (λ (l : ℕ). Err (refusal_at l e)) (sym here) ∙ ap Err (sym is))
       ]
     ]
+
+-- a packet that isn't joined is refused
+pub refuses_apart : {X : Type 0} (joins : List Join) (t : TrafficSpec) (r : Result X (Refusal TrafficReason)) → IfErr r (IsFirstApart joins t)
+    → IfErr r (RefusesApart joins t)
+refuses_apart joins t (Ok x) h = h
+refuses_apart joins t (Err e) h = inr h

@@ -3,7 +3,8 @@ use Rattle.std.proofs.Common.{◌≡◌, ◌⊎◌, inl, inr, ℕ, ◌<◌, ◌�
 use Rattle.std.proofs.Common.{get_or-set_same, get_or-set_other}
 use Rattle.std.specs.Prelude.{◌==◌, slice_set, slice_index_or}
 use Rattle.std.proofs.lemmas.Bool.{cases_eq, eq-eqb, eqb-true}
-use Rattle.std.proofs.lemmas.List.{length-set, get_or_past}
+use Rattle.std.specs.Vec.{with_items}
+use Rattle.std.proofs.lemmas.List.{length-set, get_or_past, with_items_is}
 use Rattle.network_machine.specs.declared.moves.Move.{Move}
 use Rattle.network_machine.specs.declared.moves.Move.TheVariants.{Send, More, Take, Put, Accept, Credit}
 use Rattle.network_machine.specs.declared.free.Lets.{Lets}
@@ -13,7 +14,7 @@ use Rattle.network_machine.specs.Machine.{NetworkMachineSpec, IsKept, KeepsOther
 use Rattle.network_machine.proofs.Kept.{kept_prevents, kept_elsewhere}
 use Rattle.network_rounds.specs.declared.flags.Places.{Places}
 use Rattle.network_rounds.specs.declared.flags.Flags.{Flags}
-use Rattle.network_rounds.specs.Flags.{no_place, nowhere, place_in, place_of, PointTo, AreFlagsBut, AreFlags, AreIdleWhereDown}
+use Rattle.network_rounds.specs.Flags.{no_place, nowhere, place_in, place_of, PointTo, AreFlagsBut, AreFlags, AreIdleWhereDown, told_places}
 use Rattle.network_rounds.proofs.Noted.{no_place_in}
 
 -- a vector is shorter than the place of no choice
@@ -134,6 +135,50 @@ tells {A} untold m choices x lets p f a b c d e is few keeps ua pa ub pb uc pc u
 
     at : (g : Flags A) → g.places ≡ f.places → p ≡ slice_index_or g.places.items x nowhere
     at g same = is ∙ ap (λ (ps : Vec Places A). slice_index_or ps.items x nowhere) (sym same)
+
+-- all of them are, in one list of flags
+pub tells_places : {A : Type 0} (untold : Move → Bool) (m : NetworkMachineSpec) (choices : List Move) (x : ℕ) (lets : Lets) (p : Places) (f e : Flags A)
+    → p ≡ get_or f.places.items x nowhere → length f.up.items ≤ no_place
+    → ((of : Move) → move_channel of ≡ x → is_let lets of ≡ false → IsKept m of)
+    → e.up.items ≡ told_places f.up.items p lets → e.places ≡ f.places
+    → AreFlagsBut (λ of. (move_channel of ≡ x) ⊎ (untold of ≡ true)) m choices f → AreFlagsBut (λ of. untold of ≡ true) m choices e
+tells_places {A} untold m choices x lets p f e is few keeps up places h =
+    tells untold m choices x lets p f (flags u1) (flags u2) (flags u3) (flags u4) e is few keeps
+    (at u1 long1) refl
+    (at u2 long2 ∙ ap (λ (us : List Bool). slice_set us p.take lets.take) (sym (at u1 long1))) refl
+    (at u3 long3 ∙ ap (λ (us : List Bool). slice_set us p.put lets.put) (sym (at u2 long2))) refl
+    (at u4 long4 ∙ ap (λ (us : List Bool). slice_set us p.accept lets.accept) (sym (at u3 long3))) refl
+    (up ∙ ap (λ (us : List Bool). slice_set us p.credit lets.credit) (sym (at u4 long4))) places h
+  where
+    flags : List Bool → Flags A
+    flags us = record { up = with_items f.up us; places = f.places }
+
+    at : (us : List Bool) → length us ≡ f.up.len → (flags us).up.items ≡ us
+    at us long = with_items_is f.up us long
+
+    u1 : List Bool
+    u1 = slice_set f.up.items p.more lets.more
+
+    u2 : List Bool
+    u2 = slice_set u1 p.take lets.take
+
+    u3 : List Bool
+    u3 = slice_set u2 p.put lets.put
+
+    u4 : List Bool
+    u4 = slice_set u3 p.accept lets.accept
+
+    long1 : length u1 ≡ f.up.len
+    long1 = (let size = length-set f.up.items p.more lets.more in let all = f.up.ok.0 in omega (arith, size, all))
+
+    long2 : length u2 ≡ f.up.len
+    long2 = length-set u1 p.take lets.take ∙ long1
+
+    long3 : length u3 ≡ f.up.len
+    long3 = length-set u2 p.put lets.put ∙ long2
+
+    long4 : length u4 ≡ f.up.len
+    long4 = length-set u3 p.accept lets.accept ∙ long3
 
 -- a channel that isn't there has no choices
 pub tells_none : {A : Type 0} (untold : Move → Bool) (m : NetworkMachineSpec) (choices : List Move) (x : ℕ) (f : Flags A) → length f.places.items ≤ x

@@ -1,7 +1,8 @@
 -- Which choices of a round may be enabled, told by what stands at their channels.
 use Rattle.std.specs.Prelude.{◌≡◌, ◌⊎◌, ℕ, ◌<◌, ◌-◌, ◌^◌, Bool, false, true, List, length, Vec}
-use Rattle.std.specs.Prelude.{slice_index_or}
+use Rattle.std.specs.Prelude.{slice_index_or, slice_set}
 use Rattle.std.specs.List.{flat_map}
+use Rattle.network_machine.specs.declared.free.Lets.{Lets}
 use Rattle.network_machine.specs.declared.moves.Move.{Move}
 use Rattle.network_machine.specs.declared.moves.Move.TheVariants.{Send, More, Take, Put, Accept}
 use Rattle.network_machine.specs.declared.moves.Move.TheVariants.{Credit}
@@ -36,6 +37,11 @@ place_in p (Take x) = p.take
 place_in p (Put x) = p.put
 place_in p (Accept x) = p.accept
 place_in p (Credit x) = p.credit
+
+-- the flags once those at a channel's places are told by its state
+abbrev pub told_places : List Bool → Places → Lets → List Bool
+told_places up p lets = slice_set (slice_set (slice_set (slice_set (slice_set up
+    p.more lets.more) p.take lets.take) p.put lets.put) p.accept lets.accept) p.credit lets.credit
 
 -- the place that is noted for a choice
 abbrev pub place_of : List Places → Move → ℕ

@@ -1,7 +1,8 @@
 -- Packets between channels that no packets go between.
-use Rattle.std.specs.Prelude.{◌≡◌, ℕ, ◌<◌, ◌==◌, ◌&&◌, Bool, true, false, List, slice_get, Some}
+use Rattle.std.specs.Prelude.{◌≡◌, ◌⊎◌, ℕ, ◌<◌, ◌==◌, ◌&&◌, Bool, true, false, List, slice_get, Some}
 use Rattle.std.specs.List.{list_any}
 use Rattle.lexer.specs.declared.refusal.Refusal.{Refusal}
+use Rattle.lexer.specs.Outcome.{refusal_at}
 use Rattle.network_judge.specs.declared.table.Join.{Join}
 use Rattle.network_rounds.specs.declared.senders.Timed.{Timed}
 use Rattle.network_rounds.specs.declared.reason.TrafficReason.{TrafficReason}
@@ -28,3 +29,7 @@ pub record IsFirstApart (joins : List Join) (t : TrafficSpec) (e : Refusal Traff
     pub before : AreJoined joins t.packets place
     pub line : slice_get t.lines place ≡ Some e.line
     pub reason : e.reason ≡ reason.NotJoined
+
+-- a refusal of the line of the first packet that isn't, or of memory, which is at no line
+abbrev pub RefusesApart : List Join → TrafficSpec → Refusal TrafficReason → Type 0
+RefusesApart joins t e = (e ≡ refusal_at 0 reason.Memory) ⊎ IsFirstApart joins t e

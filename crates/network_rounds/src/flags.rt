@@ -8,9 +8,9 @@ ghost use Rattle.network_machine.specs.declared.moves.Move.{Move};
 ghost use Rattle.network_machine.specs.Moves.{move_channel};
 ghost use Rattle.network_machine.specs.Machine.{NetworkMachineSpec};
 ghost use Rattle.network_rounds.specs.Flags.{AreFlags, AreFlagsBut, choices_of};
-ghost use Rattle.network_rounds.specs.Flags.{place_in, AreNotedIn};
+ghost use Rattle.network_rounds.specs.Flags.{place_in, AreNotedIn, told_places};
 
-use network_machine::{Machine, Move};
+use network_machine::{Lets, Machine, Move};
 use std::alloc::{AllocError, Allocator, Global};
 
 /// The places of the choices of a channel among all choices of a round; `usize::MAX` for one that
@@ -130,18 +130,29 @@ impl<A: Allocator + Copy> Flags<A> {
     }
 }
 
-impl<A: Allocator> Flags<A> {
-    /// Tells of the choice at a place whether it may be enabled, if there is one.
-    #[inline(always)]
-    fn tell(&mut self, place: usize, may: bool)
-        ensures up { self.new.up.items ≡ slice_set self.old.up.items place may }
-        ensures places { self.new.places ≡ self.old.places }
-    {
-        if place < self.up.len() {
-            self.up[place] = may;
-        }
+/// Tells of the choice at a place whether it may be enabled, if there is one.
+#[inline(always)]
+fn tell(up: &mut [bool], place: usize, may: bool)
+    ensures { up.new ≡ slice_set up.old place may }
+{
+    if place < up.len() {
+        up[place] = may;
     }
+}
 
+/// Tells of all choices of a channel whether they may be enabled.
+#[inline(always)]
+fn tell_places(up: &mut [bool], places: Places, lets: Lets)
+    ensures { up.new ≡ told_places up.old places lets }
+{
+    tell(up, places.more, lets.more);
+    tell(up, places.take, lets.take);
+    tell(up, places.put, lets.put);
+    tell(up, places.accept, lets.accept);
+    tell(up, places.credit, lets.credit);
+}
+
+impl<A: Allocator> Flags<A> {
     /// Tells of all choices of a channel whether they may be enabled.
     pub fn tell_channel<B: Allocator>(&mut self, machine: &Machine<B>, x: usize)
         requires { length self.old.places.items ≡ length machine.now.channels }
@@ -156,11 +167,7 @@ impl<A: Allocator> Flags<A> {
         }
         let lets = machine.lets(x);
         let places = self.places[x];
-        self.tell(places.more, lets.more);
-        self.tell(places.take, lets.take);
-        self.tell(places.put, lets.put);
-        self.tell(places.accept, lets.accept);
-        self.tell(places.credit, lets.credit);
+        tell_places(&mut self.up, places, lets);
     }
 
     /// Tells it of all channels.

@@ -1,6 +1,6 @@
 -- Once choices are given, a line of a text of fixed routes keeps their number.
 use Rattle.std.proofs.Common.{◌≡◌, ℕ, ◌+◌, Bool, true, false, List, [], ◌∷◌, length, refl, ◌∙◌, ap, subst}
-use Rattle.std.specs.Prelude.{Result, Ok, Err, Option, Some, None, if◌then◌else◌, not, replicate, nat_le, nat_lt, ◌==◌, ◌&&◌, ◌*◌, ◌^◌, slice_get, slice_index, slice_index_or, codes}
+use Rattle.std.specs.Prelude.{Result, Ok, Err, Option, Some, None, is_some, if◌then◌else◌, not, replicate, nat_le, nat_lt, ◌==◌, ◌&&◌, ◌*◌, ◌^◌, slice_get, slice_index, slice_index_or, codes}
 use Rattle.std.proofs.lemmas.List.{length-set}
 use Rattle.lexer.specs.Words.{begins_comment}
 use Rattle.lexer.specs.Outcome.{◌>>=◌}
@@ -15,7 +15,7 @@ use Rattle.network_text.specs.Shapes.{unless, number_at, after_one, after_two, a
 use Rattle.network_text.specs.AllPairs.{pairs_in}
 use Rattle.std.specs.Str.{bytes_eq}
 use Rattle.network_text.specs.Network.{Reading, reading_with, lacks, count_of, is_hop, has_reply, begun, started, cell_of, unnamed, names_at, with_names}
-use Rattle.network_text.specs.Network.{after_channels, after_inject, after_eject, after_join, after_join_all, after_choice, after_next, after_reply}
+use Rattle.network_text.specs.Network.{after_channels, after_inject, after_eject, after_join, after_join_all, after_choice, after_next, after_reply, after_length}
 use Rattle.network_text.specs.Network.{after_router, after_link, after_name, after_first, after_words}
 
 abbrev Read : Type 0
@@ -96,7 +96,7 @@ name_words_keep r f (a ∷ ws) each =
     keeps_if r _ _ _ (keeps_bind r (number_at 1 a) _ (λ x. keeps_if r _ _ _ (each x) (keeps_err r _))) (keeps_err r _)
 
 named_by : (r : Reading) (b : Bool) → r.begun ≡ true
-    → Same r (if b then reading_with r.table r.replies r.begun (replicate 65536 unnamed) else r)
+    → Same r (if b then reading_with r.table r.replies r.begun (replicate 65536 unnamed) r.flits else r)
 named_by r true given = (given, refl)
 named_by r false given = (given, refl)
 
@@ -154,6 +154,11 @@ reply_keeps r x y given =
     (keeps_unless r (lacks r 2 y) _ (keeps_if r (not (is_sender (slice_get r.table.kinds y))) _ _ (keeps_err r _)
     (keeps_if r (has_reply r.replies x y) _ _ (keeps_err r _) (keeps_ok r _ (given, refl))))))
 
+length_keeps : (r : Reading) (n : ℕ) → r.begun ≡ true → Keeps r (after_length r n)
+length_keeps r n given =
+    keeps_if r (count_of r == 0) _ _ (keeps_err r _) (keeps_if r (is_some r.flits) _ _ (keeps_err r _)
+    (keeps_if r (nat_le 1 n && nat_le n 2147483647) _ _ (keeps_ok r _ (given, refl)) (keeps_err r _)))
+
 begun_same : (r : Reading) → r.begun ≡ true → begun r ≡ r
 begun_same r given = ap (λ b. if b then r else started r) given
 
@@ -179,6 +184,7 @@ first_keeps r (Some key.Eject) ws given = one_keeps r key.Eject (after_eject r) 
 first_keeps r (Some key.Join) ws given = join_words_keep r (after_join r) (after_join_all r) ws (λ i j. join_keeps r i j given) (join_all_keeps r given)
 first_keeps r (Some key.Next) ws given = three_keeps r key.Next (after_next r) ws (λ x j y. next_keeps r x j y given)
 first_keeps r (Some key.Reply) ws given = two_keeps r key.Reply (after_reply r) ws (λ x y. reply_keeps r x y given)
+first_keeps r (Some key.Length) ws given = one_keeps r key.Length (after_length r) ws (λ x. length_keeps r x given)
 first_keeps r (Some key.Router) ws given = router_words_keep r (after_router r) ws (λ x. router_keeps r x given)
 first_keeps r (Some key.Link) ws given = link_words_keep r (after_link r) ws (λ x a b. link_keeps r x a b given)
 first_keeps r (Some key.Name) ws given = name_words_keep r (after_name r) ws (λ x. name_keeps r x given)

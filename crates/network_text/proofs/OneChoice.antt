@@ -25,11 +25,19 @@ begun_replies : (r : Reading) (b : Bool) → r.begun ≡ b → (begun r).replies
 begun_replies r true e = ap (λ b. (if b then r else started r).replies) e
 begun_replies r false e = ap (λ b. (if b then r else started r).replies) e
 
+begun_flits : (r : Reading) (b : Bool) → r.begun ≡ b → (begun r).flits ≡ r.flits
+begun_flits r true e = ap (λ b. (if b then r else started r).flits) e
+begun_flits r false e = ap (λ b. (if b then r else started r).flits) e
+
 all_by : (n : ℕ) (t : ChoosingText) (b : Bool)
-    → then_lines n (if b then Err reason.ChannelsMissing else Ok (record { table = (begun t.fixed).table; replies = t.fixed.replies })) Ok
+    → then_lines n (if b then Err reason.ChannelsMissing
+    else Ok (record { table = (begun t.fixed).table; replies = t.fixed.replies; flits = t.fixed.flits })) Ok
     ≡ network_by (then_lines n (if b then Err reason.ChannelsMissing else Ok (choosing_with (begun t.fixed) t.layers t.further t.escapes)) Ok)
 all_by n t true = refl
-all_by n t false = ap (λ rs. Ok (record { table = (begun t.fixed).table; replies = rs })) (sym (begun_replies t.fixed t.fixed.begun refl))
+all_by n t false =
+    ap (λ rs. Ok (record { table = (begun t.fixed).table; replies = rs; flits = t.fixed.flits })) (sym (begun_replies t.fixed t.fixed.begun refl))
+    ∙ ap (λ fs. Ok (record { table = (begun t.fixed).table; replies = (begun t.fixed).replies; flits = fs }))
+    (sym (begun_flits t.fixed t.fixed.begun refl))
 
 line_by : (n : ℕ) (m : Read) (t : ChoosingText) (lines : List (List ℕ))
     → ((u : ChoosingText) (k : ℕ) → network_from u.fixed k lines ≡ network_by (text_from OneChoice u k lines))

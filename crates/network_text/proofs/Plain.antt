@@ -1,6 +1,6 @@
 -- Lines that give no names go as with other names.
 use Rattle.std.proofs.Common.{◌≡◌, ℕ, Bool, true, false, List, [], ◌∷◌, ◌++◌, refl, ◌∙◌, ap}
-use Rattle.std.specs.Prelude.{Result, Ok, Err, Option, Some, None, if◌then◌else◌, not, replicate, slice_get, slice_set, slice_index_or, slice_index, nat_le, nat_lt, ◌+◌, length, ◌==◌, ◌&&◌, codes}
+use Rattle.std.specs.Prelude.{Result, Ok, Err, Option, Some, None, is_some, if◌then◌else◌, not, replicate, slice_get, slice_set, slice_index_or, slice_index, nat_le, nat_lt, ◌+◌, length, ◌==◌, ◌&&◌, codes}
 use Rattle.lexer.specs.Words.{begins_comment}
 use Rattle.lexer.specs.Outcome.{◌>>=◌}
 use Rattle.network_judge.specs.declared.table.Kind.TheVariants.{Injection, Hop, Ejection}
@@ -15,7 +15,7 @@ use Rattle.network_text.specs.Shapes.{unless, after_one, after_two, after_three,
 use Rattle.network_text.specs.AllPairs.{all_joins, pairs_in}
 use Rattle.std.specs.Str.{bytes_eq}
 use Rattle.network_text.specs.Network.{Reading, reading_with, lacks, is_hop, with_kind, count_of, begun, started, cell_of, has_reply}
-use Rattle.network_text.specs.Network.{after_channels, after_inject, after_eject, after_join, after_join_all, after_choice, after_next, after_reply}
+use Rattle.network_text.specs.Network.{after_channels, after_inject, after_eject, after_join, after_join_all, after_choice, after_next, after_reply, after_length}
 use Rattle.network_text.specs.Network.{after_first, after_words}
 use Rattle.network_text.specs.Names.{is_naming, words_name}
 
@@ -24,7 +24,7 @@ Read = Result Reading NetworkReason
 
 -- with other names
 abbrev pub forget : List GivenNames → Reading → Reading
-forget s r = reading_with r.table r.replies r.begun s
+forget s r = reading_with r.table r.replies r.begun s r.flits
 
 abbrev pub mapped : List GivenNames → Read → Read
 mapped s (Ok r) = Ok (forget s r)
@@ -73,10 +73,10 @@ three_mapped s k f h (a ∷ b ∷ c ∷ d ∷ more) each = refl
 channels_mapped : (s : List GivenNames) (r : Reading) (x : ℕ) → after_channels (forget s r) x ≡ mapped s (after_channels r x)
 channels_mapped s r x =
     ap (λ (o : Read). if not (count_of r == 0) then Err reason.ChannelsTwice else o) (if_mapped s (nat_le 1 x && nat_le x 65536)
-    (Ok (reading_with (table_of (replicate x Hop) r.table.joins r.table.choices) r.replies r.begun r.names)) (Err reason.ChannelsLimits))
+    (Ok (reading_with (table_of (replicate x Hop) r.table.joins r.table.choices) r.replies r.begun r.names r.flits)) (Err reason.ChannelsLimits))
     ∙ if_mapped s (not (count_of r == 0)) (Err reason.ChannelsTwice)
     (if nat_le 1 x && nat_le x 65536
-    then Ok (reading_with (table_of (replicate x Hop) r.table.joins r.table.choices) r.replies r.begun r.names)
+    then Ok (reading_with (table_of (replicate x Hop) r.table.joins r.table.choices) r.replies r.begun r.names r.flits)
     else Err reason.ChannelsLimits)
 
 inject_mapped : (s : List GivenNames) (r : Reading) (x : ℕ) → after_inject (forget s r) x ≡ mapped s (after_inject r x)
@@ -104,13 +104,13 @@ three_tests_mapped s false false x y z = refl
 join_mapped : (s : List GivenNames) (r : Reading) (i j : ℕ) → after_join (forget s r) i j ≡ mapped s (after_join r i j)
 join_mapped s r i j = unless_mapped s (lacks r 1 i) _ _ (unless_mapped s (lacks r 2 j) _ _
     (if_mapped s (nat_le 4194304 (length r.table.joins)) (Err reason.JoinsLimits)
-    (Ok (reading_with (table_of r.table.kinds (r.table.joins ++ record { from = i; to = j } ∷ []) r.table.choices) r.replies r.begun r.names))))
+    (Ok (reading_with (table_of r.table.kinds (r.table.joins ++ record { from = i; to = j } ∷ []) r.table.choices) r.replies r.begun r.names r.flits))))
 
 join_all_mapped : (s : List GivenNames) (r : Reading) → after_join_all (forget s r) ≡ mapped s (after_join_all r)
 join_all_mapped s r =
     three_tests_mapped s (count_of r == 0) (nat_lt 4194304 (length r.table.joins + pairs_in r.table.kinds))
     (Err reason.ChannelsFirst) (Err reason.AllJoinsLimits)
-    (Ok (reading_with (table_of r.table.kinds (r.table.joins ++ all_joins r.table.kinds) r.table.choices) r.replies r.begun r.names))
+    (Ok (reading_with (table_of r.table.kinds (r.table.joins ++ all_joins r.table.kinds) r.table.choices) r.replies r.begun r.names r.flits))
 
 join_words_mapped : (s : List GivenNames) (f h : ℕ → ℕ → Read) (a b : Read) (ws : List (List ℕ))
     → ((x y : ℕ) → h x y ≡ mapped s (f x y)) → b ≡ mapped s a → after_join_words h b ws ≡ mapped s (after_join_words f a ws)
@@ -130,7 +130,7 @@ begun_mapped s r = begun_by s r r.begun
 choice_mapped : (s : List GivenNames) (r : Reading) (cell y : ℕ) → after_choice (forget s r) cell y ≡ mapped s (after_choice r cell y)
 choice_mapped s r cell y =
     if_mapped s (not (slice_index r.table.choices cell == count_of r)) (Err reason.ChoiceTwice)
-    (Ok (reading_with (table_of r.table.kinds r.table.joins (slice_set r.table.choices cell y)) r.replies r.begun r.names))
+    (Ok (reading_with (table_of r.table.kinds r.table.joins (slice_set r.table.choices cell y)) r.replies r.begun r.names r.flits))
 
 next_mapped : (s : List GivenNames) (r : Reading) (x j y : ℕ) → after_next (forget s r) x j y ≡ mapped s (after_next r x j y)
 next_mapped s r x j y =
@@ -143,7 +143,7 @@ next_mapped s r x j y =
 
 reply_mapped : (s : List GivenNames) (r : Reading) (x y : ℕ) → after_reply (forget s r) x y ≡ mapped s (after_reply r x y)
 reply_mapped s r x y =
-    let made : Read = Ok (reading_with r.table (r.replies ++ record { from = x; to = y } ∷ []) r.begun r.names) in
+    let made : Read = Ok (reading_with r.table (r.replies ++ record { from = x; to = y } ∷ []) r.begun r.names r.flits) in
     let fresh : Read = if has_reply r.replies x y then Err reason.ReplyTwice else made in
     let sends : Read = if not (is_sender (slice_get r.table.kinds y)) then Err (reason.NotInjection 2) else fresh in
     unless_mapped s (lacks r 1 x) _ _
@@ -153,6 +153,11 @@ reply_mapped s r x y =
     (if_mapped s (has_reply r.replies x y) (Err reason.ReplyTwice) made)
     ∙ if_mapped s (not (is_sender (slice_get r.table.kinds y))) (Err (reason.NotInjection 2)) fresh))
     ∙ if_mapped s (not (is_receiver (slice_get r.table.kinds x))) (Err (reason.NotEjection 1)) (unless (lacks r 2 y) sends))
+
+length_mapped : (s : List GivenNames) (r : Reading) (n : ℕ) → after_length (forget s r) n ≡ mapped s (after_length r n)
+length_mapped s r n =
+    four_mapped s (count_of r == 0) (is_some r.flits) (nat_le 1 n && nat_le n 2147483647) (Err reason.ChannelsFirst) (Err reason.LengthTwice)
+    (Ok (reading_with r.table r.replies r.begun r.names (Some n))) (Err reason.LengthLimits)
 
 -- a line without names goes as with them
 pub record Goes (s : List GivenNames) (o : Read) (next : Reading) : Type 0 where
@@ -180,6 +185,8 @@ goes_by s r next false (Some key.Next) ws plain made =
     record { names = s; made = three_mapped s key.Next (after_next r) (after_next (forget s r)) ws (next_mapped s r) ∙ ap (mapped s) made }
 goes_by s r next false (Some key.Reply) ws plain made =
     record { names = s; made = two_mapped s key.Reply (after_reply r) (after_reply (forget s r)) ws (reply_mapped s r) ∙ ap (mapped s) made }
+goes_by s r next false (Some key.Length) ws plain made =
+    record { names = s; made = one_mapped s key.Length (after_length r) (after_length (forget s r)) ws (length_mapped s r) ∙ ap (mapped s) made }
 goes_by s r next false (Some key.Router) ws plain made = absurd (cc)
 goes_by s r next false (Some key.Link) ws plain made = absurd (cc)
 goes_by s r next false (Some key.Name) ws plain made = absurd (cc)

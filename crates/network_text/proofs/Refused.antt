@@ -40,6 +40,8 @@ at_line reason.LinkTwice n = inr refl
 at_line reason.NameTwice n = inr refl
 at_line reason.SameChoice n = inr refl
 at_line reason.EscapeTwice n = inr refl
+at_line reason.LengthTwice n = inr refl
+at_line reason.LengthLimits n = inr refl
 at_line reason.Memory n = inl refl
 
 -- the refusal of a line is what the reader answers

@@ -8,7 +8,7 @@ use Rattle.network_text.specs.declared.reason.NetworkReason.{NetworkReason}
 use Rattle.network_text.specs.Reasons.{network_keyword_of}
 use Rattle.network_text.specs.Shapes.{after_one, after_two, after_three, after_join_words, after_router_words, after_link_words, after_name_words}
 use Rattle.network_text.specs.Network.{Reading, after_first, after_words}
-use Rattle.network_text.specs.Network.{after_channels, after_inject, after_eject, after_join, after_join_all, after_next, after_reply}
+use Rattle.network_text.specs.Network.{after_channels, after_inject, after_eject, after_join, after_join_all, after_next, after_reply, after_length}
 use Rattle.network_text.specs.Network.{after_router, after_link, after_name}
 
 one_six : (k : Keyword) (f : ℕ → Result Reading NetworkReason) (ws : List (List ℕ)) → after_one k f (take 6 ws) ≡ after_one k f ws
@@ -70,6 +70,7 @@ first_six r (Some key.Eject) ws = one_six key.Eject (after_eject r) ws
 first_six r (Some key.Join) ws = join_six (after_join r) (after_join_all r) ws
 first_six r (Some key.Next) ws = three_six key.Next (after_next r) ws
 first_six r (Some key.Reply) ws = two_six key.Reply (after_reply r) ws
+first_six r (Some key.Length) ws = one_six key.Length (after_length r) ws
 first_six r (Some key.Router) ws = router_six (after_router r) ws
 first_six r (Some key.Link) ws = link_six (after_link r) ws
 first_six r (Some key.Name) ws = name_six (after_name r) ws

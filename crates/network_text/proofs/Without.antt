@@ -47,7 +47,7 @@ keeps_bind s r (Err e) f a = keeps_err s r e
 
 -- names under a number keep all else
 begun_by_names : (s : List GivenNames) (r : Reading) (b : Bool)
-    → forget s (if b then reading_with r.table r.replies r.begun (replicate 65536 unnamed) else r) ≡ forget s r
+    → forget s (if b then reading_with r.table r.replies r.begun (replicate 65536 unnamed) r.flits else r) ≡ forget s r
 begun_by_names s r true = refl
 begun_by_names s r false = refl
 
@@ -106,6 +106,7 @@ keeps_by s r false (Some key.Join) ws named = absurd (cc)
 keeps_by s r false (Some key.Next) ws named = absurd (cc)
 keeps_by s r false (Some key.Reply) ws named = absurd (cc)
 keeps_by s r false (Some key.Escape) ws named = absurd (cc)
+keeps_by s r false (Some key.Length) ws named = absurd (cc)
 keeps_by s r false (Some key.Router) ws named = router_words_keep s r (after_router r) ws (router_keeps s r)
 keeps_by s r false (Some key.Link) ws named = link_words_keep s r (after_link r) ws (link_keeps s r)
 keeps_by s r false (Some key.Name) ws named = name_words_keep s r (after_name r) ws (name_keeps s r)
@@ -131,7 +132,7 @@ other_number a b (Err e) net is = absurd (cc)
 
 -- the network at the end of a reading r, with the table of a reading q
 abbrev network_by : Reading → Reading → Result NetworkSpec NetworkReason
-network_by r q = if count_of r == 0 then Err reason.ChannelsMissing else Ok (record { table = q.table; replies = r.replies })
+network_by r q = if count_of r == 0 then Err reason.ChannelsMissing else Ok (record { table = q.table; replies = r.replies; flits = r.flits })
 
 with_mapped : (s : List GivenNames) (r : Reading) → network_with (forget s r) ≡ network_with r
 with_mapped s r = ap (network_by r) (begun_mapped s r)

@@ -9,7 +9,7 @@ use Rattle.network_text.specs.declared.before.Wanted.{Wanted}
 use Rattle.network_text.specs.declared.before.Wanted.TheVariants as wanted
 use Rattle.network_text.specs.declared.reason.Keyword.{Keyword}
 use Rattle.network_text.specs.declared.reason.Keyword.TheVariants.{Channels, Inject, Eject}
-use Rattle.network_text.specs.declared.reason.Keyword.TheVariants.{Next, Reply, Router}
+use Rattle.network_text.specs.declared.reason.Keyword.TheVariants.{Next, Reply, Length, Router}
 use Rattle.network_text.specs.declared.reason.Keyword.TheVariants.{Link, Name, Escape}
 use Rattle.network_text.specs.declared.reason.NetworkReason.{NetworkReason}
 use Rattle.network_text.specs.declared.reason.NetworkReason.TheVariants as reason
@@ -27,6 +27,7 @@ numbers_give wanted.Channels Channels a b c = true
 numbers_give (wanted.Kind x) Inject a b c = a == x
 numbers_give (wanted.Kind x) Eject a b c = a == x
 numbers_give wanted.Next Next a b c = true
+numbers_give wanted.Length Length a b c = true
 numbers_give (wanted.Choice x j) Next a b c = (a == x) && (b == j)
 numbers_give (wanted.Reply x y) Reply a b c = (a == x) && (b == y)
 numbers_give (wanted.Router r) Router a b c = a == r
@@ -61,6 +62,7 @@ wanted_of reason.ChoiceTwice values =
     Some (wanted.Choice (first_index values) (second_index values))
 wanted_of reason.ReplyTwice values =
     Some (wanted.Reply (first_index values) (second_index values))
+wanted_of reason.LengthTwice values = Some wanted.Length
 wanted_of reason.RouterTwice values = Some (wanted.Router (first_index values))
 wanted_of reason.LinkTwice values = Some (wanted.Link (first_index values))
 wanted_of reason.NameTwice values = Some (wanted.Name (first_index values))

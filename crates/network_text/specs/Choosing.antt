@@ -146,6 +146,7 @@ text_or_why routers lines = text_from routers nothing_chosen 1 lines
 abbrev pub is_fixed : ChoosingText → Bool
 is_fixed t = t.layers == 0 && are_none t.escapes
 
--- its tables and replies
+-- its tables, its replies and the length of its packets
 abbrev pub fixed_network : ChoosingText → NetworkSpec
-fixed_network t = record { table = t.fixed.table; replies = t.fixed.replies }
+fixed_network t =
+    record { table = t.fixed.table; replies = t.fixed.replies; flits = t.fixed.flits }

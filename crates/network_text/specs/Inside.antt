@@ -8,6 +8,7 @@ abbrev pub network_of_fields : {A : Type 0} → Inside A → NetworkSpec
 network_of_fields n = record {
   table = table_of n.kinds.items n.joins.items n.choices.items;
   replies = n.replies.items;
+  flits = n.flits;
 }
 
 -- there is a choice for each channel and ejection channel, and each reply is from an ejection to an

@@ -3,7 +3,7 @@
 use Rattle.std.specs.Prelude.{◌≡◌, ◌⊎◌, ℕ, ◌+◌, ◌*◌, ◌^◌, ◌==◌, ◌&&◌, Bool, true, false, not}
 use Rattle.std.specs.Prelude.{nat_le, nat_lt, List, [], ◌∷◌, ◌++◌}
 use Rattle.std.specs.Prelude.{length, replicate, slice_index, slice_index_or, slice_get, slice_set}
-use Rattle.std.specs.Prelude.{Result, Ok, Err, Option, Some, None, if◌then◌else◌}
+use Rattle.std.specs.Prelude.{Result, Ok, Err, Option, Some, None, is_some, if◌then◌else◌}
 use Rattle.std.specs.List.{list_any}
 use Rattle.lexer.specs.Words.{words_of, begins_comment}
 use Rattle.lexer.specs.declared.refusal.Refusal.{Refusal}
@@ -25,21 +25,22 @@ use Rattle.network_judge.specs.declared.table.Reply.{Reply}
 use Rattle.network_judge.specs.Table.{Table, table_of, columns_of, column_of, is_sender, is_receiver}
 
 -- what is read so far: the tables, the replies, whether a choice was given yet (there are no
--- choices before), and which names are given
+-- choices before), which names are given, and how many flits each packet has, if that is given
 pub record Reading : Type 0 where
   pub table : Table
   pub replies : List Reply
   pub begun : Bool
   pub names : List GivenNames
+  pub flits : Option ℕ
 
 -- these
-abbrev pub reading_with : Table → List Reply → Bool → List GivenNames → Reading
-reading_with table replies begun names =
-    record { table = table; replies = replies; begun = begun; names = names }
+abbrev pub reading_with : Table → List Reply → Bool → List GivenNames → Option ℕ → Reading
+reading_with table replies begun names flits =
+    record { table = table; replies = replies; begun = begun; names = names; flits = flits }
 
 -- nothing is given
 abbrev pub nothing_read : Reading
-nothing_read = reading_with (table_of [] [] []) [] false []
+nothing_read = reading_with (table_of [] [] []) [] false [] None
 
 -- how many channels there are; none before their number is given
 abbrev pub count_of : Reading → ℕ
@@ -58,7 +59,7 @@ after_channels r count =
     if not (count_of r == 0) then Err reason.ChannelsTwice
     else (if nat_le 1 count && nat_le count 65536
     then Ok (reading_with (table_of (replicate count Hop) r.table.joins r.table.choices) r.replies
-    r.begun r.names)
+    r.begun r.names r.flits)
     else Err reason.ChannelsLimits)
 
 -- whether a kind is that of hops
@@ -71,7 +72,7 @@ is_hop Ejection = false
 abbrev pub with_kind : Reading → ℕ → Kind → Reading
 with_kind r x kind =
     reading_with (table_of (slice_set r.table.kinds x kind) r.table.joins r.table.choices) r.replies
-    r.begun r.names
+    r.begun r.names r.flits
 
 -- a channel is made an injection channel, once
 abbrev pub after_inject : Reading → ℕ → Result Reading NetworkReason
@@ -94,7 +95,7 @@ after_join r i j = unless (lacks r 1 i) (unless (lacks r 2 j)
     (if nat_le 4194304 (length r.table.joins) then Err reason.JoinsLimits
     else Ok (reading_with (table_of r.table.kinds
     (r.table.joins ++ record { from = i; to = j } ∷ []) r.table.choices)
-    r.replies r.begun r.names)))
+    r.replies r.begun r.names r.flits)))
 
 -- packets go from each sender so far to each receiver so far
 abbrev pub after_join_all : Reading → Result Reading NetworkReason
@@ -103,14 +104,14 @@ after_join_all r =
     else (if nat_lt 4194304 (length r.table.joins + pairs_in r.table.kinds)
     then Err reason.AllJoinsLimits
     else Ok (reading_with (table_of r.table.kinds (r.table.joins ++ all_joins r.table.kinds)
-    r.table.choices) r.replies r.begun r.names))
+    r.table.choices) r.replies r.begun r.names r.flits))
 
 -- with choices: none yet behind any channel for any ejection channel
 abbrev pub started : Reading → Reading
 started r =
     reading_with (table_of r.table.kinds r.table.joins
     (replicate (count_of r * columns_of r.table) (count_of r)))
-    r.replies true r.names
+    r.replies true r.names r.flits
 
 -- with choices, if none was given
 abbrev pub begun : Reading → Reading
@@ -134,7 +135,7 @@ abbrev pub after_choice : Reading → ℕ → ℕ → Result Reading NetworkReas
 after_choice r cell y =
     if not (slice_index r.table.choices cell == count_of r) then Err reason.ChoiceTwice
     else Ok (reading_with (table_of r.table.kinds r.table.joins (slice_set r.table.choices cell y))
-    r.replies r.begun r.names)
+    r.replies r.begun r.names r.flits)
 
 -- the choice behind a channel for packets to an ejection channel
 abbrev pub after_next : Reading → ℕ → ℕ → ℕ → Result Reading NetworkReason
@@ -153,7 +154,17 @@ after_reply r x y = unless (lacks r 1 x)
     else unless (lacks r 2 y)
     (if not (is_sender (slice_get r.table.kinds y)) then Err (reason.NotInjection 2)
     else (if has_reply r.replies x y then Err reason.ReplyTwice
-    else Ok (reading_with r.table (r.replies ++ record { from = x; to = y } ∷ []) r.begun r.names))))
+    else Ok (reading_with r.table (r.replies ++ record { from = x; to = y } ∷ [])
+    r.begun r.names r.flits))))
+
+-- all packets have so many flits, 1 to 2147483647, which is said once
+abbrev pub after_length : Reading → ℕ → Result Reading NetworkReason
+after_length r flits =
+    if count_of r == 0 then Err reason.ChannelsFirst
+    else (if is_some r.flits then Err reason.LengthTwice
+    else (if nat_le 1 flits && nat_le flits 2147483647
+    then Ok (reading_with r.table r.replies r.begun r.names (Some flits))
+    else Err reason.LengthLimits))
 
 -- no name is given
 abbrev pub unnamed : GivenNames
@@ -166,14 +177,14 @@ names_at r x = slice_index_or r.names x unnamed
 -- with room for the names under so many numbers, without one, if none was given
 abbrev pub begun_names : ℕ → Reading → Reading
 begun_names room r = if length r.names == 0
-    then reading_with r.table r.replies r.begun (replicate room unnamed)
+    then reading_with r.table r.replies r.begun (replicate room unnamed) r.flits
     else r
 
 -- with these names under a number
 abbrev pub with_names : Reading → ℕ → GivenNames → Reading
 with_names r x n =
     let b = begun_names 65536 r in
-    reading_with b.table b.replies b.begun (slice_set b.names x n)
+    reading_with b.table b.replies b.begun (slice_set b.names x n) b.flits
 
 -- a router is given once; its number is below 65536
 abbrev pub after_router : Reading → ℕ → Result Reading NetworkReason
@@ -217,6 +228,7 @@ after_keyword r key.Eject values = after_one key.Eject (after_eject r) values
 after_keyword r key.Join values = after_join_words (after_join r) (after_join_all r) values
 after_keyword r key.Next values = after_three key.Next (after_next r) values
 after_keyword r key.Reply values = after_two key.Reply (after_reply r) values
+after_keyword r key.Length values = after_one key.Length (after_length r) values
 after_keyword r key.Router values = after_router_words (after_router r) values
 after_keyword r key.Link values = after_link_words (after_link r) values
 after_keyword r key.Name values = after_name_words (after_name r) values
@@ -233,16 +245,18 @@ after_words r [] = Ok r
 after_words r (word ∷ values) =
     if begins_comment word then Ok r else after_first r (network_keyword_of word) values
 
--- a network: its tables, and which packets are answered where
+-- a network: its tables, which packets are answered where, and how many flits each packet has, if that
+-- is given
 pub record NetworkSpec : Type 0 where
   pub table : Table
   pub replies : List Reply
+  pub flits : Option ℕ
 
 -- that of all lines; the number of channels must be given
 abbrev pub network_with : Reading → Result NetworkSpec NetworkReason
 network_with r =
     if count_of r == 0 then Err reason.ChannelsMissing
-    else Ok (record { table = (begun r).table; replies = r.replies })
+    else Ok (record { table = (begun r).table; replies = r.replies; flits = r.flits })
 
 -- that network, or why it is refused, or out of memory
 abbrev pub MakesNetwork :

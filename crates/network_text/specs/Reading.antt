@@ -8,7 +8,7 @@ use Rattle.network_text.specs.Network.{Reading, reading_with}
 
 abbrev pub reading_of : {A : Type 0} → reading.Reading A → Reading
 reading_of r = reading_with (table_of r.kinds.items r.joins.items r.choices.items) r.replies.items
-    r.begun r.names.items
+    r.begun r.names.items r.flits
 
 -- the ejection channels are counted, the choices and their columns stand as they must, and so do
 -- the replies and the names

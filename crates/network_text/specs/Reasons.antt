@@ -6,7 +6,7 @@ use Rattle.torus.specs.declared.fault.Fault.{Fault}
 use Rattle.torus.specs.declared.fault.Fault.TheVariants as fault
 use Rattle.network_text.specs.declared.reason.Keyword.{Keyword}
 use Rattle.network_text.specs.declared.reason.Keyword.TheVariants.{Channels, Inject, Eject, Join}
-use Rattle.network_text.specs.declared.reason.Keyword.TheVariants.{Next, Reply, Router}
+use Rattle.network_text.specs.declared.reason.Keyword.TheVariants.{Next, Reply, Length, Router}
 use Rattle.network_text.specs.declared.reason.Keyword.TheVariants.{Link, Name, Escape}
 use Rattle.network_text.specs.declared.reason.NetworkReason.{NetworkReason}
 use Rattle.network_text.specs.declared.reason.NetworkReason.TheVariants as reason
@@ -38,6 +38,8 @@ network_fault_of reason.LinkTwice = fault.Setting
 network_fault_of reason.NameTwice = fault.Setting
 network_fault_of reason.SameChoice = fault.Setting
 network_fault_of reason.EscapeTwice = fault.Setting
+network_fault_of reason.LengthTwice = fault.Setting
+network_fault_of reason.LengthLimits = fault.Range
 network_fault_of reason.Memory = fault.Memory
 
 -- the keyword that a word spells
@@ -53,4 +55,5 @@ network_keyword_of word =
     else (if bytes_eq word (codes "link") then Some Link
     else (if bytes_eq word (codes "name") then Some Name
     else (if bytes_eq word (codes "escape") then Some Escape
-    else None)))))))))
+    else (if bytes_eq word (codes "length") then Some Length
+    else None))))))))))

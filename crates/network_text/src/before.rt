@@ -21,6 +21,8 @@ pub(crate) enum Wanted {
     Choice(u32, u32),
     /// The reply to packets from an ejection channel on an injection channel.
     Reply(u32, u32),
+    /// How many flits each packet has.
+    Length,
     /// The name of a router.
     Router(u32),
     /// The routers at the ends of a channel.
@@ -101,6 +103,10 @@ impl Wanted {
                 Wanted::Reply(x, y) => a == x && b == y,
                 _ => false,
             },
+            Keyword::Length => match self {
+                Wanted::Length => true,
+                _ => false,
+            },
             Keyword::Router => match self {
                 Wanted::Router(r) => a == r,
                 _ => false,
@@ -134,6 +140,7 @@ fn wanted_of(reason: NetworkReason, values: &[&[u8]]) -> Option<Wanted>
         NetworkReason::EjectionLate => Some(Wanted::Next),
         NetworkReason::ChoiceTwice => Some(Wanted::Choice(a, b)),
         NetworkReason::ReplyTwice => Some(Wanted::Reply(a, b)),
+        NetworkReason::LengthTwice => Some(Wanted::Length),
         NetworkReason::RouterTwice => Some(Wanted::Router(a)),
         NetworkReason::LinkTwice => Some(Wanted::Link(a)),
         NetworkReason::NameTwice => Some(Wanted::Name(a)),

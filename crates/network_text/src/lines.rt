@@ -5,7 +5,7 @@ ghost use Rattle.network_text.specs.declared.reason.NetworkReason.{NetworkReason
 ghost use Rattle.lexer.specs.Outcome.{Makes};
 ghost use Rattle.network_text.specs.Network.{Reading as ReadSpec};
 ghost use Rattle.network_text.specs.Network.{after_channels, after_inject, after_eject, after_join};
-ghost use Rattle.network_text.specs.Network.{after_join_all, after_next, after_reply};
+ghost use Rattle.network_text.specs.Network.{after_join_all, after_next, after_reply, after_length};
 ghost use Rattle.network_text.specs.Network.{after_keyword, after_words};
 ghost use Rattle.network_text.specs.Shapes.{after_one, after_two, after_three, number_at, three_at};
 ghost use Rattle.network_text.specs.Shapes.{after_join_words};
@@ -123,6 +123,7 @@ impl<A: Allocator + Copy> Reading<A> {
             Keyword::Join => self.join_words(alloc, values),
             Keyword::Next => self.next_line(alloc, values),
             Keyword::Reply => self.reply_line(values),
+            Keyword::Length => self.length_line(values),
             Keyword::Router => self.router_line(alloc, values),
             Keyword::Link => self.link_line(alloc, values),
             Keyword::Name => self.name_line(alloc, values),
@@ -220,5 +221,16 @@ impl<A: Allocator + Copy> Reading<A> {
     {
         let (x, y) = two_indexes(Keyword::Reply, values)?;
         self.take_reply(x, y)
+    }
+    /// Takes the number after `length`.
+    fn length_line(&mut self, values: &[&[u8]]) -> Result<(), NetworkReason>
+        requires { IsRead self.old }
+        ensures value { Makes NetworkReason.Memory (reading_of self.new) result
+            (after_one Keyword.Length (after_length (reading_of self.old))
+            (map (λ value. value.now) values.now)) }
+        ensures read { OnOk result (IsRead self.new) }
+    {
+        let flits = one_index(Keyword::Length, values)?;
+        self.take_length(flits)
     }
 }

@@ -26,6 +26,7 @@ pub struct Network<A: Allocator = Global> {
     joins: Vec<Join, A>,
     replies: Vec<Reply, A>,
     choices: Vec<u32, A>,
+    flits: Option<u32>,
 }
 
 impl<A: Allocator> Model for Network<A> {
@@ -71,6 +72,13 @@ impl<A: Allocator> Network<A> {
     {
         &self.choices
     }
+
+    /// How many flits each packet has, 1 to 2147483647; none where the text doesn't say so.
+    pub fn flits(&self) -> Option<u32>
+        ensures { result ≡ self.now.flits }
+    {
+        self.flits
+    }
 }
 
 /// The network of a text of fixed routes that is read.
@@ -85,6 +93,7 @@ pub fn network_read<A: Allocator>(text: Choosing<A>) -> Network<A>
         joins: fixed.joins,
         replies: fixed.replies,
         choices: fixed.choices,
+        flits: fixed.flits,
     }
 }
 

@@ -42,6 +42,8 @@ pub struct Reading<A: Allocator> {
     pub choices: Vec<u32, A>,
     /// Which names are given under each number below 65536; none before the first.
     pub names: Vec<GivenNames, A>,
+    /// How many flits each packet has; none where that is not given.
+    pub flits: Option<u32>,
 }
 
 /// Whether a kind is that of hops.
@@ -82,6 +84,7 @@ impl<A: Allocator + Copy> Reading<A> {
             columns: Vec::new(alloc),
             choices: Vec::new(alloc),
             names: Vec::new(alloc),
+            flits: None,
         }
     }
 

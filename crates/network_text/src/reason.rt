@@ -16,6 +16,7 @@ pub enum Keyword {
     Join,
     Next,
     Reply,
+    Length,
     Router,
     Link,
     Name,
@@ -75,6 +76,10 @@ pub enum NetworkReason {
     SameChoice,
     /// The channel is made an escape already.
     EscapeTwice,
+    /// The number of flits of each packet is given already.
+    LengthTwice,
+    /// The number of flits of each packet is not 1 to 2147483647.
+    LengthLimits,
     /// A request for memory was refused while the text was read.
     Memory,
 }
@@ -111,6 +116,8 @@ impl Reason for NetworkReason {
             NetworkReason::NameTwice => Fault::Setting,
             NetworkReason::SameChoice => Fault::Setting,
             NetworkReason::EscapeTwice => Fault::Setting,
+            NetworkReason::LengthTwice => Fault::Setting,
+            NetworkReason::LengthLimits => Fault::Range,
             NetworkReason::Memory => Fault::Memory,
         }
     }
@@ -161,6 +168,9 @@ impl Keyword {
         }
         if word == b"escape".as_slice() {
             return Some(Keyword::Escape);
+        }
+        if word == b"length".as_slice() {
+            return Some(Keyword::Length);
         }
         None
     }

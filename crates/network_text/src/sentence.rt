@@ -75,6 +75,7 @@ fn numbers_text(keyword: Keyword) -> &'static str {
         Keyword::Join => "stand two channels, or the word all",
         Keyword::Next => "stand three channels",
         Keyword::Reply => "stand two channels",
+        Keyword::Length => "stands one number of flits",
         Keyword::Router => "stand a number, a name of one word, and a place of two numbers or none",
         Keyword::Link => "stand a channel, two routers, and a virtual channel or none",
         Keyword::Name => "stand a channel and one to four words",
@@ -86,7 +87,7 @@ fn numbers_text(keyword: Keyword) -> &'static str {
 fn text_of(reason: NetworkReason) -> &'static str {
     match reason {
         NetworkReason::UnknownKeyword => {
-            "A: a line begins with channels, inject, eject, join, next, escape, reply, router, link or name"
+            "A: a line begins with channels, inject, eject, join, next, escape, reply, length, router, link or name"
         }
         NetworkReason::NumberCount(_) => "A: behind it K",
         NetworkReason::NotNumber(_) => "W: a number belongs there",
@@ -116,6 +117,8 @@ fn text_of(reason: NetworkReason) -> &'static str {
         NetworkReason::NameTwice => "name B: it is given at line N already",
         NetworkReason::SameChoice => "next B C W: it is given at line N already",
         NetworkReason::EscapeTwice => "escape B: it is given at line N already",
+        NetworkReason::LengthTwice => "length: it is given at line N already",
+        NetworkReason::LengthLimits => "length B: packets have 1 to 2147483647 flits",
         NetworkReason::Memory => "a request for memory was refused while it was read",
     }
 }

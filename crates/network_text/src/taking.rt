@@ -4,6 +4,7 @@ ghost use Rattle.std.specs.Prelude.{◌≡◌, ◌<◌, length, OnOk, IfSome};
 ghost use Rattle.lexer.specs.Outcome.{Makes};
 ghost use Rattle.network_text.specs.Network.{after_channels, after_inject, after_eject, after_join};
 ghost use Rattle.network_text.specs.Network.{after_join_all, after_choice, after_next, after_reply};
+ghost use Rattle.network_text.specs.Network.{after_length};
 ghost use Rattle.network_text.specs.Network.{taken_cell};
 ghost use Rattle.network_text.specs.Reading.{reading_of, IsRead};
 
@@ -21,6 +22,9 @@ const MOST_CHOICES: usize = 1 << 27;
 
 /// The most source-destination pairs that packets go between.
 const MOST_JOINS: usize = 4194304;
+
+/// The most flits of a packet.
+const MOST_FLITS: u32 = 2147483647;
 
 impl<A: Allocator + Copy> Reading<A> {
     /// Takes the number of channels.
@@ -222,6 +226,25 @@ impl<A: Allocator + Copy> Reading<A> {
         if self.replies.push(Reply { from, to }).is_err() {
             return Err(NetworkReason::Memory);
         }
+        Ok(())
+    }
+    /// Takes how many flits each packet has.
+    pub(crate) fn take_length(&mut self, flits: u32) -> Result<(), NetworkReason>
+        requires { IsRead self.old }
+        ensures value { Makes NetworkReason.Memory (reading_of self.new) result
+            (after_length (reading_of self.old) flits) }
+        ensures read { OnOk result (IsRead self.new) }
+    {
+        if self.kinds.is_empty() {
+            return Err(NetworkReason::ChannelsFirst);
+        }
+        if self.flits.is_some() {
+            return Err(NetworkReason::LengthTwice);
+        }
+        if !(1 <= flits && flits <= MOST_FLITS) {
+            return Err(NetworkReason::LengthLimits);
+        }
+        self.flits = Some(flits);
         Ok(())
     }
 }

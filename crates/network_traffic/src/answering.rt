@@ -63,7 +63,7 @@ pub fn read_packets<A: Allocator + Copy>(
     ensures { AnswersTraffic network.now.table.joins (lines text.now) result }
 {
     let traffic = read_traffic(alloc, text)?;
-    check_joined(network.joins(), &traffic)?;
+    check_joined(alloc, network.kinds(), network.joins(), &traffic)?;
     Ok(traffic)
 }
 

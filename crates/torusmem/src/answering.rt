@@ -2,6 +2,7 @@
 ghost use Rattle.command_line.specs.Job.{AreJobLimits};
 
 use crate::running::by_workers;
+use crate::within::{Wanted, judged_with, judged_within};
 use command_jobs::Ended;
 use command_line::{AskedPace, Job};
 use command_run::Ending;
@@ -9,10 +10,10 @@ use command_schedule::{
     clocked_schedule_text, draw_text, fair_schedule_text, moves_text, schedule_text,
 };
 use command_verdicts::{
-    Decided, Judged, Modelled, judged_models_text, judged_order_text, judged_report_text,
-    lock_up_text, network_text, replay_network_text, simulate_text, texts_models_text, values_text,
+    AskedModels, Decided, Judged, Modelled, judged_models_text, lock_up_text, network_text,
+    replay_network_text, simulate_text, texts_models_text, values_text,
 };
-use model_answer::MemoryModel;
+use model_answer::{AskedModel, MemoryModel};
 use model_replies::ValueOptions;
 use network_rounds::Arbiter;
 use program_fault::{ProgramFault, Texts};
@@ -21,6 +22,13 @@ use std::alloc::Global;
 use std::rt::Clock;
 use std::sync::Wait;
 use std::thread::Threads;
+
+/// How many configurations of a word the search of a verdict allowed, and how many the widest one may.
+#[derive(Clone, Copy)]
+pub(crate) struct Bounds {
+    pub reached: u32,
+    pub most: u32,
+}
 
 /// What a job answers.
 #[derive(Clone, Copy)]
@@ -32,10 +40,10 @@ pub(crate) enum Outcome {
     /// Whether nothing is wrong with a network: the numbers of its channels rise, or a run that is replayed
     /// doesn't end in a deadlock, or a simulation ends empty.
     Sound(bool),
-    /// What a trace is judged to be, with so many configurations at most.
-    Judged(Judged, u32),
+    /// What a trace is judged to be, with so many configurations.
+    Judged(Judged, Bounds),
     /// What a log is judged to be, of which this model decides the status.
-    Modelled(Modelled, MemoryModel),
+    Modelled(Modelled, AskedModel),
     /// What a log is judged to be by its replies alone, of which this model decides the status.
     Decided(Decided, MemoryModel),
 }
@@ -65,21 +73,39 @@ pub(crate) fn answer<R: Eprint + Clock + AllocGlobal + Threads + Wait + Sync, W:
             let by = Arbiter::named(arbiter).unwrap_or(Arbiter::Rotating);
             sound(simulate_text(alloc, first, traffic, u64::from(depth), by, out))
         }
-        Job::Linearize { configurations, .. } => {
-            let judged = judged_order_text(alloc, first, u64::from(configurations), out);
-            judged_with(judged, configurations)
+        Job::Linearize {
+            configurations,
+            seconds,
+            ..
+        } => {
+            let is_report = false;
+            let wanted = Wanted {
+                is_report,
+                configurations,
+            };
+            linearized(rt, first, wanted, seconds, out)
         }
-        Job::Report { configurations, .. } => {
-            let judged = judged_report_text(alloc, first, u64::from(configurations), out);
-            judged_with(judged, configurations)
+        Job::Report {
+            configurations,
+            seconds,
+            ..
+        } => {
+            let is_report = true;
+            let wanted = Wanted {
+                is_report,
+                configurations,
+            };
+            linearized(rt, first, wanted, seconds, out)
         }
         Job::Model { model, order, .. } => {
-            modelled_by(judged_models_text(alloc, first, order, out), model)
+            let (asked, model) = asked_models(order, model);
+            modelled_by(judged_models_text(alloc, first, asked, out), model)
         }
         Job::RunModel { model, order, .. } => {
             let (machine, scripts) = (texts.second.as_slice(), texts.third.as_slice());
+            let (asked, model) = asked_models(order, model);
             modelled_by(
-                texts_models_text(alloc, first, machine, scripts, order, out),
+                texts_models_text(alloc, first, machine, scripts, asked, out),
                 model,
             )
         }
@@ -106,20 +132,42 @@ fn sound(is_sound: Result<bool, ProgramFault>) -> Result<Outcome, ProgramFault> 
     Ok(Outcome::Sound(is_sound?))
 }
 
-/// The answer of a job that judges a trace, with so many configurations at most.
-fn judged_with(
-    judged: Result<Judged, ProgramFault>,
-    configurations: u32,
+/// The answer of a job that judges a trace, in about so many seconds if a number is given.
+fn linearized<R: Clock + AllocGlobal, W: Out>(
+    rt: &R,
+    trace: &[u8],
+    wanted: Wanted,
+    seconds: Option<u64>,
+    out: &mut W,
 ) -> Result<Outcome, ProgramFault> {
-    Ok(Outcome::Judged(judged?, configurations))
+    let Some(seconds) = seconds else {
+        let most = wanted.configurations;
+        let judged = judged_with(rt.alloc(), trace, wanted.is_report, most, out)?;
+        return Ok(Outcome::Judged(
+            judged,
+            Bounds {
+                reached: most,
+                most,
+            },
+        ));
+    };
+    let (judged, reached) = judged_within(rt, trace, wanted, seconds, out)?;
+    let most = wanted.configurations;
+    Ok(Outcome::Judged(judged, Bounds { reached, most }))
 }
 
-/// The answer of a job that judges a log, of which the model of this name decides the status.
+/// What is asked of a log where the model of this name decides the status, and that model.
+fn asked_models(order: bool, model: &str) -> (AskedModels, AskedModel) {
+    let model = AskedModel::named(model).unwrap_or(AskedModel::Rules(MemoryModel::Sc));
+    let rvwmo = matches!(model, AskedModel::Rvwmo);
+    (AskedModels { order, rvwmo }, model)
+}
+
+/// The answer of a job that judges a log, of which a model decides the status.
 fn modelled_by(
     modelled: Result<Modelled, ProgramFault>,
-    model: &str,
+    model: AskedModel,
 ) -> Result<Outcome, ProgramFault> {
-    let model = MemoryModel::named(model).unwrap_or(MemoryModel::Sc);
     Ok(Outcome::Modelled(modelled?, model))
 }
 

@@ -10,6 +10,7 @@ mod running;
 mod talking;
 mod telling;
 mod watching;
+mod within;
 
 use answering::{Outcome, answer};
 use as_json::judged_as_json;
@@ -19,7 +20,7 @@ use command_jobs::{
 use command_line::{Job, Request, asks_commands, asks_version, name_of, request_told, words_told};
 use command_verdicts::network_text_once;
 use judging::Judging;
-use model_answer::MemoryModel;
+use model_answer::AskedModel;
 use network_rounds::Arbiter;
 use program_fault::{ProgramFault, Texts};
 use report_lines::Piped;
@@ -65,20 +66,27 @@ fn run<R: Env + Files + Input + Print + Eprint + Clock + AllocGlobal + Threads +
     }
 }
 
-/// Whether the job names a memory model that there isn't, which standard error says then.
+/// Whether the job names a memory model that there isn't, or that isn't searched for, which standard error
+/// says then.
 fn is_other_model<R: Eprint>(rt: &R, job: &Job) -> bool {
     let (Job::Model { model, .. } | Job::RunModel { model, .. } | Job::ValueModel { model, .. }) =
         *job
     else {
         return false;
     };
-    let is_other = MemoryModel::named(model).is_none();
-    if is_other {
-        let _ = eprintln!(rt;
-            "there is no model {model}: the models are coherent, fenced, pso, tso and sc"
-        );
+    match AskedModel::named(model) {
+        None => {
+            let _ = eprintln!(rt;
+                "there is no model {model}: the models are coherent, fenced, rvwmo, pso, tso and sc"
+            );
+            true
+        }
+        Some(AskedModel::Rvwmo) if matches!(*job, Job::ValueModel { .. }) => {
+            let _ = eprintln!(rt; "rvwmo needs an order of writes: it does not go with --values");
+            true
+        }
+        Some(_) => false,
     }
-    is_other
 }
 
 /// Whether the job names an arbiter that written networks don't have, which standard error says then.

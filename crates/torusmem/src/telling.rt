@@ -2,13 +2,13 @@
 
 ghost use Rattle.command_line.specs.Job.{AreJobLimits};
 
-use crate::answering::Outcome;
+use crate::answering::{Bounds, Outcome};
 use command_jobs::{kind, names};
 use command_line::Job;
 use command_verdicts::{
     Decided, Judged, Modelled, decided_status, explain_models, explain_network, explain_no_order,
     explain_other_run, explain_replay, explain_run_models, explain_simulation, explain_trace,
-    explain_values, explain_verdict, model_status, status, verdict_text,
+    explain_values, explain_verdict, model_status, status, tried_text, verdict_text,
 };
 use model_answer::WrongSentence;
 use model_replies::{AlikeSentence, UnwrittenSentence};
@@ -25,17 +25,31 @@ pub(crate) struct OutcomeLine {
 impl fmt::Display for OutcomeLine {
     fn fmt<W: fmt::Write>(&self, f: &mut fmt::Formatter<W>) -> fmt::Result {
         match self.outcome {
-            Outcome::Judged(judged, configurations) => {
-                match verdict_text(judged, u64::from(configurations)) {
-                    Some(text) => writeln!(f, "{text}"),
-                    None => Ok(()),
-                }
-            }
+            Outcome::Judged(judged, bounds) => put_judged(f, judged, bounds),
             Outcome::Modelled(modelled, _) => put_unmodelled(f, modelled),
             Outcome::Decided(decided, _) => put_unasked(f, decided),
             _ => Ok(()),
         }
     }
+}
+
+/// Puts that a trace has no order, or that it isn't decided, and then what was tried.
+fn put_judged<W: fmt::Write>(
+    f: &mut fmt::Formatter<W>,
+    judged: Judged,
+    bounds: Bounds,
+) -> fmt::Result {
+    let Some(text) = verdict_text(judged, u64::from(bounds.reached)) else {
+        return Ok(());
+    };
+    write!(f, "{text}")?;
+    if let Judged::TooMany { .. } | Judged::TooOpen { .. } = judged {
+        f.write_str(tried_text(u64::from(bounds.reached)))?;
+        if bounds.reached < bounds.most {
+            f.write_str("; no time is left for more")?;
+        }
+    }
+    f.write_str("\n")
 }
 
 /// Puts why no model is asked of a log by its replies alone, where that is so.
@@ -105,12 +119,10 @@ pub(crate) fn explain_outcome<R: Eprint + AllocGlobal>(
     ) {
         explain_verdict(rt, network, &texts.first);
     }
-    if let (Job::Linearize { trace, .. }, Outcome::Judged(judged, configurations)) = (
-        *job, *outcome,
-    )
-        && let Judged::NotLinearizable { line } = judged
+    if let (Job::Linearize { trace, .. }, Outcome::Judged(judged, bounds)) = (*job, *outcome)
+        && let Judged::NotLinearizable { line } | Judged::NotLinearizableBy { line, .. } = judged
     {
-        explain_no_order(rt, trace, &texts.first, line, configurations);
+        explain_no_order(rt, trace, &texts.first, line, bounds.reached);
     }
     if let (
         Job::RunModel {

@@ -19,6 +19,7 @@ pub mod Spins
 pub mod Traces
 pub mod Watching
 pub mod WatchCloning
+pub mod WatchSaving
 pub mod Appending
 pub mod Opening
 pub mod Models

@@ -1,5 +1,5 @@
 -- The models that a log obeys, as C sees them (this project's own format).
-use Rattle.std.specs.Prelude.{◌≡◌, ℕ, ◌+◌, ◌*◌, ◌==◌, not, true, List, length}
+use Rattle.std.specs.Prelude.{◌≡◌, ℕ, ◌+◌, ◌*◌, ◌==◌, not, true, false, List, length}
 use Rattle.script.specs.Outcome.{fault_of_refusal}
 use Rattle.model_text.specs.declared.values.WrongReply.{WrongReply}
 use Rattle.model_text.specs.Reasons.{log_fault_of}
@@ -24,7 +24,7 @@ models_number o = c_flag o.coherent + 2 * c_flag o.fenced + 4 * c_flag o.pso + 8
 
 -- what is asked: an order too, unless the number is 0
 abbrev pub asked : ℕ → Options
-asked order = record { order = not (order == 0); fences = true }
+asked order = record { order = not (order == 0); fences = true; rvwmo = false }
 
 -- what C sees of an answer: what became of its text, and how long that is
 abbrev pub models_record : Code → Obeys → ℕ → ModelsRecord

@@ -1,12 +1,15 @@
 -- The verdict on a network, as C sees it (this project's own format).
-use Rattle.std.specs.Prelude.{◌≡◌, ◌⊎◌, ℕ, List, [], ◌∷◌, Result, Ok, Err, codes}
+use Rattle.std.specs.Prelude.{◌≡◌, ◌⊎◌, ℕ, Bool, true, false, List, [], ◌∷◌, Result, Ok, Err, codes}
+use Rattle.std.specs.Global.{Global}
 use Rattle.script.specs.declared.fault.LineFault.{LineFault}
 use Rattle.network_judge.specs.declared.table.Join.{Join}
 use Rattle.network_judge.specs.declared.table.Verdict.{Verdict}
 use Rattle.network_judge.specs.declared.table.Verdict.TheVariants as verdict
 use Rattle.network_judge.specs.Verdicts.{IsVerdict}
 use Rattle.network_text.specs.Network.{NetworkSpec}
+use Rattle.network_answer.specs.declared.answer.Answer.{Answer}
 use Rattle.network_answer.specs.Answer.{IsJudgedText}
+use Rattle.network_answer.specs.Routing.{AnswersRouting}
 use Rattle.torusmem_c.specs.declared.outcome.Outcome.{Outcome}
 use Rattle.torusmem_c.specs.declared.outcome.Code.{Code}
 use Rattle.torusmem_c.specs.declared.outcome.Code.TheVariants as code
@@ -47,3 +50,22 @@ TellsNetwork A n before after r = TellsOfPairs A n.table.joins n before after r
 abbrev pub TellsText : Type 0 → Result NetworkSpec LineFault → List ℕ → List ℕ → Outcome → Type 0
 TellsText A (Ok n) before after r = TellsNetwork A n before after r
 TellsText A (Err found) before after r = (after ≡ before) × (r ≡ fault_outcome found)
+
+-- the code of whether the numbers of a network's channels rise
+abbrev pub rising_code : Bool → Code
+rising_code true = code.Done
+rising_code false = code.NotRising
+
+-- what is answered to a network text of these lines, whose routers may choose, is put into a buffer
+pub record PutsAnswer (text : List (List ℕ)) (before after : List ℕ) (r : Outcome) : Type 0 where
+  pub said : Answer Global
+  pub is : AnswersRouting text (Ok said)
+  pub buffer : after ≡ put_over said.text.items before
+  pub answer : r ≡ put_as (rising_code said.rising) said.text.items before
+
+-- or why nothing is
+pub record RefusesNetwork (text : List (List ℕ)) (before after : List ℕ) (r : Outcome) : Type 0 where
+  pub found : LineFault
+  pub is : AnswersRouting {A = Global} text (Err found)
+  pub buffer : after ≡ before
+  pub answer : r ≡ fault_outcome found

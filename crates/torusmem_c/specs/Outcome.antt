@@ -45,6 +45,7 @@ c_code code.BadRecord = 28
 c_code code.BadAction = 29
 c_code code.WrongReply = 30
 c_code code.NoPair = 31
+c_code code.NotRising = 32
 
 -- a code, and the number that goes with it
 abbrev pub c_outcome : Code → ℕ → Outcome

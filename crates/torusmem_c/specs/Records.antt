@@ -1,57 +1,13 @@
 -- Answers and entries, as C sees them (this project's own format).
 use Rattle.std.specs.Prelude.{ℕ, Option, Some, None}
-use Rattle.packet.specs.declared.kinds.Op.{Op}
-use Rattle.packet.specs.declared.kinds.Op.TheVariants.{Load, Store, Swap, Cas, Add, And, Or, Xor, Max, Min}
-use Rattle.packet.specs.declared.kinds.Reply.{Reply}
-use Rattle.packet.specs.declared.kinds.Reply.TheVariants.{Ok as Stored, Old}
 use Rattle.home_bank.specs.declared.entry.Entry.{Entry}
 use Rattle.one_order.specs.declared.answer.Answer.{Answer}
 use Rattle.torusmem_c.specs.declared.outcome.Code.{Code}
 use Rattle.torusmem_c.specs.declared.outcome.Code.TheVariants as code
 use Rattle.torusmem_c.specs.declared.records.AnswerRecord.{AnswerRecord}
 use Rattle.torusmem_c.specs.declared.records.EntryRecord.{EntryRecord}
+use Rattle.c_handles.specs.Numbered.{first_value, has_old, operation_number, second_value, word_before}
 use Rattle.torusmem_c.specs.Outcome.{c_code}
-
--- the number by which C knows an operation
-abbrev pub operation_number : Op → ℕ
-operation_number Load = 0
-operation_number (Store value) = 1
-operation_number (Swap value) = 2
-operation_number (Cas expected new) = 3
-operation_number (Add value) = 4
-operation_number (And value) = 5
-operation_number (Or value) = 6
-operation_number (Xor value) = 7
-operation_number (Max value) = 8
-operation_number (Min value) = 9
-
--- the first value that an operation brings, or 0
-abbrev pub c_first_value : Op → ℕ
-c_first_value Load = 0
-c_first_value (Store value) = value
-c_first_value (Swap value) = value
-c_first_value (Cas expected new) = expected
-c_first_value (Add value) = value
-c_first_value (And value) = value
-c_first_value (Or value) = value
-c_first_value (Xor value) = value
-c_first_value (Max value) = value
-c_first_value (Min value) = value
-
--- the second value of a compare-and-swap, or 0
-abbrev pub c_second_value : Op → ℕ
-c_second_value (Cas expected new) = new
-c_second_value _ = 0
-
--- whether a reply is an old word
-abbrev pub has_old : Reply → ℕ
-has_old Stored = 0
-has_old (Old word) = 1
-
--- the old word of a reply, or 0
-abbrev pub word_before : Reply → ℕ
-word_before Stored = 0
-word_before (Old word) = word
 
 -- what C sees of an answer
 abbrev pub answer_record : Answer → AnswerRecord
@@ -62,8 +18,8 @@ answer_record a = record {
   bank = a.bank;
   place = a.place;
   has_old = has_old a.reply;
-  first = c_first_value a.op;
-  second = c_second_value a.op;
+  first = first_value a.op;
+  second = second_value a.op;
   old = word_before a.reply;
 }
 
@@ -95,8 +51,8 @@ entry_record e = record {
   address = e.address;
   operation = operation_number e.op;
   has_old = has_old e.reply;
-  first = c_first_value e.op;
-  second = c_second_value e.op;
+  first = first_value e.op;
+  second = second_value e.op;
   old = word_before e.reply;
 }
 

@@ -1,4 +1,4 @@
--- The same watch once more, as C sees it (this project's own format).
+-- Another watch that has seen what one has, as C sees it (this project's own format).
 use Rattle.std.specs.Prelude.{◌≡◌, ℕ, List, Option, Some, None}
 use Rattle.std.specs.Global.{Global}
 use Rattle.trace_laws.specs.declared.event.Event.{Event}

@@ -23,4 +23,5 @@ pub mod stepping;
 pub mod texts;
 pub mod traces;
 pub mod watch_cloning;
+pub mod watch_saving;
 pub mod watching;

@@ -94,6 +94,7 @@ fn asked(order: u32) -> Options
     Options {
         order: order != 0,
         fences: true,
+        rvwmo: false,
     }
 }
 

@@ -4,12 +4,13 @@ ghost use Rattle.std.specs.Prelude.{◌≡◌, ◌⊎◌};
 ghost use Rattle.std.specs.Str.Lines.{lines};
 ghost use Rattle.network_judge.specs.Verdicts.{IsVerdict};
 ghost use Rattle.network_text.specs.Network.{network_of};
-ghost use Rattle.torusmem_c.specs.Networks.{PutsVerdict, TellsNetwork, TellsText, verdict_code};
+ghost use Rattle.torusmem_c.specs.Networks.{PutsAnswer, PutsVerdict, RefusesNetwork, TellsNetwork, TellsText};
+ghost use Rattle.torusmem_c.specs.Networks.{rising_code, verdict_code};
 ghost use Rattle.torusmem_c.specs.Room.{LacksMemory};
 
 use crate::outcome::{Code, Outcome, fault_outcome, no_memory};
 use crate::room::put_as;
-use network_answer::{judge_network, judged_text};
+use network_answer::{judge_network, judged_text, routing_answer};
 use network_judge::Verdict;
 use network_text::{Network, read_network};
 use std::alloc::Global;
@@ -68,6 +69,28 @@ pub extern "C" fn torusmem_network(alloc: Global, network: &[u8], out: &mut [u8]
 {
     match read_network(alloc, network) {
         Ok(network) => put_judged(alloc, &network, out),
+        Err(fault) => fault_outcome(fault),
+    }
+}
+
+/// The code of whether the numbers of a network's channels rise.
+fn rising_code(rising: bool) -> Code
+    ensures { result ≡ rising_code rising }
+{
+    if rising { Code::Done } else { Code::NotRising }
+}
+
+/// Judges the network of a text, whose routers may choose, and puts the text that the program prints into a
+/// buffer.
+///
+/// Errors: the text's first fault, or out of memory. The buffer is as it was then.
+#[unsafe(no_mangle)]
+pub extern "C" fn torusmem_network_answer(alloc: Global, network: &[u8], out: &mut [u8]) -> Outcome
+    ensures { PutsAnswer (lines network.now) out.old out.new result
+        ⊎ RefusesNetwork (lines network.now) out.old out.new result }
+{
+    match routing_answer(alloc, network) {
+        Ok(answer) => put_as(rising_code(answer.rising), answer.text.as_slice(), out),
         Err(fault) => fault_outcome(fault),
     }
 }

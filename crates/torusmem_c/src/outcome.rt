@@ -48,13 +48,15 @@ pub enum Code {
     WrongReply,
     /// A network has no source-destination pair.
     NoPair,
+    /// The numbers of a network's channels don't rise.
+    NotRising,
 }
 
 impl Code {
     /// The number by which C knows it.
     pub fn number(self) -> u32
         ensures value { result ≡ c_code self }
-        ensures small { result ≤ 31 }
+        ensures small { result ≤ 32 }
     {
         match self {
             Code::Done => 0,
@@ -76,6 +78,7 @@ impl Code {
             Code::BadAction => 29,
             Code::WrongReply => 30,
             Code::NoPair => 31,
+            Code::NotRising => 32,
         }
     }
 }

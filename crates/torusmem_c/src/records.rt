@@ -2,13 +2,12 @@
 
 ghost use Rattle.std.specs.Prelude.{◌≡◌};
 ghost use Rattle.torusmem_c.specs.Outcome.{c_flag, c_code};
-ghost use Rattle.torusmem_c.specs.Records.{operation_number, c_first_value, c_second_value, has_old, word_before};
 ghost use Rattle.torusmem_c.specs.Records.{answer_record, no_answer, answer_or_none, entry_record, no_entry};
 ghost use Rattle.torusmem_c.specs.Records.{entry_or_none};
 
 use crate::outcome::Code;
+use c_handles::record::{first_value, has_old, old_word, operation_number, second_value};
 use machine_report::{Answer, Entry};
-use packet::{Op, Reply};
 
 /// An operation that a processor has had answered; its code is that of done. Where there is none, the
 /// code says why, and all else is 0.
@@ -131,71 +130,5 @@ impl EntryRecord {
             Some(entry) => EntryRecord::of(entry),
             None => EntryRecord::none(Code::NoSuch),
         }
-    }
-}
-
-/// The number by which C knows an operation.
-fn operation_number(op: Op) -> u32
-    ensures { result ≡ operation_number op }
-{
-    match op {
-        Op::Load => 0,
-        Op::Store(_) => 1,
-        Op::Swap(_) => 2,
-        Op::Cas(_, _) => 3,
-        Op::Add(_) => 4,
-        Op::And(_) => 5,
-        Op::Or(_) => 6,
-        Op::Xor(_) => 7,
-        Op::Max(_) => 8,
-        Op::Min(_) => 9,
-    }
-}
-
-/// The first value that an operation brings, or 0.
-fn first_value(op: Op) -> u64
-    ensures { result ≡ c_first_value op }
-{
-    match op {
-        Op::Load => 0,
-        Op::Store(value)
-        | Op::Swap(value)
-        | Op::Cas(value, _)
-        | Op::Add(value)
-        | Op::And(value)
-        | Op::Or(value)
-        | Op::Xor(value)
-        | Op::Max(value)
-        | Op::Min(value) => value,
-    }
-}
-
-/// The second value of a compare-and-swap, or 0.
-fn second_value(op: Op) -> u64
-    ensures { result ≡ c_second_value op }
-{
-    match op {
-        Op::Cas(_, new) => new,
-        _ => 0,
-    }
-}
-
-/// Whether a reply is an old word.
-fn has_old(reply: Reply) -> u32
-    ensures { result ≡ has_old reply }
-{
-    match reply {
-        Reply::Ok => 0,
-        Reply::Old(_) => 1,
-    }
-}
-
-/// The old word of a reply, or 0.
-fn old_word(reply: Reply) -> u64
-    ensures { result ≡ word_before reply }
-{
-    match reply {
-        Reply::Ok => 0,
-        Reply::Old(word) => word,
     }
 }

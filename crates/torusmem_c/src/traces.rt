@@ -22,7 +22,19 @@ fn numbers_in(alloc: Global, order: &[Call]) -> Result<Vec<u64>, AllocError>
     order.iter().map(|call| call.id).collect(alloc)
 }
 
-/// Puts an order into a buffer, unless memory is refused, or tells the event up to which there is none.
+/// What C sees of the reason why a trace is not judged.
+fn undecided_outcome(why: Undecided) -> Outcome
+    ensures { result ≡ undecided_outcome why }
+{
+    match why {
+        Undecided::Memory => no_memory(),
+        Undecided::Configurations { event } => Outcome::of(Code::TooMany, event as u64),
+        Undecided::Operations { event } => Outcome::of(Code::TooOpen, event as u64),
+    }
+}
+
+/// Puts an order into a buffer, unless memory is refused, or tells the event up to which there is none, or why
+/// that isn't decided.
 fn put_verdict(alloc: Global, verdict: &Verdict<Global>, out: &mut [u64]) -> Outcome
     ensures { PutsOrder verdict.now out.old out.new result ⊎ LacksMemory out.old out.new result }
 {
@@ -32,17 +44,7 @@ fn put_verdict(alloc: Global, verdict: &Verdict<Global>, out: &mut [u64]) -> Out
             Err(_) => no_memory(),
         },
         Verdict::No { event } => Outcome::of(Code::NotLinearizable, *event as u64),
-    }
-}
-
-/// What C sees of the reason why a trace is not judged.
-fn undecided_outcome(why: Undecided) -> Outcome
-    ensures { result ≡ undecided_outcome why }
-{
-    match why {
-        Undecided::Memory => no_memory(),
-        Undecided::Configurations { event } => Outcome::of(Code::TooMany, event as u64),
-        Undecided::Operations { event } => Outcome::of(Code::TooOpen, event as u64),
+        Verdict::NoBy { why, .. } => undecided_outcome(*why),
     }
 }
 
@@ -55,7 +57,7 @@ fn put_judged(
     out: &mut [u64],
 ) -> Outcome
     requires { IsTrace (length opening.now) trace.now }
-    ensures { (TellsVerdict Global opening.now trace.now out.old out.new result
+    ensures { (TellsVerdict Global opening.now trace.now configurations out.old out.new result
         ⊎ TellsUnjudged opening.now trace.now configurations out.old out.new result)
         ⊎ LacksMemory out.old out.new result }
 {

@@ -1,4 +1,4 @@
-//! The same watch of a trace once more, as C sees it.
+//! Another watch that has seen what one has, as C sees it.
 
 ghost use Rattle.std.specs.Prelude.{◌≡◌, None};
 ghost use Rattle.c_handles.specs.HeldWatch.{held};
@@ -8,7 +8,7 @@ use crate::outcome::{Code, Outcome, no_memory};
 use c_handles::{Kept, WatchHandle};
 use std::alloc::Global;
 
-/// Holds the same watch once more in an empty handle.
+/// Holds another watch, which has seen what this one has, in an empty handle.
 fn copied(alloc: Global, watch: &Kept, fresh: &mut WatchHandle) -> Outcome
     requires { held fresh.old ≡ None }
     ensures { CopiesTo watch.now (held fresh.new) result }
@@ -22,8 +22,8 @@ fn copied(alloc: Global, watch: &Kept, fresh: &mut WatchHandle) -> Outcome
     }
 }
 
-/// Makes the same watch once more, in another, empty handle: it knows of the trace what this one knows. The two
-/// share nothing.
+/// Makes another watch, in another, empty handle, which knows of the trace what this one knows. The two share
+/// nothing.
 ///
 /// Errors: the other handle holds a watch, or this one holds none; or out of memory. Both handles hold what
 /// they held then.

@@ -47,3 +47,15 @@ undecided_text (Configurations line) bound =
 undecided_text (Operations line) bound =
     Some (codes "undecided at line" ++ (32 ∷ decimal line)
     ++ codes ": more than 64 operations are open on one word")
+
+-- that no order explains a trace up to a line, and why it isn't decided whether one explains what
+-- comes before
+abbrev pub bad_by_text : ℕ → Unfound → ℕ → Option (List ℕ)
+bad_by_text line Memory bound = None
+bad_by_text line (Configurations at) bound =
+    Some (codes "not linearizable by line" ++ (32 ∷ decimal line) ++ codes ", undecided at"
+    ++ (32 ∷ decimal at) ++ codes ": more than" ++ (32 ∷ decimal bound)
+    ++ codes " configurations")
+bad_by_text line (Operations at) bound =
+    Some (codes "not linearizable by line" ++ (32 ∷ decimal line) ++ codes ", undecided at"
+    ++ (32 ∷ decimal at) ++ codes ": more than 64 operations are open on one word")

@@ -16,7 +16,7 @@ pub mod times;
 pub mod unfit;
 mod words;
 
-pub use line::{LineText, not_linearizable, undecided};
+pub use line::{LineText, not_linearizable, not_linearizable_by, undecided};
 pub use order::write_order;
 pub use report::report_of_order;
 pub use unfit::Unfit;

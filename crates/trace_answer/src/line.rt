@@ -3,7 +3,8 @@
 ghost use Rattle.std.specs.Prelude.{◌≡◌, ◌≤◌, ◌++◌, ◌∷◌, codes, decimal, option_map, slice_get};
 ghost use Rattle.std.specs.List.{join_with_byte};
 ghost use Rattle.arrayvec.specs.ArrayString.{array_string_len};
-ghost use Rattle.trace_answer.specs.Texts.{order_words, order_line_text, call_line, undecided_text};
+ghost use Rattle.trace_answer.specs.Texts.{order_words, order_line_text, call_line};
+ghost use Rattle.trace_answer.specs.Texts.{bad_by_text, undecided_text};
 
 use crate::words::{put_index, put_op, put_reply, put_value, put_word};
 use arrayvec::ArrayString;
@@ -85,6 +86,32 @@ pub fn undecided(why: Unfound, bound: u64) -> Option<LineText>
         Unfound::Operations { line } => {
             let mut text = LineText::new();
             text.push_str("undecided at line");
+            put_value(&mut text, line);
+            text.push_str(": more than 64 operations are open on one word");
+            Some(text)
+        }
+    }
+}
+
+/// What stands where no order explains the trace up to a line, and it isn't decided whether one explains what comes
+/// before; `None` where memory was refused.
+pub fn not_linearizable_by(line: u64, why: Unfound, bound: u64) -> Option<LineText>
+    ensures { option_map (λ t. t.bytes) result ≡ bad_by_text line why bound }
+{
+    let mut text = LineText::new();
+    text.push_str("not linearizable by line");
+    put_value(&mut text, line);
+    text.push_str(", undecided at");
+    match why {
+        Unfound::Memory => None,
+        Unfound::Configurations { line } => {
+            put_value(&mut text, line);
+            text.push_str(": more than");
+            put_value(&mut text, bound);
+            text.push_str(" configurations");
+            Some(text)
+        }
+        Unfound::Operations { line } => {
             put_value(&mut text, line);
             text.push_str(": more than 64 operations are open on one word");
             Some(text)

@@ -1,12 +1,14 @@
 -- Between a beginning that is linearizable and one that isn't.
-use Rattle.std.proofs.Common.{◌≡◌, ℕ, ◌+◌, ◌<◌, ◌≤◌, List, length, subst, sym, arith, take}
+use Rattle.std.proofs.Common.{◌≡◌, ℕ, ◌+◌, ◌<◌, ◌≤◌, List, length, true, false, Option, Some, None, Vec, MatchOption, subst, sym, arith, take}
+use Rattle.std.specs.Prelude.{is_some}
 use Rattle.std.proofs.lemmas.List.{take_all}
 use Rattle.trace_laws.specs.declared.event.Event.{Event}
 use Rattle.trace_laws.specs.declared.event.Event.TheVariants.{Issue, Answer}
 use Rattle.trace_laws.specs.Traces.{IsTrace}
-use Rattle.trace_laws.specs.Orders.{IsLinearizable}
+use Rattle.trace_laws.specs.declared.event.Call.{Call}
+use Rattle.trace_laws.specs.Orders.{IsOrder, IsLinearizable}
 use Rattle.trace_laws.proofs.Lists.{get_take, take_get}
-use Rattle.trace_judge.specs.Verdicts.{IsGoodUntil}
+use Rattle.trace_judge.specs.Verdicts.{IsBadBeginning, IsGoodUntil}
 use Rattle.trace_judge.specs.Stops.{IsBeginning}
 
 -- a beginning of a trace is one
@@ -52,6 +54,20 @@ pub boundary_bad : (opening : List ℕ) (trace : List Event) (good bad middle : 
 boundary_bad opening trace good bad middle l m not_so was =
     record { apart = l; within = let w = was.within in omega arith; before = was.before; behind = not_so }
 
+-- a beginning of so many events is judged: it is the good one, or the bad one
+pub boundary_judged : {A : Type 0} (opening : List ℕ) (trace : List Event) (good bad middle : ℕ) (found : Option (Vec Call A))
+    → good < middle → middle < bad → MatchOption found (IsLinearizable opening (take middle trace) → ⊥)
+    (λ order. IsOrder opening (take middle trace) order.items) → Boundary opening trace good bad
+    → (is_some found ≡ true → Boundary opening trace middle bad) × (is_some found ≡ false → Boundary opening trace good middle)
+boundary_judged {A} opening trace good bad middle (Some order) low high tells was = (
+  λ e. boundary_good opening trace good bad middle high (order.items, tells) was,
+  λ e. absurd (let no : true ≡ false = e in cc (no)),
+)
+boundary_judged {A} opening trace good bad middle None low high tells was = (
+  λ e. absurd (let no : false ≡ true = e in cc (no)),
+  λ e. boundary_bad opening trace good bad middle low (omega arith) tells was,
+)
+
 pub boundary_found : (opening : List ℕ) (trace : List Event) (good bad : ℕ) → bad ≤ good + 1
     → Boundary opening trace good bad
     → (good < length trace) × IsLinearizable opening (take good trace) ×
@@ -61,6 +77,13 @@ boundary_found opening trace good bad l was =
     let w = was.within in
     let e : bad ≡ good + 1 = omega arith in
     (omega arith, was.before, subst (λ (n : ℕ). IsLinearizable opening (take n trace) → ⊥) e was.behind)
+
+pub boundary_behind : (opening : List ℕ) (trace : List Event) (good bad : ℕ) → Boundary opening trace good bad
+    → IsBadBeginning opening trace bad
+boundary_behind opening trace good bad was =
+    let a = was.apart in
+    let w = was.within in
+    (omega arith, omega arith, was.behind)
 
 -- a trace is a beginning of itself
 pub whole_beginning : (trace : List Event) → IsBeginning trace trace

@@ -69,6 +69,13 @@ TellsMany opening trace bound Memory = Unit {0}
 TellsMany opening trace bound (Configurations event) = HasMany opening trace event bound
 TellsMany opening trace bound (Operations event) = Unit {0}
 
+-- a reason that isn't memory
+abbrev pub IsOpen : List ℕ → List Event → ℕ → Undecided → Type 0
+IsOpen opening trace bound Memory = ⊥
+IsOpen opening trace bound (Configurations event) =
+    IsAnAnswer trace event × HasMany opening trace event bound
+IsOpen opening trace bound (Operations event) = IsCrowded trace event
+
 -- a beginning of a trace
 abbrev pub IsBeginning : List Event → List Event → Type 0
 IsBeginning beginning trace = (n : ℕ) × (beginning ≡ take n trace)

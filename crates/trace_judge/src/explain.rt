@@ -152,7 +152,8 @@ pub(crate) fn explain<A: Allocator + Copy>(
     if let Some(order) = choose(alloc, opening, events, bound, seen.order)? {
         return Ok(Some(order));
     }
-    find_in_turns(alloc, opening, events, bound, ended)
+    let early = if are_all_answered(events) { 0 } else { EARLY };
+    find_in_turns(alloc, opening, events, early, bound, ended)
 }
 
 /// How beginnings of a trace are looked at: whether by zones, and then with how many guesses that may still be in vain.

@@ -43,12 +43,13 @@ pub(crate) fn deep_within<A: Allocator + Copy>(
     deep_order(alloc, opening, events, First::Answered, looks)
 }
 
-/// An order that explains the trace, if there is one, found by one turn of either search; else the event at which the
-/// search ended is noted.
+/// An order that explains the trace, if there is one, found by one turn of either search, the one depth first where more
+/// looks are allowed than it had before; else the event at which the search ended is noted.
 fn take_turn<A: Allocator + Copy>(
     alloc: A,
     opening: &[u64],
     events: &[Event],
+    early: usize,
     share: usize,
     ended: &mut Ended,
 ) -> Result<Option<Vec<Call, A>>, Undecided>
@@ -60,17 +61,22 @@ fn take_turn<A: Allocator + Copy>(
         (IsLinearizable opening.now events.now → ⊥)
         (λ order. IsOrder opening.now events.now order.items)) }
 {
-    if let Some(order) = deep_within(alloc, opening, events, share)? {
+    if share > early
+        && let Some(order) = deep_within(alloc, opening, events, share)?
+    {
         return Ok(Some(order));
     }
     find_order(alloc, opening, events, events, share, ended)
 }
 
-/// The same, if one of the turns with fewer configurations than are allowed decides it.
+/// An order that explains the trace, where a turn with fewer configurations than are allowed decides it.
+///
+/// Errors: out of memory.
 fn take_turns<A: Allocator + Copy>(
     alloc: A,
     opening: &[u64],
     events: &[Event],
+    early: usize,
     bound: usize,
     ended: &mut Ended,
 ) -> Result<Option<Option<Vec<Call, A>>>, AllocError>
@@ -85,19 +91,22 @@ fn take_turns<A: Allocator + Copy>(
         if share >= bound {
             return Ok(None);
         }
-        match take_turn(alloc, opening, events, share, ended) {
+        match take_turn(alloc, opening, events, early, share, ended) {
             Ok(found) => return Ok(Some(found)),
+            Err(Undecided::Memory) => return Err(AllocError),
             Err(_) => share = share.saturating_mul(MORE),
         }
     }
     Ok(None)
 }
 
-/// An order that explains the trace, if there is one; else the event at which the search ended is noted.
+/// An order that explains the trace, if there is one; else the event at which the search ended is noted. Depth first, one was
+/// searched for before with the looks of so many configurations.
 pub(crate) fn find_in_turns<A: Allocator + Copy>(
     alloc: A,
     opening: &[u64],
     events: &[Event],
+    early: usize,
     bound: usize,
     ended: &mut Ended,
 ) -> Result<Option<Vec<Call, A>>, Undecided>
@@ -110,7 +119,7 @@ pub(crate) fn find_in_turns<A: Allocator + Copy>(
         (IsLinearizable opening.now events.now → ⊥)
         (λ order. IsOrder opening.now events.now order.items)) }
 {
-    if let Some(found) = take_turns(alloc, opening, events, bound, ended)? {
+    if let Some(found) = take_turns(alloc, opening, events, early, bound, ended)? {
         return Ok(found);
     }
     find_order(alloc, opening, events, events, bound, ended)

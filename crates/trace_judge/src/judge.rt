@@ -5,13 +5,13 @@ ghost use Rattle.std.specs.Prelude.{Some, None};
 ghost use Rattle.trace_laws.specs.Traces.{IsTrace};
 ghost use Rattle.trace_laws.specs.Orders.{IsOrder, IsLinearizable};
 ghost use Rattle.trace_judge.specs.Stops.{IsUndecided, TellsMany};
-ghost use Rattle.trace_judge.specs.Verdicts.{IsFirstBadEvent, IsGoodUntil, TellsTraceVerdict};
+ghost use Rattle.trace_judge.specs.Verdicts.{IsBadBeginning, IsGoodUntil, TellsTraceVerdict};
 
 use crate::explain::{Ways, explain, explain_beginning};
 use crate::order::{Ended, find_order};
 use crate::stuck::between;
 use crate::undecided::Undecided;
-use crate::zoned::before_conflict;
+use crate::zoned::{before_conflict, seen_by_zones};
 use std::alloc::{AllocError, Allocator};
 use trace_laws::{Call, Event};
 
@@ -23,6 +23,9 @@ pub enum Verdict<A: Allocator> {
     /// It isn't, from this event on, counted from 0: what comes before the event is, and with it no
     /// order explains the trace any more.
     No { event: usize },
+    /// It isn't: with this event, counted from 0, no order explains it any more. Whether one explains what comes before
+    /// the event isn't decided, for this reason.
+    NoBy { event: usize, why: Undecided },
 }
 
 /// The beginning to look at first where a trace has no order.
@@ -63,29 +66,76 @@ pub fn decide<A: Allocator + Copy>(
 /// How many orders of beginnings are guessed in vain.
 const MOST_IN_VAIN: u32 = 2;
 
-/// The first event up to which no order explains a trace that has none. A beginning that ends before the event at
-/// which a search ended has one.
+/// How many events a beginning has that no order explains: one more than come before zones are in conflict, if they are
+/// there; or as many as are given.
+fn shorter<A: Allocator + Copy>(
+    alloc: A,
+    opening: &[u64],
+    events: &[Event],
+    bound: usize,
+    before: usize,
+    bad: usize,
+) -> Result<usize, AllocError>
+    requires trace { IsTrace (length opening.now) events.now }
+    requires bad { IsBadBeginning opening.now events.now bad }
+    ensures { IfOk result (IsBadBeginning opening.now events.now) }
+{
+    if before >= bad || before + 1 == bad {
+        return Ok(bad);
+    }
+    let seen = seen_by_zones(alloc, opening, &events[..before + 1], bound)?;
+    if seen.conflict {
+        Ok(before + 1)
+    } else {
+        Ok(bad)
+    }
+}
+
+/// The verdict on a trace of which a beginning of so many events has no order, and another isn't decided for this reason.
 ///
-/// Errors: as those of `judge`.
+/// Errors: out of memory, if that is the reason.
+fn no_by<A: Allocator>(
+    opening: &[u64],
+    events: &[Event],
+    bound: usize,
+    bad: usize,
+    why: Undecided,
+) -> Result<Verdict<A>, AllocError>
+    requires bad { IsBadBeginning opening.now events.now bad }
+    requires unjudged { IsUndecided events.now why }
+    requires full { TellsMany opening.now events.now bound why }
+    ensures { IfOk result (TellsTraceVerdict opening.now events.now bound) }
+{
+    let event = bad - 1;
+    match why {
+        Undecided::Memory => Err(AllocError),
+        Undecided::Configurations { .. } => Ok(Verdict::NoBy { event, why }),
+        Undecided::Operations { .. } => Ok(Verdict::NoBy { event, why }),
+    }
+}
+
+/// The verdict on a trace that has no order: the first event up to which none explains it, or one that is no earlier, where
+/// a beginning isn't decided. A beginning that ends before the event at which a search ended has an order.
+///
+/// Errors: out of memory.
 fn first_bad<A: Allocator + Copy>(
     alloc: A,
     opening: &[u64],
     events: &[Event],
     bound: usize,
     ended: Ended,
-) -> Result<usize, Undecided>
+) -> Result<Verdict<A>, AllocError>
     requires trace { IsTrace (length opening.now) events.now }
     requires none { IsLinearizable opening.now events.now → ⊥ }
     requires good { IsGoodUntil opening.now events.now ended.event }
-    ensures unjudged { IfErr result (IsUndecided events.now) }
-    ensures full { IfErr result (TellsMany opening.now events.now bound) }
-    ensures first { IfOk result (IsFirstBadEvent opening.now events.now) }
+    ensures { IfOk result (TellsTraceVerdict opening.now events.now bound) }
 {
     // Most often the first bad event is the one at which the search ended, or the one that is guessed: look there, and
     // from there in growing steps.
     let mut good = ended.event;
     let mut bad = events.len();
-    let mut guess = first_guess(alloc, opening, events, ended)?;
+    let first = first_guess(alloc, opening, events, ended)?;
+    let mut guess = first;
     let mut step = 1usize;
     let mut ways = Ways {
         by_zones: ended.zoned,
@@ -94,7 +144,14 @@ fn first_bad<A: Allocator + Copy>(
     while good + 1 < bad {
         let middle = between(good, bad, guess);
         let beginning = &events[..middle];
-        if explain_beginning(alloc, opening, beginning, events, bound, &mut ways)?.is_some() {
+        let found = match explain_beginning(alloc, opening, beginning, events, bound, &mut ways) {
+            Ok(found) => found,
+            Err(why) => {
+                let bad = shorter(alloc, opening, events, bound, first, bad)?;
+                return no_by(opening, events, bound, bad, why);
+            }
+        };
+        if found.is_some() {
             good = middle;
             guess = good.saturating_add(step);
             step = step.saturating_mul(2);
@@ -104,10 +161,10 @@ fn first_bad<A: Allocator + Copy>(
             step = 1;
         }
     }
-    Ok(good)
+    Ok(Verdict::No { event: good })
 }
 
-/// The first event up to which no order explains a trace that has none, by the search alone.
+/// The verdict on a trace that has no order, by the search alone.
 ///
 /// Errors: as those of `judge`.
 fn first_bad_by_search<A: Allocator + Copy>(
@@ -115,52 +172,56 @@ fn first_bad_by_search<A: Allocator + Copy>(
     opening: &[u64],
     events: &[Event],
     bound: usize,
-) -> Result<usize, Undecided>
+) -> Result<Verdict<A>, Undecided>
     requires trace { IsTrace (length opening.now) events.now }
     requires none { IsLinearizable opening.now events.now → ⊥ }
-    ensures unjudged { IfErr result (IsUndecided events.now) }
-    ensures full { IfErr result (TellsMany opening.now events.now bound) }
-    ensures first { IfOk result (IsFirstBadEvent opening.now events.now) }
+    ensures { IfOk result (TellsTraceVerdict opening.now events.now bound) }
 {
     let mut ended = Ended::default();
     let _none = find_order(alloc, opening, events, events, bound, &mut ended)?;
-    first_bad(alloc, opening, events, bound, ended)
+    let verdict = first_bad(alloc, opening, events, bound, ended)?;
+    Ok(verdict)
 }
 
-/// The first bad event, as `first_bad` finds it; or by the search alone, where zones are in conflict and a beginning
-/// isn't decided with them.
+/// Whether a verdict leaves open which event is the first bad one.
+fn is_open<A: Allocator>(verdict: &Verdict<A>) -> bool {
+    match verdict {
+        Verdict::NoBy { .. } => true,
+        _ => false,
+    }
+}
+
+/// The verdict on a trace that has no order, as `first_bad` finds it; or by the search alone, where zones are in conflict, a
+/// beginning isn't decided with them, and the search decides all.
 ///
-/// Errors: as those of `judge`.
+/// Errors: out of memory.
 fn first_bad_either_way<A: Allocator + Copy>(
     alloc: A,
     opening: &[u64],
     events: &[Event],
     bound: usize,
     ended: Ended,
-) -> Result<usize, Undecided>
+) -> Result<Verdict<A>, AllocError>
     requires trace { IsTrace (length opening.now) events.now }
     requires none { IsLinearizable opening.now events.now → ⊥ }
     requires good { IsGoodUntil opening.now events.now ended.event }
-    ensures unjudged { IfErr result (IsUndecided events.now) }
-    ensures full { IfErr result (TellsMany opening.now events.now bound) }
-    ensures first { IfOk result (IsFirstBadEvent opening.now events.now) }
+    ensures { IfOk result (TellsTraceVerdict opening.now events.now bound) }
 {
-    match first_bad(alloc, opening, events, bound, ended) {
-        Ok(event) => Ok(event),
-        Err(Undecided::Memory) => Err(Undecided::Memory),
-        Err(open) => {
-            if ended.zoned {
-                first_bad_by_search(alloc, opening, events, bound)
-            } else {
-                Err(open)
-            }
-        }
+    let verdict = first_bad(alloc, opening, events, bound, ended)?;
+    if !ended.zoned || !is_open(&verdict) {
+        return Ok(verdict);
+    }
+    match first_bad_by_search(alloc, opening, events, bound) {
+        Ok(other) if !is_open(&other) => Ok(other),
+        Ok(_) => Ok(verdict),
+        Err(Undecided::Memory) => Err(AllocError),
+        Err(_) => Ok(verdict),
     }
 }
 
 /// Judges a trace over a memory that opens with these words, with at most so many configurations
-/// of a word at once: an order that explains it, or the first event up to which none does.
-/// An `Err` says why the trace, or a beginning of it, isn't decided.
+/// of a word at once: an order that explains it, or the first event up to which none does, or, where a beginning isn't
+/// decided, a later one. An `Err` says why the trace isn't decided.
 pub fn judge<A: Allocator + Copy>(
     alloc: A,
     opening: &[u64],
@@ -170,12 +231,12 @@ pub fn judge<A: Allocator + Copy>(
     requires { IsTrace (length opening.now) events.now }
     ensures unjudged { IfErr result (IsUndecided events.now) }
     ensures full { IfErr result (TellsMany opening.now events.now bound) }
-    ensures judged { IfOk result (λ verdict. TellsTraceVerdict opening.now events.now verdict) }
+    ensures judged { IfOk result (λ verdict. TellsTraceVerdict opening.now events.now bound verdict) }
 {
     let mut ended = Ended::default();
     if let Some(order) = explain(alloc, opening, events, bound, &mut ended)? {
         return Ok(Verdict::Linearizable(order));
     }
-    let event = first_bad_either_way(alloc, opening, events, bound, ended)?;
-    Ok(Verdict::No { event })
+    let verdict = first_bad_either_way(alloc, opening, events, bound, ended)?;
+    Ok(verdict)
 }

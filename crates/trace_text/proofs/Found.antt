@@ -11,15 +11,15 @@ use Rattle.trace_laws.specs.declared.event.Event.TheVariants.{Issue, Answer}
 use Rattle.trace_laws.specs.Traces.{IsTrace, TraceIssuesAt, TraceAnswersAt}
 use Rattle.trace_laws.specs.Orders.{IsOrder, IsLinearizable}
 use Rattle.trace_laws.proofs.Lists.{get_within, within_length}
-use Rattle.trace_judge.specs.Stops.{IsAnswered, IsCrowded, IsAnAnswer, IsUndecided, TellsMany}
+use Rattle.trace_judge.specs.Stops.{IsAnswered, IsCrowded, IsAnAnswer, IsOpen, IsUndecided, TellsMany}
 use Rattle.trace_judge.specs.declared.undecided.Undecided.{Undecided}
 use Rattle.trace_judge.specs.declared.undecided.Undecided.TheVariants as undecided
 use Rattle.std.specs.Prelude.{Vec}
 use Rattle.trace_judge.specs.declared.judge.Verdict.{Verdict}
-use Rattle.trace_judge.specs.declared.judge.Verdict.TheVariants.{Linearizable, No}
-use Rattle.trace_judge.specs.Verdicts.{TellsTraceVerdict}
+use Rattle.trace_judge.specs.declared.judge.Verdict.TheVariants.{Linearizable, No, NoBy}
+use Rattle.trace_judge.specs.Verdicts.{IsBadByEvent, TellsTraceVerdict}
 use Rattle.trace_text.specs.declared.linearize.Unfound.{Unfound}
-use Rattle.trace_text.specs.Findings.{place_of_address, placed_address, opening_words_at, trace_read, unfound_at, IsUnfound}
+use Rattle.trace_text.specs.Findings.{place_of_address, placed_address, opening_words_at, trace_read, unfound_at, IsBadBy, IsOpenAtLine, IsUnfound}
 use Rattle.trace_text.specs.Kept.{IsKeptIssue}
 use Rattle.trace_text.specs.Renumbered.{moved_call, moved_event, IsRenumbered, IsRenumbering}
 use Rattle.trace_lines.specs.Head.{value_in}
@@ -211,6 +211,27 @@ unfound r k bound (undecided.Operations event) u many =
     let w = crowd_in (place_of_address r.places) (placed_address r.addresses) (opening_of (trace_read r)) (others r) r.events (renumbering r k) event u in
     (event, line_is r k event (get_within r.events event (Issue w.another) w.issue), w)
 
+-- why a beginning is not judged
+open_in : (r : TraceReading) → IsKeptIssue r → (bound : ℕ) (why : Undecided) → IsOpen (others r) (moved r) bound why
+    → IsOpenAtLine (trace_read r) bound (unfound_at r.lines why)
+open_in r k bound undecided.Memory o = absurd o
+open_in r k bound (undecided.Configurations event) o = unfound r k bound (undecided.Configurations event) o.0 o.1
+open_in r k bound (undecided.Operations event) o = unfound r k bound (undecided.Operations event) o tt
+
+-- a no, of which a beginning is not judged
+bad_in : (r : TraceReading) → IsKeptIssue r → (bound event : ℕ) (why : Undecided) → IsBadByEvent (others r) (moved r) bound event why
+    → (e : ℕ) × (slice_get r.lines e ≡ Some (get_or r.lines event 0)) × IsBadBy (trace_read r) bound e (unfound_at r.lines why)
+bad_in r k bound event why bad =
+    let sized = length-map r.events (moved_event (place_of_address r.places)) in
+    let within = bad.none.1 in (
+      event,
+      line_is r k event (omega arith),
+      record {
+        none = λ is. bad.none.2 (beginning_there r k (event + 1) is);
+        undecided = open_in r k bound why bad.undecided;
+      },
+    )
+
 -- the words and the events that the judge was given are a trace
 pub trace_given : (r : TraceReading) → IsKeptIssue r → (ws : List ℕ) (es : List Event) → ws ≡ others r → es ≡ moved r → IsTrace (length ws) es
 trace_given r k ws es w e = rw (w, e) (trace_moved r k)
@@ -245,6 +266,14 @@ no_given r k ws es w e event line tells l =
     let found = found_no r k event moved_tells.0 moved_tells.1 moved_tells.2 in
     (found.0, found.1 ∙ ap (λ (n : ℕ). Some n) (sym l), found.2, found.3)
 
+pub bad_given : (r : TraceReading) → IsKeptIssue r → (ws : List ℕ) (es : List Event) → ws ≡ others r → es ≡ moved r → (bound event line : ℕ)
+    (why : Undecided) (told : Unfound) → IsBadByEvent ws es bound event why → line ≡ get_or r.lines event 0 → told ≡ unfound_at r.lines why
+    → (n : ℕ) × (slice_get r.lines n ≡ Some line) × IsBadBy (trace_read r) bound n told
+bad_given r k ws es w e bound event line why told bad l is =
+    let found = bad_in r k bound event why
+    (subst (λ (v : List ℕ). IsBadByEvent v (moved r) bound event why) w (subst (λ (f : List Event). IsBadByEvent ws f bound event why) e bad)) in
+    (found.0, found.1 ∙ ap (λ (n : ℕ). Some n) (sym l), subst (λ (x : Unfound). IsBadBy (trace_read r) bound found.0 x) (sym is) found.2)
+
 pub unfound_given : (r : TraceReading) → IsKeptIssue r → (ws : List ℕ) (es : List Event) → ws ≡ others r → es ≡ moved r → (bound : ℕ) (why : Undecided)
     (told : Unfound) → IsUndecided es why → TellsMany ws es bound why → told ≡ unfound_at r.lines why → IsUnfound (trace_read r) bound told
 unfound_given r k ws es w e bound why told u many is =
@@ -253,11 +282,15 @@ unfound_given r k ws es w e bound why told u many is =
     (subst (λ (v : List ℕ). TellsMany v (moved r) bound why) w (subst (λ (f : List Event). TellsMany ws f bound why) e many)))
 
 -- what a verdict tells, by its kind
-pub yes_told : {A : Type 0} (ws : List ℕ) (es : List Event) (verdict : Verdict A) (order : Vec Call A) → verdict ≡ Linearizable order
-    → TellsTraceVerdict ws es verdict → IsOrder ws es order.items
-yes_told {A} ws es verdict order is tells = subst (λ (v : Verdict A). TellsTraceVerdict ws es v) is tells
+pub yes_told : {A : Type 0} (ws : List ℕ) (es : List Event) (bound : ℕ) (verdict : Verdict A) (order : Vec Call A) → verdict ≡ Linearizable order
+    → TellsTraceVerdict ws es bound verdict → IsOrder ws es order.items
+yes_told {A} ws es bound verdict order is tells = subst (λ (v : Verdict A). TellsTraceVerdict ws es bound v) is tells
 
-pub no_told : {A : Type 0} (ws : List ℕ) (es : List Event) (verdict : Verdict A) (event : ℕ) → verdict ≡ No event
-    → TellsTraceVerdict ws es verdict
+pub no_told : {A : Type 0} (ws : List ℕ) (es : List Event) (bound : ℕ) (verdict : Verdict A) (event : ℕ) → verdict ≡ No event
+    → TellsTraceVerdict ws es bound verdict
     → (event < length es) × IsLinearizable ws (take event es) × (IsLinearizable ws (take (event + 1) es) → ⊥)
-no_told {A} ws es verdict event is tells = subst (λ (v : Verdict A). TellsTraceVerdict ws es v) is tells
+no_told {A} ws es bound verdict event is tells = subst (λ (v : Verdict A). TellsTraceVerdict ws es bound v) is tells
+
+pub bad_told : {A : Type 0} (ws : List ℕ) (es : List Event) (bound : ℕ) (verdict : Verdict A) (event : ℕ) (why : Undecided)
+    → verdict ≡ NoBy event why → TellsTraceVerdict ws es bound verdict → IsBadByEvent ws es bound event why
+bad_told {A} ws es bound verdict event why is tells = subst (λ (v : Verdict A). TellsTraceVerdict ws es bound v) is tells

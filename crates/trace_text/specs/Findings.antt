@@ -7,7 +7,7 @@ use Rattle.trace_judge.specs.declared.undecided.Undecided.TheVariants as undecid
 use Rattle.trace_judge.specs.Stops.{HasMany, IsCrowded, IsAnAnswer}
 use Rattle.trace_lines.specs.Head.{value_in}
 use Rattle.trace_text.specs.declared.linearize.Finding.{Finding}
-use Rattle.trace_text.specs.declared.linearize.Finding.TheVariants.{Linearizable, No}
+use Rattle.trace_text.specs.declared.linearize.Finding.TheVariants.{Linearizable, No, NoBy}
 use Rattle.trace_text.specs.declared.linearize.Unfound.{Unfound}
 use Rattle.trace_text.specs.declared.linearize.Unfound.TheVariants.{Memory, Configurations}
 use Rattle.trace_text.specs.declared.linearize.Unfound.TheVariants.{Operations}
@@ -41,14 +41,6 @@ unfound_at lines undecided.Memory = Memory
 unfound_at lines (undecided.Configurations event) = Configurations (slice_index_or lines event 0)
 unfound_at lines (undecided.Operations event) = Operations (slice_index_or lines event 0)
 
--- an order that explains the trace as it is written; or the line of the first event up to which
--- none does
-abbrev pub TellsFinding : {A : Type 0} → TraceSpec → Finding A → Type 0
-TellsFinding t (Linearizable order) = IsOrder (opening_of t) t.events order.items
-TellsFinding t (No line) = (event : ℕ) × (slice_get t.lines event ≡ Some line)
-    × IsLinearizable (opening_of t) (take event t.events)
-    × (IsLinearizable (opening_of t) (take (event + 1) t.events) → ⊥)
-
 -- event k answers an operation, and a word has more than so many configurations before it
 pub record AnswersPastBound (t : TraceSpec) (bound k : ℕ) : Type 0 where
   pub answer : IsAnAnswer t.events k
@@ -62,3 +54,24 @@ IsUnfound t bound (Configurations line) =
     (event : ℕ) × (slice_get t.lines event ≡ Some line) × AnswersPastBound t bound event
 IsUnfound t bound (Operations line) =
     (event : ℕ) × (slice_get t.lines event ≡ Some line) × IsCrowded t.events event
+
+-- a reason that isn't memory
+abbrev pub IsOpenAtLine : TraceSpec → ℕ → Unfound → Type 0
+IsOpenAtLine t bound Memory = ⊥
+IsOpenAtLine t bound why = IsUnfound t bound why
+
+-- up to event k no order explains the trace; for this reason it isn't decided whether it is the
+-- first such event
+pub record IsBadBy (t : TraceSpec) (bound k : ℕ) (why : Unfound) : Type 0 where
+  pub none : IsLinearizable (opening_of t) (take (k + 1) t.events) → ⊥
+  pub undecided : IsOpenAtLine t bound why
+
+-- an order that explains the trace as it is written; or the line of the first event up to which
+-- none does; or of a later one
+abbrev pub TellsFinding : {A : Type 0} → TraceSpec → ℕ → Finding A → Type 0
+TellsFinding t bound (Linearizable order) = IsOrder (opening_of t) t.events order.items
+TellsFinding t bound (No line) = (event : ℕ) × (slice_get t.lines event ≡ Some line)
+    × IsLinearizable (opening_of t) (take event t.events)
+    × (IsLinearizable (opening_of t) (take (event + 1) t.events) → ⊥)
+TellsFinding t bound (NoBy line why) =
+    (event : ℕ) × (slice_get t.lines event ≡ Some line) × IsBadBy t bound event why

@@ -28,6 +28,9 @@ pub enum Finding<A: Allocator> {
     Linearizable(Vec<Call, A>),
     /// It isn't, from the event of this line on: what comes before it is.
     No { line: u64 },
+    /// It isn't: with the event of this line no order explains it any more. Whether one explains what comes before isn't
+    /// decided, for this reason.
+    NoBy { line: u64, why: Unfound },
 }
 
 /// Why the trace of a text is not judged.
@@ -169,7 +172,7 @@ impl<A: Allocator + Copy> Reading<A> {
         requires { IsKeptIssue (trace_so_far self.now) }
         ensures unfound { IfErr result (IsUnfound (trace_read (trace_so_far self.now)) bound) }
         ensures found { IfOk result
-            (λ finding. TellsFinding (trace_read (trace_so_far self.now)) finding) }
+            (λ finding. TellsFinding (trace_read (trace_so_far self.now)) bound finding) }
     {
         let opening = opening_words_at(alloc, &self.head, &self.addresses)?;
         let events = moved_events(alloc, &self.places, &self.events)?;
@@ -180,6 +183,10 @@ impl<A: Allocator + Copy> Reading<A> {
             }
             Ok(Verdict::No { event }) => Ok(Finding::No {
                 line: line_at(&self.lines, event),
+            }),
+            Ok(Verdict::NoBy { event, why }) => Ok(Finding::NoBy {
+                line: line_at(&self.lines, event),
+                why: at_line(&self.lines, why),
             }),
             Err(why) => Err(at_line(&self.lines, why)),
         }

@@ -93,7 +93,7 @@ impl<A: Allocator + Copy> TraceText<A> {
     /// beside 64 operations that are open on its word, or out of memory.
     pub fn linearize(&self, alloc: A, bound: usize) -> Result<Finding<A>, Unfound>
         ensures unfound { IfErr result (IsUnfound self.now bound) }
-        ensures found { IfOk result (λ finding. TellsFinding self.now finding) }
+        ensures found { IfOk result (λ finding. TellsFinding self.now bound finding) }
     {
         self.reading.linearize(alloc, bound)
     }

@@ -1,4 +1,4 @@
-//! The same watch once more.
+//! Another watch that has seen what one has.
 
 ghost use Rattle.std.specs.Prelude.{◌≡◌, ℕ, List, IfOk, map};
 ghost use Rattle.trace_laws.specs.declared.event.Event.{Event};
@@ -41,8 +41,8 @@ fn words_copied<A: Allocator + Copy>(
 }
 
 impl<A: Allocator + Copy> Watch<A> {
-    /// The same watch once more: it says what this one says, and follows whatever trace this one follows. The two
-    /// share nothing.
+    /// Another watch that has seen what this one has: it says what this one says, and follows whatever trace this
+    /// one follows. The two share nothing.
     ///
     /// Errors: out of memory alone.
     pub fn copied(&self, alloc: A) -> Result<Watch<A>, AllocError>

@@ -1,12 +1,12 @@
 -- Sets of values that grow, and values that are kept.
-use Rattle.std.proofs.Common.{◌≡◌, ⊎_elim, ℕ, suc, ◌+◌, ◌<◌, ◌≤◌, List, [], ◌∷◌, ◌++◌, length, Some, sym, subst, arith, slice_get}
+use Rattle.std.proofs.Common.{◌≡◌, ⊎_elim, ℕ, zero, suc, ◌+◌, ◌<◌, ◌≤◌, List, [], ◌∷◌, ◌++◌, length, Some, sym, subst, arith, slice_get}
 use Rattle.std.specs.Prelude.{Contains}
 use Rattle.std.proofs.lemmas.Bool.{cases_lt}
 use Rattle.std.proofs.lemmas.List.Elements.{Contains-push, Contains-push_cases, Contains-append_left}
 use Rattle.packet.specs.Memory.{new_word}
 use Rattle.trace_laws.proofs.Lists.{same_get, get_within}
 use Rattle.trace_why.specs.declared.calls.CallAt.{CallAt}
-use Rattle.trace_why.specs.Values.{IsReachedIn}
+use Rattle.trace_why.specs.Values.{AreClosed, IsReachedIn}
 use Rattle.trace_why.proofs.Places.{contains_in, in_contains}
 
 -- what the first n operations leave of a value is there
@@ -120,3 +120,15 @@ filtered P values n kept l f v h =
     let i = contains_in values v h.0 in
     let low = get_within values i.0 v i.1 in
     f.all i.0 v (omega arith) i.1 h.1
+
+-- where what they leave is there, all is there that they reach from values of which each is
+pub closed_all : (old values : List ℕ) (calls : List CallAt) → AreClosed values calls
+    → ((v : ℕ) → Contains old v → Contains values v) → (n v : ℕ) → IsReachedIn old calls n v → Contains values v
+closed_all old values calls closed kept zero v h = kept v h
+closed_all old values calls closed kept (suc n) v h = ⊎_elim {C = Contains values v}
+    (λ (r : IsReachedIn old calls n v). closed_all old values calls closed kept n v r)
+    (λ (s : (u : ℕ) × (c : CallAt) × IsReachedIn old calls n u × Contains calls c × (v ≡ new_word c.call.operation.op u)).
+    let x = contains_in values s.0 (closed_all old values calls closed kept n s.0 s.2) in
+    let j = contains_in calls s.1 s.3 in
+    subst (λ (w : ℕ). Contains values w) (sym s.4) (closed x.0 j.0 s.0 s.1 x.1 j.1))
+    h

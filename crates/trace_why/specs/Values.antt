@@ -37,6 +37,11 @@ IsReachedIn values calls (suc n) v = IsReachedIn values calls n v
     ⊎ ((u : ℕ) × (c : CallAt) × IsReachedIn values calls n u × Contains calls c
     × (v ≡ new_word c.call.operation.op u))
 
+-- what one of these operations leaves that finds one of some values is among them
+abbrev pub AreClosed : List ℕ → List CallAt → Type 0
+AreClosed values calls = (x j u : ℕ) (c : CallAt) → slice_get values x ≡ Some u
+    → slice_get calls j ≡ Some c → Contains values (new_word c.call.operation.op u)
+
 -- an operation on word w left a value, and was answered before event k
 abbrev pub IsLeftBefore : List Event → ℕ → ℕ → ℕ → Type 0
 IsLeftBefore trace k w v = (i : ℕ) × (c : CallAt) × (reply : Reply) × (i < k)

@@ -1,10 +1,11 @@
 //! Values that a word may have: a set that grows.
 
-ghost use Rattle.std.specs.Prelude.{◌≡◌, ◌<◌, ◌⊎◌, ℕ, OnOk, IfErr, Contains, length};
+ghost use Rattle.std.specs.Prelude.{◌≡◌, ◌<◌, ◌⊎◌, ℕ, true, Some, OnOk, IfErr, Contains, length};
+ghost use Rattle.std.specs.Prelude.{slice_get};
 ghost use Rattle.packet.specs.Memory.{new_word};
 ghost use Rattle.trace_why.specs.declared.calls.CallAt.{CallAt};
-ghost use Rattle.trace_why.specs.Values.{AreApart, AreApartAnd, IsLeftOf, IsOverfullWord};
-ghost use Rattle.trace_why.specs.Values.{IsReachedIn};
+ghost use Rattle.trace_why.specs.Values.{AreApart, AreApartAnd, AreClosed, IsLeftOf};
+ghost use Rattle.trace_why.specs.Values.{IsOverfullWord, IsReachedIn};
 
 use crate::calls::CallAt;
 use crate::untold::Untold;
@@ -83,6 +84,31 @@ fn grow<A: Allocator + Copy>(
     Ok(())
 }
 
+/// Whether all is among some values that one of these operations leaves which finds this one.
+fn has_left(values: &[u64], calls: &[CallAt], value: u64) -> bool
+    ensures { result ≡ true → (j : ℕ) (c : CallAt) → slice_get calls.now j ≡ Some c
+        → Contains values.now (new_word c.call.operation.op value) }
+{
+    for j in 0..calls.len() {
+        if !values.contains(&apply(calls[j].call.operation.op, value).0) {
+            return false;
+        }
+    }
+    true
+}
+
+/// Whether all is among some values that one of these operations leaves which finds one of them.
+fn are_closed(values: &[u64], calls: &[CallAt]) -> bool
+    ensures { result ≡ true → AreClosed values.now calls.now }
+{
+    for x in 0..values.len() {
+        if !has_left(values, calls, values[x]) {
+            return false;
+        }
+    }
+    true
+}
+
 /// Adds what some operations leave, each of them once at most, one after the other.
 pub(crate) fn reach<A: Allocator + Copy>(
     alloc: A,
@@ -99,6 +125,9 @@ pub(crate) fn reach<A: Allocator + Copy>(
         (IsReachedIn values.old.items calls.now (length calls.now)) bound) }
 {
     for _ in 0..calls.len() {
+        if are_closed(values, calls) {
+            return Ok(());
+        }
         grow(alloc, values, calls, bound)?;
     }
     Ok(())

@@ -13,6 +13,9 @@ explains the log:
   read           the second read what the first wrote
   overwritten    the second overwrites what the first wrote or read
   stale          the second read an older write than the first, though its own processor made that before it
+  pair           the first is a conditional store, and the second a store of another processor behind what its load read
+
+Beside an arrow of RISC-V's model stands the number of the rule that keeps the two in their order.
 
 At most 200 operations are on a cycle that is drawn. Where a log obeys each model, there is no cycle, and nothing is
 drawn. --verdict FILE takes what `torusmem model LOG` printed, and starts no program. With --width 252pt, a column of a
@@ -27,7 +30,7 @@ from typing import Dict
 from torusmem_tools import command
 from torusmem_tools.command import Refusal
 from torusmem_tools.draw import paper
-from torusmem_tools.draw.log_cycle import REASONS, Cycle, Log, draw_cycle
+from torusmem_tools.draw.log_cycle import Cycle, Log, draw_cycle, is_reason
 
 TOOL = "cycle"
 MOST = 200
@@ -60,7 +63,7 @@ def cycle_of(said: str, log: Log, path: str, verdict: str) -> Cycle:
     for said_here, why in zip(lines[:-1:2], lines[1::2]):
         named = re.fullmatch(r"line ([0-9]+): ([0-9]+) (.*)", said_here)
         place = at.get(int(named[1])) if named else None
-        if not named or not place or log.asked[place[0]][place[1]] != named[3] or why.strip() not in REASONS:
+        if not named or not place or not is_reason(why.strip()) or f"{log.asked[place[0]][place[1]]} ".find(f"{named[3]} "):
             raise Refusal(f"{path} is not the log of this verdict: `{said_here}`")
         steps.append((*place, why.strip()))
     if not steps or lines[-1] != lines[0]:

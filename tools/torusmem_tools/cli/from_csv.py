@@ -76,6 +76,10 @@ at: processor (below 4096), operation, address, values, reply (may be empty), an
              word with a lesser number
   source     of a load: the line of the table whose write it read, or `opening`. A load without source and
              order read the only write that left its reply
+  annotations   for RISC-V's memory model: acquire, release (the bits aq and rl), rcpc, of a load reserved, of a store
+             conditional, divided by blanks; of a fence its two sets, of r, w and rw, or tso
+  address on, data on, control on   the lines whose reply the address, or what is written, comes of; of the first
+             operation behind a branch those that the branch depends on
 
 With --log --check it is judged, and what `torusmem model` prints names the lines of the table; the status is 1 if a
 model isn't obeyed.

@@ -50,7 +50,8 @@
                sets an option: num_cpus and num_dirs (16), mesh_rows (4), num_l2caches, num_dmas (0), and what the file asks
   walk FILE    judges a text by a plain walk over it, and prints the verdict's kind. Of a text with several choices, or
                with escapes, it prints the verdict of `torusmem network` but for the numbers, and maybe another cycle. The
-               status is 0 for `rising`, else 1, as there; a text that is refused there for anything else is refused here, too. `--explain`: of a
+               status is 0 for `rising`, and where the text says `length 1` and such packets never deadlock, else 1, as there;
+               a text that is refused there for anything else is refused here, too. `--explain`: of a
                cycle which channels are full in the end, of which packets, and which channel these wait for; where routers
                choose, over which channels packets can go on ahead of that, and of `rising` over how many a packet goes at most.
                `--find-escapes`: prints lines `escape` with which the text, without its own, is `rising`; where none are found,
@@ -162,7 +163,7 @@ def walk_adaptive(net: Network, path: str, is_explained: bool) -> str:
     """The verdict on a network whose routers choose. The status is 0 where it is `rising`."""
     found = verdict(net, path).chosen if path else None
     found = found or walked_verdict(net)
-    return put_or_leave(sentences(net, found) if is_explained else found.text(), found.kind == "rising")
+    return put_or_leave(sentences(net, found) if is_explained else found.text(), found.is_free())
 
 
 def deadlock_run(net: Network, path: str, depth: int) -> str:

@@ -26,11 +26,11 @@ from torusmem_tools.texts.trace_text import Call, TraceText
 
 TOOL = "smallest"
 MOST = 1000
-BAD = re.compile("not linearizable at line ([0-9]+)")
+BAD = re.compile("not linearizable (?:at|by) line ([0-9]+).*")
 
 
 def bad_line(text: str) -> int:
-    """The first bad line of a trace text; 0 where an order explains it, or it isn't decided."""
+    """The first bad line of a trace text, or a later one; 0 where an order explains it, or it isn't decided."""
     with command.temporary_file(text.encode()) as path:
         try:
             command.torusmem("linearize", path, fine=(0, 5))

@@ -2,6 +2,7 @@
 from __future__ import annotations
 
 import math
+import re
 from dataclasses import dataclass, field
 from typing import Callable, Dict, List, Optional, Tuple
 
@@ -17,12 +18,16 @@ REASONS = {
     "was overwritten by": (palette.VERMILLION, "7 3"),
     "read a word that was overwritten by": (palette.VERMILLION, "7 3"),
     "was missed by the later load": (palette.PURPLE, "2 3"),
+    "ends its pair before": (palette.GREEN, "12 3"),
 }
+# A rule of RISC-V's preserved program order, by its number and its words.
+RULE = re.compile("before, by (rule [0-9]+): (.*)")
 LEGEND = (
     ("before, in program order", "before, in program order, which {model} keeps"),
     ("was read by", "was read by"),
     ("was overwritten by", "was overwritten by; of a load: read a word that was overwritten by"),
     ("was missed by the later load", "was missed by the later load of its processor"),
+    ("ends its pair before", "a conditional store ends its pair before a store of another processor"),
 )
 GREY, FRAME = palette.GREY, svg_text.INK
 HIGH, GAP, MARGIN, LANE = 38, 30, 14, 10
@@ -102,6 +107,16 @@ class Cycle:
     steps: List[Tuple[int, int, str]]
 
 
+def sign_of(why: str) -> Tuple[str, Optional[str]]:
+    """The ink and the dashes of a reason: a rule's are those of program order."""
+    return REASONS["before, in program order" if RULE.fullmatch(why) else why]
+
+
+def is_reason(why: str) -> bool:
+    """Whether the words are those of a reason."""
+    return why in REASONS or bool(RULE.fullmatch(why))
+
+
 def columns_of(cycle: Cycle) -> List[int]:
     """The processors on the cycle: two by their numbers, more in the order in which the cycle comes to them."""
     found = list(dict.fromkeys(p for p, _, _ in cycle.steps))
@@ -148,7 +163,7 @@ def drawn_box(box: Box, look: Look) -> str:
 
 def drawn_arrow(points: List[Point], why: str) -> List[str]:
     """An arrow along the points."""
-    ink, dashes = REASONS[why]
+    ink, dashes = sign_of(why)
     (px, py), (x, y) = points[-2:]
     far = math.dist((px, py), (x, y))
     ux, uy = (x - px) / far, (y - py) / far
@@ -159,6 +174,12 @@ def drawn_arrow(points: List[Point], why: str) -> List[str]:
         svg_text.element("path", d=shaft, fill="none", stroke=ink, stroke_width=2, stroke_dasharray=dashes, stroke_linejoin="round"),
         svg_text.element("path", d=svg_text.path([(x, y), *wings]) + " z", fill=ink),
     ]
+
+
+def named_rule(points: List[Point], upper: Box, why: str, look: Look) -> List[str]:
+    """The name of a rule beside its arrow, below the upper one of its operations."""
+    rule = RULE.fullmatch(why)
+    return [svg_text.text(points[len(points) // 2 - 1 if len(points) > 2 else 0][0] + 6, upper.y + upper.high() + GAP / 2 + 3, rule[1], look.small)] if rule else []
 
 
 class Plan:
@@ -235,14 +256,17 @@ def network(plan: Plan, top: float) -> List[str]:
     """The columns of a plan, with the names of their processors, and the arrows."""
     heads = [svg_text.text(column[0].x + column[0].wide / 2, top, f"processor {p}", plan.look.font, text_anchor="middle")
              for column, p in zip(plan.columns, plan.processors)]
-    arrows = [it for start, end, why in plan.pairs() for it in drawn_arrow(plan.way(start, end), why)]
+    ways = [(plan.way(start, end), plan.at[min(start, end)], why) for start, end, why in plan.pairs()]
+    arrows = [it for points, upper, why in ways for it in drawn_arrow(points, why) + named_rule(points, upper, why, plan.look)]
     return [*heads, *arrows, *(drawn_box(box, plan.look) for column in plan.columns for box in column)]
 
 
 def legend(cycle: Cycle) -> List[Tuple[str, str]]:
     """The reasons of a cycle, and their words."""
-    inks = {REASONS[why] for _, _, why in cycle.steps}
-    return [(why, said.format(model=cycle.model)) for why, said in LEGEND if REASONS[why] in inks]
+    inks = {REASONS[why] for _, _, why in cycle.steps if why in REASONS}
+    rules = {why: RULE.fullmatch(why) for _, _, why in cycle.steps}
+    told = [(why, f"{it[1]}: {it[2]}") for why, it in sorted(rules.items(), key=lambda it: (len(it[0].split(":")[0]), it)) if it]
+    return told + [(why, said.format(model=cycle.model)) for why, said in LEGEND if REASONS[why] in inks]
 
 
 def narrow(log: Log, cycle: Cycle, top: float, room: float) -> Plan:

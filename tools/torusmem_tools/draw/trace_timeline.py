@@ -111,7 +111,7 @@ def judge_trace(text: bytes, name: str) -> Trace:
             order, said = command.torusmem("linearize", path), "linearizable"
         except command.Refusal as why:
             said = str(why)
-        is_judged = order != "" or bool(re.match("(not linearizable|undecided) at line [0-9]+", said))
+        is_judged = order != "" or bool(re.match("(not linearizable|undecided) (at|by) line [0-9]+", said))
         if said.startswith("not linearizable"):
             reasons = command.explain_answer(path)
         elif not is_judged:
@@ -123,7 +123,7 @@ def judge_trace(text: bytes, name: str) -> Trace:
     places = {tuple(it.split()[1:3]): at for at, it in enumerate(order.split("\n"), 1)}
     for it in found.operations:
         it.place = places.get((str(it.processor), str(it.index)))
-    bad = re.fullmatch("not linearizable at line ([0-9]+)", said)
+    bad = re.match("not linearizable (?:at|by) line ([0-9]+)", said)
     found.bad = found.lines.index(int(bad[1])) + 1 if bad else None
     if reasons:
         found.why = f"line {reasons[0]}"

@@ -7,7 +7,7 @@ from typing import List, Optional, Tuple
 from torusmem_tools.command import Refusal
 from torusmem_tools.model.adaptive_walk import Edge, AdaptiveVerdict, Walk, duato_verdict
 from torusmem_tools.model.dead_fillings import DeadSets, fills_read
-from torusmem_tools.model.dead_sets import LOCKS, Fill, dead_lines, fault_of_dead_lines, fill_lines
+from torusmem_tools.model.dead_sets import LOCKS, NEVER, Fill, dead_lines, fault_of_dead_lines, fill_lines
 from torusmem_tools.model.deadlock import label_of
 from torusmem_tools.model.network import Network, number_of
 
@@ -50,8 +50,10 @@ def found_in(net: Network, text: str, path: str) -> AdaptiveVerdict:
     said = [it for it in lines if it in ("rising", "cycle", "no pair") or it.startswith(("no route ", "no choice ", "no escape "))]
     if said != [kind]:
         raise Refusal(f"{path}: the network's verdict is `{kind}`, and not `{' '.join(said)}`")
-    last = "may lock up" if kind == "cycle" else kind
+    last = (walked.may() or [kind])[0]
     behind = lines[lines.index(last) + 1:] if last in lines else []
+    if kind == "cycle" and walked.is_free():
+        behind = behind[len([it for it in behind if not it.startswith(("number ", NEVER))]):]
     begun = next((k for k, it in enumerate(behind) if it.startswith("fill ") or it == LOCKS), len(behind))
     wrong = fault_of_dead_lines(net, walked.dead, behind[:begun]) if behind else ""
     if wrong:
@@ -61,7 +63,7 @@ def found_in(net: Network, text: str, path: str) -> AdaptiveVerdict:
         turns = turns_of([it.split() or [""] for it in lines[:len(lines) - len(behind)] if it not in ("cycle", last)], net)
         if not turns:
             raise Refusal(f"{path}: it has no cycle of this network")
-        return AdaptiveVerdict(kind, turns=turns, dead=walked.dead, fills=walked.fills)
+        return walked._replace(turns=turns)
     found = {}
     for words in (it.split() for it in lines):
         if words[:1] == ["number"] and len(words) == 3 and min(map(number_of, words[1:])) >= 0:
@@ -96,4 +98,4 @@ def sentences(net: Network, found: AdaptiveVerdict) -> str:
         over = ", ".join(f"{it}{label_of(net, it)}" for it in edge.over)
         goes = f" can go on over {over}, which {'are' if edge.over[1:] else 'is'} no escape{'s' if edge.over[1:] else ''}, and" if over else ""
         lines.append(f"packets to {edge.to}{label_of(net, edge.to)} that hold channel {x}{label_of(net, x)}{goes} wait for channel {there}")
-    return "\n".join([*lines, *["may lock up"] * (found.kind == "cycle"), *dead_lines(found.dead), *filled(net, found.fills)]) + "\n"
+    return "\n".join([*lines, *found.may(), *dead_lines(found.dead), *filled(net, found.fills)]) + "\n"

@@ -30,13 +30,22 @@ class AdaptiveVerdict(NamedTuple):
     turns: List[Tuple[int, Edge, int]] = []
     dead: Optional[List[int]] = None
     fills: List[Fill] = []
+    # Whether the text says that packets have one flit.
+    is_short: bool = False
+
+    def is_free(self) -> bool:
+        """Whether it never deadlocks: `rising`, or packets of one flit, which the text says all are, never do."""
+        return self.kind == "rising" or (self.is_short and self.dead == [])
+
+    def may(self) -> List[str]:
+        """What stands behind a cycle."""
+        return ["may lock up"] * (self.kind == "cycle" and not self.is_free())
 
     def text(self) -> str:
         """The lines of `torusmem network`, but for the numbers."""
         if self.kind == "rising":
             return f"{self.travel}\nrising\n"
-        lines = [self.kind, *(line_of(x, edge, y) for x, edge, y in self.turns), *["may lock up"] * (self.kind == "cycle"),
-                 *dead_lines(self.dead), *fill_lines(self.fills)]
+        lines = [self.kind, *(line_of(x, edge, y) for x, edge, y in self.turns), *self.may(), *dead_lines(self.dead), *fill_lines(self.fills)]
         return "\n".join(lines) + "\n"
 
 
@@ -167,14 +176,14 @@ def duato_verdict(net: Network, walks: Callable[[Network], Walk] = Walk) -> Adap
     walk = walks(net)
     wrong = walk.bare()
     if wrong is not None:
-        return AdaptiveVerdict(wrong, dead=greatest_dead_set(net))
+        return AdaptiveVerdict(wrong, dead=greatest_dead_set(net), is_short=net.flits == 1)
     edges = walk.edges()
     rank = numbers(net, {edge: "" for edge in edges})
     if rank is not None:
         return AdaptiveVerdict("rising", rank, walk.travel())
     around = shortest_cycle(edges)
     turns = [(x, edges[x, y], y) for x, y in zip(around, around[1:] + around[:1])]
-    return AdaptiveVerdict("cycle", turns=turns, dead=greatest_dead_set(net))
+    return AdaptiveVerdict("cycle", turns=turns, dead=greatest_dead_set(net), is_short=net.flits == 1)
 
 
 def shortest_cycle(edges: Dict[Tuple[int, int], Edge]) -> List[int]:

@@ -11,8 +11,8 @@ Place = Tuple[float, float]
 Pair = Tuple[int, int]
 # What `torusmem network` takes at most.
 MOST_CHANNELS, MOST_CHOICES, MOST_PAIRS = 65536, 1 << 27, 4194304
-# How many bytes a word of a name has at most.
-MOST_NAME = 40
+# How many bytes a word of a name has at most, and how many flits a packet.
+MOST_NAME, MOST_FLITS = 40, 2147483647
 
 
 class Router(NamedTuple):
@@ -45,6 +45,8 @@ class Network:
     links: Dict[int, Link] = field(default_factory=dict)
     names: Dict[int, str] = field(default_factory=dict)
     ejections: int = 0
+    # How many flits each packet has; None where lengths are free.
+    flits: Optional[int] = None
 
     def channel(self, kind: str, start: int, end: int, virtual: int = 0) -> int:
         """A new channel between these routers."""
@@ -117,6 +119,7 @@ class Network:
         lines += [f"next {x} {j} {y}" for x, j, y in self.steps()]
         lines += [f"escape {y}" for y in sorted(self.escapes)]
         lines += [f"reply {x} {y}" for x, y in self.replies]
+        lines += [] if self.flits is None else [f"length {self.flits}"]
         return "\n".join(lines) + "\n"
 
 
@@ -125,7 +128,7 @@ def number_of(word: str) -> int:
     return int(word) if word.isascii() and word.isdigit() and len(word) <= 20 else -1
 
 
-SHAPES = {"channels": 1, "inject": 1, "eject": 1, "join": 2, "next": 3, "reply": 2, "escape": 1}
+SHAPES = {"channels": 1, "inject": 1, "eject": 1, "join": 2, "next": 3, "reply": 2, "escape": 1, "length": 1}
 # The lines that change no verdict: how many words each may have behind its first.
 NAMES = {"router": (2, 4), "link": (3, 4), "name": (2, 3, 4, 5)}
 
@@ -155,8 +158,9 @@ class Reader:
             self.net.kinds = ["hop"] * self.below(numbers[0] - 1, MOST_CHANNELS, "the number of channels")
             self.net.kinds.append("hop")
             return
-        for it in numbers:
-            self.below(it, len(self.net.kinds), "the channel")
+        if kind != "length":
+            for it in numbers:
+                self.below(it, len(self.net.kinds), "the channel")
         getattr(self, kind)(*numbers)
 
     def take_name(self, kind: str, words: List[str]) -> None:
@@ -229,6 +233,11 @@ class Reader:
     def escape(self, y: int) -> None:
         self.once("the escape", y)
         self.net.escapes.add(y)
+
+    def length(self, flits: int) -> None:
+        self.once("the length of packets")
+        self.below(flits - 1, MOST_FLITS, "the length of packets")
+        self.net.flits = flits
 
     def reply(self, x: int, y: int) -> None:
         if (self.net.kinds[x], self.net.kinds[y]) != ("eject", "inject"):

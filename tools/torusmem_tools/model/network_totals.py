@@ -20,3 +20,11 @@ def totals_line(net: Network) -> str:
     hops = sum(net.kinds[x] == "hop" for x in used)
     return (f"pairs {len(set(net.joins))} of {count['inject'] * count['eject']}, hops {hops} of {count['hop']}, "
             f"longest route {longest}")
+
+
+def length_line(net: Network) -> str:
+    """The line that packets of the length of the text deadlock a network with a cycle; nothing where it gives none, or packets
+    are answered."""
+    if net.flits is None or net.replies:
+        return ""
+    return f"locks up with packets of {net.flits} flit{'s' * (net.flits > 1)} where channels hold {max(1, net.flits - 1)} or more"

@@ -9,7 +9,7 @@ from torusmem_tools.model.adaptive_verdict import found_in, walked_verdict
 from torusmem_tools.model.adaptive_walk import AdaptiveVerdict
 from torusmem_tools.model.deadlock import Fill, Held, held_by, jam_of, label_of
 from torusmem_tools.model.network import Network, channel_dependencies, cycle, number_of, numbers
-from torusmem_tools.model.network_totals import totals_line
+from torusmem_tools.model.network_totals import length_line, totals_line
 
 WALKED = "by tools/network, a plain walk that is not proved"
 PROGRAM = "by torusmem network"
@@ -59,7 +59,9 @@ def verdict_read(net: Network, text: str, path: str) -> Verdict:
             said = line.partition(":")[0]
         elif number_of(word) >= 0 and others[:1] in (["to"], ["replies"]) and len(others) == 2:
             around.append(int(word))
-        elif line != "locks up" and (not line.startswith("pairs ") or kind not in ("rising", "cycle") or line != totals_line(net)):
+        elif line.startswith("pairs ") and kind in ("rising", "cycle") and line == totals_line(net):
+            continue
+        elif line != "locks up" and (kind != "cycle" or not line or line != length_line(net)):
             raise Refusal(f"{path}, line {number}: no line of a verdict is written so")
     if said != kind:
         raise Refusal(f"{path}: the network's verdict is `{kind}`, and not `{said}`")

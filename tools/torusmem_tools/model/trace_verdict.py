@@ -17,18 +17,20 @@ from torusmem_tools.model import failed_cas, operations, refusal_story
 from torusmem_tools.progress import Progress
 from torusmem_tools.texts.call_trace import Calls, Trace, trace_of
 
-NO = re.compile("(not linearizable|undecided) at line ([0-9]+)(.*)", re.DOTALL)
+NO = re.compile("(not linearizable|undecided) (at|by) line ([0-9]+)(.*)", re.DOTALL)
 
 
 @dataclass
 class Answer:
-    """What the program says of a trace text: its order, or the event from which on there is none, and why."""
+    """What the program says of a trace text: its order, or the event from which on there is none, at the latest where an earlier one
+    isn't decided, and why."""
 
     order: List[str] = field(default_factory=list)
     event: Optional[int] = None
     is_undecided: bool = False
     more: str = ""
     reasons: List[str] = field(default_factory=list)
+    is_late: bool = False
 
 
 @dataclass
@@ -57,9 +59,10 @@ class Judge:
                 if not found:
                     raise
             reasons = command.explain_answer(name, *self.options) if wants_reasons and found[1][0] == "n" else []
-        event = trace.event_of(int(found[2]))
+        event = trace.event_of(int(found[3]))
         assert event is not None
-        return Answer([], event, found[1] == "undecided", found[3], reasons), trace
+        is_late = found[2] == "by"
+        return Answer([], event, found[1] == "undecided", "" if is_late else found[4], reasons, is_late), trace
 
 
 class NoOrder(command.Refusal):
@@ -75,7 +78,8 @@ class NoOrder(command.Refusal):
         if self.is_failed_cas:
             shown = shown[: shown.rindex(" ")] + " fail"
         verdict = "undecided" if said.is_undecided else "not linearizable"
-        super().__init__(f"{calls.path}, line {trace.line_of(said.event)}: {verdict} from `{shown}` on{said.more}")
+        told = f"by `{shown}`; an earlier line isn't decided" if said.is_late else f"from `{shown}` on{said.more}"
+        super().__init__(f"{calls.path}, line {trace.line_of(said.event)}: {verdict} {told}")
 
 
 def explain_no(calls: Calls, trace: Trace, said: Answer, wants_story: bool) -> NoOrder:

@@ -13,12 +13,19 @@ from torusmem_tools.texts import call_trace, junit, literals, table
 from torusmem_tools.texts.report import BadLine
 
 COLUMNS = "processor,operation,address,values,reply".split(",")
+# The columns that a table may have, too. The last three name the lines that an operation depends on.
+FURTHER = "order,source,annotations,address on,data on,control on".split(",")
+DEPENDENCIES = {f"{it} on": it for it in ("address", "data", "control")}
+# The words behind an operation, in their order.
+ANNOTATIONS = ("reserved", "conditional", "acquire", "release", "rcpc")
+SETS = ("r", "w", "rw")
 
 
 @dataclass
 class Row:
     """An operation: its line, its processor, its index there, its kind (or fence), its word and its values, what it
-    replied, when it was served, and which line it read (0 for the opening word), if the table says so."""
+    replied, when it was served, and which line it read (0 for the opening word), if the table says so; its annotations, or a
+    fence's sets; and in which way it depends on which lines."""
 
     line: int
     processor: int
@@ -30,9 +37,12 @@ class Row:
     is_answered: bool = False
     order: Optional[int] = None
     source: Optional[int] = None
+    words: Tuple[str, ...] = ()
+    on: List[Tuple[str, int]] = field(default_factory=list)
 
     def asked(self) -> str:
-        return "fence" if self.kind == "fence" else " ".join(map(str, (self.kind, self.address, *self.values)))
+        numbers = () if self.kind == "fence" else (self.address, *self.values)
+        return " ".join(map(str, (self.kind, *numbers, *self.words)))
 
     def is_write(self) -> bool:
         return self.kind not in ("load", "fence")
@@ -64,6 +74,10 @@ class Table:
             yield it.line, f"made {it.processor} {it.asked()}"
             if it.is_answered:
                 yield it.line, f"replied {it.processor} {it.index} {'ok' if it.reply is None else it.reply}"
+        index = {it.line: it.index for it in self.rows}
+        for it in self.rows:
+            for kind, line in it.on:
+                yield it.line, f"depends {it.processor} {it.index} on {index[line]} {kind}"
         for address in sorted(self.writes):
             for it in self.writes[address]:
                 yield it.line, f"wrote {it.processor} {it.index}"
@@ -78,10 +92,13 @@ def row_of(said: Dict[str, str], line: int, counts: Dict[int, int], is_hex: bool
     """The operation of a row of a table, where so many of each processor stand before it."""
     processor = call_trace.processor_of(said["processor"])
     kind, found = said["operation"], Row(line, processor, counts.get(processor, 0), said["operation"])
+    found.words = annotations_of(kind, said.get("annotations", ""))
     if kind == "fence":
-        if any(said.get(it) for it in ("address", "values", "reply", "order", "source")):
-            raise BadLine("a fence has no address, values, reply, order and source")
+        if any(said.get(it) for it in ("address", "values", "reply", "order", "source", *DEPENDENCIES)):
+            raise BadLine("a fence has no address, values, reply, order, source and dependency")
         return found
+    found.on = [(how, literals.number(it, 2, 10**12, f"the line in `{column}`"))
+                for column, how in DEPENDENCIES.items() for it in said.get(column, "").split()]
     found.address = call_trace.address_of(said["address"], is_hex)
     found.values = table.values_of(kind, said["values"].split(), is_hex)
     if said["reply"]:
@@ -97,12 +114,40 @@ def row_of(said: Dict[str, str], line: int, counts: Dict[int, int], is_hex: bool
     return found
 
 
+def annotations_of(kind: str, text: str) -> Tuple[str, ...]:
+    """The annotations of an operation, in their order; of a fence its sets, or `tso`."""
+    words = tuple(text.split())
+    if kind == "fence":
+        if words not in ((), ("tso",)) and not (len(words) == 2 and set(words) <= set(SETS)):
+            raise BadLine(f"the sets of a fence are two of r, w and rw, or tso, and not `{text}`")
+        return words
+    for it in words:
+        if it not in ANNOTATIONS or it == "reserved" and kind != "load" or it == "conditional" and kind != "store":
+            raise BadLine(f"no annotation of a {kind}: `{it}`")
+    if "rcpc" in words and not {"acquire", "release"} & set(words):
+        raise BadLine("`rcpc` stands without acquire and release")
+    return tuple(it for it in ANNOTATIONS if it in words)
+
+
+def find_dependencies(found: Table, path: str) -> None:
+    """Refuses a dependency on what is no operation of the processor before the line, or gives it no register."""
+    by_line = {it.line: it for it in found.rows}
+    for it in found.rows:
+        for kind, line in it.on:
+            on = by_line.get(line)
+            gives = on is not None and (on.kind not in ("store", "fence") or "conditional" in on.words)
+            if on is None or not gives or on.processor != it.processor or on.line >= it.line:
+                raise command.Refusal(f"{path}, line {it.line}: line {line} is no operation of its processor before it that gives it a value")
+            if kind == "data" and not it.is_write():
+                raise command.Refusal(f"{path}, line {it.line}: a load has no data dependency")
+
+
 def read_log(text: bytes, path: str, opening: Dict[int, int], is_hex: bool) -> Table:
     """The operations of a table. Refused with the first line that can't be understood."""
     rows = table.cut(table.with_commas(text, path), path)
     columns: List[str] = next((it for _, it in rows), [])
     if missing := [it for it in COLUMNS if it not in columns]:
-        raise table.missing_columns(path, missing, columns, [*COLUMNS, "order", "source"])
+        raise table.missing_columns(path, missing, columns, [*COLUMNS, *FURTHER])
     found, counts = Table(), {}  # type: Table, Dict[int, int]
     for line, fields in rows:
         try:
@@ -115,6 +160,7 @@ def read_log(text: bytes, path: str, opening: Dict[int, int], is_hex: bool) -> T
         found.rows.append(it)
     order_writes(found, path)
     find_sources(found, path, opening)
+    find_dependencies(found, path)
     return found
 
 
@@ -193,13 +239,13 @@ def model_verdict(lines: List[Tuple[int, str]], path: str) -> Tuple[str, bool]:
         except command.Refusal as refused:
             made = command.No if str(refused).startswith("reply ") else command.Refusal
             raise made(f"{path}: {at(str(refused))}") from None
-    return at(said), "\nsc yes\n" in said
+    return at(said), not re.search("^[a-z]+ no$", said, re.MULTILINE)
 
 
 def cases_of(said: str, path: str) -> List[junit.Case]:
     """A case for each model that was judged. The cycle, which is one of the weakest that isn't obeyed, says why."""
     lines = said.rstrip("\n").split("\n")
     models = [it.split(" ", 1) for it in lines if re.fullmatch("[a-z]+ (yes|no)", it)]
-    cycle = lines[len(models) :]
+    cycle = lines[next((k for k, it in enumerate(lines) if it.endswith(":")), len(lines)) :]
     why: Callable[[str], List[str]] = lambda name: cycle if cycle and cycle[0].startswith(f"no order of {name}") else []
     return [junit.Case(f"{path}: {name}", int(it == "no"), f"{name} {it}", why(name)) for name, it in models]

@@ -17,7 +17,7 @@ import torusmem
 from torusmem import Answer, Answered, BadReport, Channel, Choice, Closed, Cycle, Entry, EventFault, Fill, Issued, Kind
 from torusmem import Linearizable, Link, Machine, NoPair, NoRoute, NotLinearizable, Operation, Rising, Spin, TextFault
 from torusmem import Init, LogFault, Made, Model, Read, Replied, Served, Steps, TooMany, Undecided, Watch, WrongReply, Wrote
-from torusmem import linearize, model, network
+from torusmem import linearize, model, network, network_answer
 
 ROOT = os.path.dirname(os.path.dirname(os.path.dirname(os.path.dirname(os.path.realpath(__file__)))))
 EXAMPLES = os.path.join(ROOT, "examples")
@@ -393,6 +393,14 @@ class Networks(unittest.TestCase):
         self.assertEqual(network(text), NoRoute(0, 3, "round for ever", None))
         self.assertIsInstance(network("channels 2\ninject 0\neject 1\n"), NoPair)
 
+    def test_routers_that_choose(self):
+        text = "channels 4\ninject 0\neject 3\njoin 0 3\nnext 0 3 1\nnext 0 3 2\nnext 1 3 3\nnext 2 3 3\n"
+        rising, said = network_answer(text)
+        self.assertTrue(rising and said.startswith("number 0 "))
+        self.assertEqual(network_answer("channels 2\ninject 0\neject 1\n"), (False, "no pair\n"))
+        self.assertRaises(TextFault, network_answer, "channels 2\ninject 2\n")
+        self.assertRaises(TextFault, network, text)
+
     def test_cycles(self):
         there, back = Link(2, 5, None), Link(3, 4, None)
         one, two = Fill(0, 5, 1), Fill(1, 4, 1)
@@ -597,6 +605,24 @@ class Watches(unittest.TestCase):
         self.assertTrue(watch.closed)
         self.assertRaises(torusmem.Closed, watch.issue, Operation.LOAD, 0)
 
+    def test_watches_are_saved_and_cloned(self):
+        with Watch([0, 5]) as watch:
+            add, other = watch.issue(Operation.ADD, 1, 2), watch.issue(Operation.ADD, 1, 2)
+            self.assertTrue(watch.answer(other, 7))
+            saved = watch.save()
+            with Watch.restored(saved) as again, watch.clone() as fork:
+                self.assertEqual((again.save(), fork.save(), repr(again)), (saved, saved, repr(watch)))
+                for it in (again, fork, watch):
+                    self.assertEqual([it.answer(add, 6), it.answer(add, 5), it.issue(Operation.LOAD, 1)], [False, True, 2])
+        for at in range(len(saved)):
+            changed = saved[:at] + bytes([saved[at] ^ 1]) + saved[at + 1 :]
+            self.assertRaisesRegex(ValueError, "the bytes are no watch: byte ", Watch.restored, changed)
+        self.assertRaisesRegex(ValueError, "byte 9 is wrong", Watch.restored, saved[:9])
+        with Machine("radix 2\ndims 1\ndepth 4\ntags 4\nwords 8\n", "", recorded=True) as machine:
+            self.assertRaisesRegex(ValueError, "byte 48 is wrong", Watch.restored, machine.save())
+        self.assertRaisesRegex(ValueError, "a text of the record, line 1", Machine.restored, saved)
+        self.assertRaises(torusmem.Closed, watch.save)
+
     def test_every_operation_is_watched(self):
         rows = {
             "LOAD": ((), 6, 6),
@@ -718,7 +744,7 @@ class Words(unittest.TestCase):
         names = "OK FAULT_MEMORY BAD_REPORT EMPTY FULL NONE SHORT NO_ROUTE CYCLE".split()
         names += ["NO_TEXT", "MACHINE_TEXT", "SCRIPTS_TEXT", "ISSUE", "ANSWER"]
         names += ["NOT_LINEARIZABLE", "TOO_MANY", "TOO_OPEN", "BEHIND_SPIN", "NOT_YET"]
-        names += ["NO_RECORD", "BAD_RECORD", "BAD_ACTION", "WRONG_REPLY", "NO_PAIR", "ISSUED", "SERVED", "ANSWERED"]
+        names += ["NO_RECORD", "BAD_RECORD", "BAD_ACTION", "WRONG_REPLY", "NO_PAIR", "NOT_RISING", "ISSUED", "SERVED", "ANSWERED"]
         names += ["LOG_INIT", "LOG_MADE", "LOG_WROTE", "LOG_READ", "LOG_READ_OPENING", "LOG_SERVED", "LOG_REPLIED"]
         names += ["FENCE", "SPIN", "FIRST_IS_LAST", "SECOND_IS_LAST"]
         codes = {name: getattr(library, name) for name in names}

@@ -18,7 +18,7 @@ Tile t has the agents 3t (its processor), 3t + 1 (its router) and 3t + 2 (its ba
 the reason: TextFault, BadReport.
 
 network() judges any network that is written down, and answers numbers that rise along every route, a pair without a
-route, or a cycle with the channels that fill up. linearize() finds an order that explains a trace of calls and answers,
+route, or a cycle with the channels that fill up; network_answer() one whose routers choose, too, and gives the text. linearize() finds an order that explains a trace of calls and answers,
 or the event from which on there is none, or that the trace is undecided. A Watch judges a trace event by event, while it
 goes on. model() tells which memory models a log of programs obeys, and the cycle of the weakest that it breaks.
 
@@ -30,7 +30,7 @@ from __future__ import annotations
 from ._faults import BadReport, Closed, EVENT_REASONS, EventFault, LOG_REASONS, LogFault, NETWORK_REASONS, REASONS
 from ._faults import TextFault, TooMany
 from ._judges import Answered, Cycle, Event, Fill, Issued, Judged, Linearizable, Link, NoPair, NoRoute, NotLinearizable
-from ._judges import Rising, Undecided, Verdict, check, linearize, network
+from ._judges import Rising, Undecided, Verdict, check, linearize, network, network_answer
 from ._library import LibraryNotFound
 from ._machine import Machine
 from ._models import Init, LogEntry, Made, Model, Obeyed, Read, Replied, Served, WrongReply, Wrote, model
@@ -95,4 +95,5 @@ __all__ = [
     "linearize",
     "model",
     "network",
+    "network_answer",
 ]

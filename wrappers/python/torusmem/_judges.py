@@ -101,12 +101,33 @@ def network(text: Text, file: str = "network text") -> Verdict:
     if said.code == _library.OK:
         return Rising(tuple(int(line.split()[2]) for line in lines if line.startswith("number ")))
     if said.code == _library.CYCLE:
-        said_of = [line.split() for line in lines[1:] if line != "locks up" and not line.startswith("pairs ")]
+        said_of = [line.split() for line in lines[1:] if not line.startswith(("locks up", "pairs "))]
         links = tuple(link_from(*words) for words in said_of if words[0] != "fill")
         return Cycle(links, tuple(Fill(*map(int, words[1:])) for words in said_of if words[0] == "fill"))
     pair, _, why = lines[0].partition(": ")
     reason, _, step = why.partition(" at step ")
     return NoRoute(int(pair.split()[2]), int(pair.split()[3]), reason, int(step) if step else None)
+
+
+def network_answer(text: Text, file: str = "network text") -> Tuple[bool, str]:
+    """Whether the numbers of a network's channels rise, so that it never deadlocks, and the text that the program prints of
+    a network text, whose routers may choose (docs/FORMATS.md, "Network text"). TextFault tells the first fault of the text.
+
+        >>> from torusmem import network_answer
+        >>> network_answer("channels 2\\ninject 0\\neject 1\\njoin 0 1\\n")
+        (False, 'no route 0 1: no channel at step 1\\n')
+    """
+    given, calls = bytes_of(text, "network"), _library.library()
+    out = create_string_buffer(1 << 16)
+    said = calls.network_answer(given, len(given), out, len(out))
+    if said.code == _library.SHORT:
+        out = create_string_buffer(said.value)
+        said = calls.network_answer(given, len(given), out, len(out))
+    if said.code == _library.FAULT_MEMORY:
+        raise MemoryError(f"torusmem: {REASONS[12]} (F12)")
+    if said.code not in (_library.OK, _library.NOT_RISING):
+        raise TextFault(file, said.value, said.code, "network", NETWORK_REASONS.get(said.code, ""))
+    return said.code == _library.OK, out.raw[: said.value].decode("ascii")
 
 
 def link_from(channel: str, by: str, end: str) -> Link:

@@ -13,7 +13,7 @@ SONAME = "libtorusmem.so.0.3"
 OK, FAULT_MEMORY, BAD_REPORT, EMPTY, FULL, NONE, SHORT, NO_ROUTE, CYCLE = 0, 12, 15, 16, 17, 18, 19, 20, 21
 NOT_LINEARIZABLE, TOO_MANY, TOO_OPEN = 22, 23, 24
 BEHIND_SPIN, NOT_YET = 25, 26
-NO_RECORD, BAD_RECORD, BAD_ACTION, WRONG_REPLY, NO_PAIR = 27, 28, 29, 30, 31
+NO_RECORD, BAD_RECORD, BAD_ACTION, WRONG_REPLY, NO_PAIR, NOT_RISING = 27, 28, 29, 30, 31, 32
 ISSUE, ANSWER = 0, 1
 ISSUED, SERVED, ANSWERED = 0, 1, 2
 LOG_INIT, LOG_MADE, LOG_WROTE, LOG_READ, LOG_READ_OPENING, LOG_SERVED, LOG_REPLIED = 0, 1, 2, 3, 4, 5, 6
@@ -158,6 +158,7 @@ CALLS = {
     "route": (Outcome, [_M, c_uint32, c_uint32, c_uint32, POINTER(RawChannel), c_size_t]),
     "next": (Outcome, [_M, c_uint32, c_uint32, c_uint32]),
     "network": (Outcome, [c_char_p, c_size_t, c_void_p, c_size_t]),
+    "network_answer": (Outcome, [c_char_p, c_size_t, c_void_p, c_size_t]),
     "linearize": (
         Outcome,
         [POINTER(c_uint64), c_size_t, POINTER(RawEvent), c_size_t, c_uint64, POINTER(c_uint64), c_size_t],
@@ -167,6 +168,8 @@ CALLS = {
     "watch_issue": (Outcome, [_M, c_uint64, c_uint32, c_uint32, c_uint64, c_uint64]),
     "watch_answer": (Outcome, [_M, c_uint64, c_uint32, c_uint64, c_uint64]),
     "watch_clone": (Outcome, [_M, _M]),
+    "watch_save": (Outcome, [_M, c_void_p, c_size_t]),
+    "watch_restore": (Outcome, [_M, c_char_p, c_size_t]),
     "watch_end": (None, [_M]),
 }
 

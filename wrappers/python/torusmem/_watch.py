@@ -2,7 +2,7 @@
 
 from __future__ import annotations
 
-from ctypes import c_uint64
+from ctypes import c_uint64, create_string_buffer
 from typing import Any, Iterable, Optional
 
 from . import _library
@@ -43,6 +43,38 @@ class Watch(Kept):
         fresh._next = self._next
         self._taken(self._calls.watch_clone(self._at, fresh._at), "watch")
         return fresh
+
+    @alone
+    def save(self) -> bytes:
+        """The bytes of what it knows: Watch.restored() makes a watch of them that answers every later event as this one
+        would. They follow the words and the operations that are open, and not the length of the trace.
+
+            >>> from torusmem import Operation, Watch
+            >>> with Watch([0] * 8) as watch:
+            ...     load, saved = watch.issue(Operation.LOAD, 5), watch.save()
+            ...     with Watch.restored(saved) as other:
+            ...         print(other.answer(load, 1), other.answer(load, 0), watch.answer(load, 1))
+            False True False
+        """
+        said = self._calls.watch_save(self._at, create_string_buffer(1), 0)
+        if said.code != _library.SHORT:
+            self._taken(said, "watch")
+        out = create_string_buffer(said.value)
+        said = self._calls.watch_save(self._at, out, len(out))
+        self._taken(said, "watch")
+        return out.raw[: said.value]
+
+    @classmethod
+    def restored(cls, saved: bytes) -> Watch:
+        """The watch that was saved as these bytes. ValueError says where they are none."""
+        made = cls.__new__(cls)
+        made._begin()
+        said = made._calls.watch_restore(made._at, saved, len(saved))
+        if said.code == _library.BAD_RECORD:
+            raise ValueError(f"torusmem: the bytes are no watch: byte {said.value} is wrong, or missing")
+        made._taken(said, "watch")
+        made._next = said.value
+        return made
 
     def _taken(self, said: Any, what: str) -> bool:
         """Whether the event is taken; an exception says why it isn't judged."""

@@ -63,6 +63,7 @@ pub const TORUSMEM_BAD_RECORD: u32 = 28;
 pub const TORUSMEM_BAD_ACTION: u32 = 29;
 pub const TORUSMEM_WRONG_REPLY: u32 = 30;
 pub const TORUSMEM_NO_PAIR: u32 = 31;
+pub const TORUSMEM_NOT_RISING: u32 = 32;
 
 pub const TORUSMEM_SEND: u32 = 0;
 pub const TORUSMEM_TAKE: u32 = 1;
@@ -419,6 +420,12 @@ extern "C" {
         out: *mut u8,
         out_length: usize,
     ) -> torusmem_outcome;
+    pub fn torusmem_network_answer(
+        network: *const u8,
+        network_length: usize,
+        out: *mut u8,
+        out_length: usize,
+    ) -> torusmem_outcome;
     pub fn torusmem_linearize(
         opening: *const u64,
         opening_length: usize,
@@ -454,5 +461,7 @@ extern "C" {
         configurations: u64,
     ) -> torusmem_outcome;
     pub fn torusmem_watch_clone(w: *mut torusmem_watch, fresh: *mut torusmem_watch) -> torusmem_outcome;
+    pub fn torusmem_watch_save(w: *mut torusmem_watch, out: *mut u8, out_length: usize) -> torusmem_outcome;
+    pub fn torusmem_watch_restore(w: *mut torusmem_watch, bytes: *const u8, bytes_length: usize) -> torusmem_outcome;
     pub fn torusmem_watch_end(w: *mut torusmem_watch);
 }

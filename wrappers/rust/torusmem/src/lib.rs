@@ -28,7 +28,7 @@ mod watch;
 
 pub use line::{Line, Refused, RefusedLine, Value};
 pub use log::{model, LogEntry, LogFault, Obeyed};
-pub use network::{network, By, Fill, Link, Verdict, Why};
+pub use network::{network, network_answer, By, Fill, Link, Verdict, Why};
 use raw::Raw;
 use std::error::Error;
 use std::fmt;
@@ -59,10 +59,10 @@ impl fmt::Display for Fault {
 
 impl Error for Fault {}
 
-/// Why bytes make no machine ([`Machine::restored`]).
+/// Why bytes make no machine ([`Machine::restored`]), or no watch ([`Watch::restored`]).
 #[derive(Clone, Copy, Debug, PartialEq, Eq)]
 pub enum Unrestored {
-    /// They are no record of a machine: this byte, from 0, is wrong or missing.
+    /// They are no record of a machine, or of a watch: this byte, from 0, is wrong or missing.
     Byte(u64),
     /// This action of the record, from 0, can't be done.
     Action(u64),

@@ -88,6 +88,27 @@ pub fn network(text: &[u8]) -> Result<Verdict, Fault> {
     }
 }
 
+/// Whether the numbers of a network's channels rise, so that it never deadlocks, and the text that the program prints of a
+/// network text, whose routers may choose. The faults are those of the text, and memory that is refused.
+///
+/// ```
+/// let text = b"channels 2\ninject 0\neject 1\njoin 0 1\n";
+/// assert_eq!(torusmem::network_answer(text), Ok((false, "no route 0 1: no channel at step 1\n".to_string())));
+/// ```
+pub fn network_answer(text: &[u8]) -> Result<(bool, String), Fault> {
+    let mut room = vec![0; 1 << 16];
+    let mut said = raw::network_answer(text, &mut room);
+    if said.code == sys::TORUSMEM_SHORT {
+        room.resize(said.value as usize, 0);
+        said = raw::network_answer(text, &mut room);
+    }
+    if said.code != sys::TORUSMEM_NOT_RISING {
+        granted(said)?;
+    }
+    let told = String::from_utf8_lossy(&room[..said.value as usize]).into_owned();
+    Ok((said.code == sys::TORUSMEM_OK, told))
+}
+
 /// The last word of a line, which is a number where one belongs there.
 fn last(line: &str) -> u64 {
     line.rsplit(' ').next().and_then(|word| word.trim_end().parse().ok()).unwrap_or_default()
@@ -121,7 +142,7 @@ fn link(line: &str) -> Link {
 
 /// The lines of a cycle, and of the channels that fill up behind it.
 fn cycle(text: &str) -> Verdict {
-    let is_told = |line: &&str| *line != "cycle" && *line != "locks up" && !line.starts_with("pairs ");
+    let is_told = |line: &&str| *line != "cycle" && !line.starts_with("locks up") && !line.starts_with("pairs ");
     let lines = text.lines().filter(is_told);
     let (fills, links): (Vec<_>, Vec<_>) = lines.partition(|line| line.starts_with("fill "));
     let fill = |line: &str| Fill { from: channel(line, 1), to: channel(line, 2), step: last(line) };

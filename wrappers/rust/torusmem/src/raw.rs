@@ -272,6 +272,11 @@ pub fn network(network: &[u8], out: &mut [u8]) -> torusmem_outcome {
     unsafe { torusmem_network(text_at(network), network.len(), buffer_at(out, &mut 0), out.len()) }
 }
 
+pub fn network_answer(network: &[u8], out: &mut [u8]) -> torusmem_outcome {
+    // SAFETY: the slices have as many bytes as they say; what is written is nobody else's. There is no machine.
+    unsafe { torusmem_network_answer(text_at(network), network.len(), buffer_at(out, &mut 0), out.len()) }
+}
+
 pub fn linearize(opening: &[u64], events: &[torusmem_event], configurations: u64, out: &mut [u64]) -> torusmem_outcome {
     let none = torusmem_event::default();
     let (opening_at, events_at) = (list_at(opening, &0), list_at(events, &none));
@@ -314,6 +319,16 @@ impl RawWatch {
     pub fn clone_to(&mut self, fresh: &mut RawWatch) -> torusmem_outcome {
         // SAFETY: the watches are two, each this one's alone.
         unsafe { torusmem_watch_clone(&mut self.0, &mut fresh.0) }
+    }
+
+    pub fn save(&mut self, out: &mut [u8]) -> torusmem_outcome {
+        // SAFETY: the watch is this one's alone; the slice has as many bytes as it says, and nobody else has it.
+        unsafe { torusmem_watch_save(&mut self.0, buffer_at(out, &mut 0), out.len()) }
+    }
+
+    pub fn restore(&mut self, bytes: &[u8]) -> torusmem_outcome {
+        // SAFETY: the watch is this one's alone; the slice has as many bytes as it says, and is only read.
+        unsafe { torusmem_watch_restore(&mut self.0, text_at(bytes), bytes.len()) }
     }
 
     pub fn issue(&mut self, number: u64, operation: u32, address: u32, values: (u64, u64)) -> torusmem_outcome {

@@ -1,7 +1,7 @@
 //! A watch of a trace that goes on.
 use super::raw::RawWatch;
 use super::trace::{numbers_of, numbers_of_reply};
-use super::{Fault, Operation, Reply};
+use super::{Fault, Operation, Reply, Unrestored};
 use std::error::Error;
 use std::fmt;
 use torusmem_sys as sys;
@@ -94,6 +94,40 @@ impl Watch {
         let mut raw = RawWatch::empty();
         taken(self.raw.clone_to(&mut raw))?;
         Ok(Watch { raw, next: self.next })
+    }
+
+    /// The bytes of what it knows, of which [`Watch::restored`] makes a watch that answers every later event as this one
+    /// would. They follow what is open, and not the length of the trace. The only reason is that memory is refused.
+    ///
+    /// ```
+    /// use torusmem::{Operation, Reply, Watch};
+    ///
+    /// let mut watch = Watch::begin(&[0; 8])?;
+    /// let load = watch.issue(5, Operation::Load)?;
+    /// let mut other = Watch::restored(&watch.save()?).expect("it was saved");
+    /// assert!(other.answer(load, Reply::Old(1)).is_err() && other.answer(load, Reply::Old(0)).is_ok());
+    /// assert_eq!(other.issue(5, Operation::Load)?, watch.issue(5, Operation::Load)?);
+    /// # Ok::<(), torusmem::NotTaken>(())
+    /// ```
+    pub fn save(&mut self) -> Result<Vec<u8>, NotTaken> {
+        let asked = self.raw.save(&mut []);
+        if asked.code != sys::TORUSMEM_SHORT {
+            taken(asked)?;
+        }
+        let mut bytes = vec![0; asked.value as usize];
+        taken(self.raw.save(&mut bytes))?;
+        Ok(bytes)
+    }
+
+    /// The watch that was saved as these bytes.
+    pub fn restored(bytes: &[u8]) -> Result<Watch, Unrestored> {
+        let mut raw = RawWatch::empty();
+        let said = raw.restore(bytes);
+        match said.code {
+            sys::TORUSMEM_OK => Ok(Watch { raw, next: said.value }),
+            sys::TORUSMEM_BAD_RECORD => Err(Unrestored::Byte(said.value)),
+            _ => Err(Unrestored::Fault(Fault::Memory)),
+        }
     }
 
     /// Takes the issue of an operation, and gives the number by which its answer names it.

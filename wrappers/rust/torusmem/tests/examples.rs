@@ -2,8 +2,8 @@
 use std::fs;
 use std::path::{Path, PathBuf};
 use std::thread;
-use torusmem::{check, explain, linearize, model, network, Answer, Asked, By, Channel, Choice, Class, Dir, Entry};
-use torusmem::{Event, EventFault, LogEntry, LogFault};
+use torusmem::{check, explain, linearize, model, network, network_answer, Answer, Asked, By, Channel, Choice, Class, Dir};
+use torusmem::{Entry, Event, EventFault, LogEntry, LogFault};
 use torusmem::{Fault, Judged, Kind, Line, Link, Machine, NotTaken, Operation, Refused, Reply, Spin, Text, Value};
 use torusmem::{Fill, Verdict, Watch, What, Why};
 
@@ -422,6 +422,10 @@ fn networks_are_judged() {
     assert_eq!(judged("channels 2\ninject 0\neject 1\n"), Verdict::NoPair);
     assert_eq!(network(b"channels 2\ninject 2\n"), Err(Fault::Text { fault: 6, line: 2 }));
     assert_eq!(network(b""), Err(Fault::Text { fault: 5, line: 1 }));
+    let choose = b"channels 4\ninject 0\neject 3\njoin 0 3\nnext 0 3 1\nnext 0 3 2\nnext 1 3 3\nnext 2 3 3\n";
+    assert!(network_answer(choose).is_ok_and(|(rising, said)| rising && said.starts_with("number 0 ")));
+    assert_eq!(network_answer(b"channels 2\ninject 0\neject 1\n"), Ok((false, "no pair\n".to_string())));
+    assert_eq!(network_answer(b""), Err(Fault::Text { fault: 5, line: 1 }));
 }
 
 /// A chain so long that its verdict doesn't fit at once: the numbers rise from the one end to the other.
@@ -604,6 +608,26 @@ fn traces_are_watched() {
     assert_eq!(other.answer(cas, Reply::Old(5)), Ok(()));
     assert_eq!(Watch::begin(&[]).unwrap().issue(0, Operation::Load), Err(NotTaken::NoSuch));
     assert_eq!(NotTaken::NotLinearizable.to_string(), "not linearizable");
+}
+
+#[test]
+fn watches_are_saved() {
+    let mut watch = Watch::begin(&[0, 5]).expect("it is begun");
+    let add = watch.issue(1, Operation::Add(2)).unwrap();
+    let other = watch.issue(1, Operation::Add(2)).unwrap();
+    assert_eq!(watch.answer(other, Reply::Old(7)), Ok(()));
+    let saved = watch.save().expect("memory");
+    let mut again = Watch::restored(&saved).expect("it was saved");
+    assert_eq!(again.save(), Ok(saved.clone()));
+    for it in [&mut again, &mut watch] {
+        assert_eq!(it.answer(add, Reply::Old(6)), Err(NotTaken::NotLinearizable));
+        assert_eq!((it.answer(add, Reply::Old(5)), it.issue(1, Operation::Load)), (Ok(()), Ok(2)));
+    }
+    assert_eq!(Watch::restored(&saved[..9]).err(), Some(torusmem::Unrestored::Byte(9)));
+    let mut changed = saved.clone();
+    changed[60] ^= 1;
+    assert_eq!(Watch::restored(&changed).err(), Some(torusmem::Unrestored::Byte(saved.len() as u64 - 8)));
+    assert_eq!(Machine::restored(&saved).err(), Some(torusmem::Unrestored::Fault(Fault::Text { fault: 4, line: 1 })));
 }
 
 #[test]

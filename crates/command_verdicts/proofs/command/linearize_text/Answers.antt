@@ -5,7 +5,7 @@ use Rattle.trace_answer.specs.Texts.{order_text}
 use Rattle.command_verdicts.specs.declared.command.Judged.TheVariants.{Linearizable}
 use Rattle.std.specs.Str.Lines.{lines}
 use Rattle.program_fault.specs.Done.{output}
-use Rattle.command_verdicts.proofs.Verdicts.{refused, too_many, too_open}
+use Rattle.command_verdicts.proofs.Verdicts.{refused, refused_by, too_many, too_open}
 use Rattle.command_verdicts.proofs.command.linearize_text.Goals as goal
 
 pub returns-in_err-write_order-in-Ok-Linearizable : goal.returns-in_err-write_order-in-Ok-Linearizable
@@ -38,6 +38,11 @@ pub returns-in-Ok-No : goal.returns-in-Ok-No
 returns-in-Ok-No g c =
     refused (lines c.args.trace.now) c.args.configurations c.in_ok-trace.trace (output (g.W.Out.taken c.args.out.now) (g.W.Out.failures c.args.out.now))
     c.in-Ok-No.line c.in_ok-trace.ensures (rw c.in-Ok-No.field-0-is at c.in-Ok-No.ensures.found)
+
+pub returns-in-Ok-NoBy : goal.returns-in-Ok-NoBy
+returns-in-Ok-NoBy g c =
+    refused_by (lines c.args.trace.now) c.args.configurations c.in_ok-trace.trace (output (g.W.Out.taken c.args.out.now) (g.W.Out.failures c.args.out.now))
+    c.in-Ok-NoBy.line c.in-Ok-NoBy.why c.in_ok-trace.ensures (rw c.in-Ok-NoBy.field-0-is at c.in-Ok-NoBy.ensures.found)
 
 pub returns-in-Err-Configurations : goal.returns-in-Err-Configurations
 returns-in-Err-Configurations g c =

@@ -15,10 +15,10 @@ pub returns-in_err-put_all-in-Ok : goal.returns-in_err-put_all-in-Ok
 returns-in_err-put_all-in-Ok g c =
     let p = err_from_is_err_and c.from_residual.result c.from_residual.ensures.1 in
     rw (p.1, p.2) (
-      WithoutFences c.in-Ok.answer.obeys,
+      WithoutFences c.in-Ok.answer.obeys c.in-Ok.answer.weak,
       (
         c.deref.result.now,
-        (c.in-Ok.answer, c.in-Ok.ensures.answer, refl, c.deref.ensures.value),
+        (c.in-Ok.answer, c.in-Ok.ensures.answer, refl, refl, c.deref.ensures.value),
         record { bytes = c.in_err-put_all-in-Ok.ensures.err; failed = c.in_err-put_all-in-Ok.ensures.failed },
       ),
     )
@@ -26,7 +26,7 @@ returns-in_err-put_all-in-Ok g c =
 pub returns-in_ok-put_all-in-Ok : goal.returns-in_ok-put_all-in-Ok
 returns-in_ok-put_all-in-Ok g c = (
   c.deref.result.now,
-  (c.in-Ok.answer, c.in-Ok.ensures.answer, refl, c.deref.ensures.value),
+  (c.in-Ok.answer, c.in-Ok.ensures.answer, refl, refl, c.deref.ensures.value),
   record { bytes = c.in_ok-put_all-in-Ok.ensures.ok; quiet = c.in_ok-put_all-in-Ok.ensures.quiet },
 )
 
@@ -35,7 +35,7 @@ returns-in-Err-Unjudged-Refused g c =
     let none : HasNoRunAnswer c.args.report.now (Unjudged (Refused c.in-Err-Unjudged-Refused.refusal)) =
     none_for c.args.report.now _ (Unjudged (Refused c.in-Err-Unjudged-Refused.refusal))
     (c.in-Err-Unjudged-Refused.field-0-is ∙ ap Unjudged c.in-Err-Unjudged-Refused.field-0-0-is) c.in-Err-Unjudged-Refused.ensures.none in
-    refused_by (IsReportModelled g.row.A.Denot c.args.report.now c.args.order) (IsReportRefusal c.args.report.now)
+    refused_by (IsReportModelled g.row.A.Denot c.args.report.now c.args.asked) (IsReportRefusal c.args.report.now)
     (output (g.W.Out.taken c.args.out.now) (g.W.Out.failures c.args.out.now)) c.from.result c.from-in-Err-Unjudged-Refused.result
     c.from-in-Err-Unjudged-Refused.ensures (RefusesEntry c.in-Err-Unjudged-Refused.refusal none c.from.ensures)
 

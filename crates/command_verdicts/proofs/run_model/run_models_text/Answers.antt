@@ -10,10 +10,10 @@ pub returns-in_err-put_all-in-Ok : goal.returns-in_err-put_all-in-Ok
 returns-in_err-put_all-in-Ok g c =
     let p = err_from_is_err_and c.from_residual.result c.from_residual.ensures.1 in
     rw (p.1, p.2) (
-      Obeys c.in-Ok.answer.obeys,
+      Obeys c.in-Ok.answer.obeys c.in-Ok.answer.weak,
       (
         c.deref.result.now,
-        (c.in-Ok.answer, c.in-Ok.ensures.answer, refl, c.deref.ensures.value),
+        (c.in-Ok.answer, c.in-Ok.ensures.answer, refl, refl, c.deref.ensures.value),
         record { bytes = c.in_err-put_all-in-Ok.ensures.err; failed = c.in_err-put_all-in-Ok.ensures.failed },
       ),
     )
@@ -21,10 +21,10 @@ returns-in_err-put_all-in-Ok g c =
 pub returns-in_ok-put_all-in-Ok : goal.returns-in_ok-put_all-in-Ok
 returns-in_ok-put_all-in-Ok g c = (
   c.deref.result.now,
-  (c.in-Ok.answer, c.in-Ok.ensures.answer, refl, c.deref.ensures.value),
+  (c.in-Ok.answer, c.in-Ok.ensures.answer, refl, refl, c.deref.ensures.value),
   record { bytes = c.in_ok-put_all-in-Ok.ensures.ok; quiet = c.in_ok-put_all-in-Ok.ensures.quiet },
 )
 
 pub returns-in-Err : goal.returns-in-Err
-returns-in-Err g c = rw c.unanswered.ensures (none_printed g.row.A.Denot c.args.machine.now c.args.scripts.now c.args.report.now c.args.order
+returns-in-Err g c = rw c.unanswered.ensures (none_printed g.row.A.Denot c.args.machine.now c.args.scripts.now c.args.report.now c.args.asked
     (output (g.W.Out.taken c.args.out.now) (g.W.Out.failures c.args.out.now)) c.in-Err.why c.in-Err.ensures.none)

@@ -11,16 +11,16 @@ loop-line-preserved g c = record {
   positive = omega arith;
   reads = log_step c.loop-line.number (log_so_far c.loop-line.log) (log_so_far c.take.new.self)
       c.in-Some.line.now (lines c.loop-line.rest.now) (lines c.in-Some.after.now)
-      (map (λ word. word.now) (take c.first_words-count.result.1 c.first_words-count.result.0)) _
-      c.in-Some.ensures.some c.first_words-count.ensures.words c.in_default-take.ensures c.loop-line.invariant.reads;
+      (map (λ word. word.now) (take c.log_words-count.result.1 c.log_words-count.result.0)) _
+      c.in-Some.ensures.some c.log_words-count.ensures.words c.in_default-take.ensures c.loop-line.invariant.reads;
 }
 
 pub returns-in-Err : goal.returns-in-Err
 returns-in-Err g c =
-    let ws : List (List ℕ) = map (λ word. word.now) (take c.first_words-count.result.1 c.first_words-count.result.0) in
+    let ws : List (List ℕ) = map (λ word. word.now) (take c.log_words-count.result.1 c.log_words-count.result.0) in
     told c.in-Err.reason c.loop-line.number c.at-in-Err.result _ c.at-in-Err.ensures (elim c.in-Err.ensures [
       | inl m ↦ inl m
       | inr bad ↦ inr (log_refused c.loop-line.number (log_so_far c.loop-line.log) c.in-Some.line.now
           (lines c.loop-line.rest.now) (lines c.in-Some.after.now) ws _ c.in-Err.reason
-          c.in-Some.ensures.some c.first_words-count.ensures.words bad c.loop-line.invariant.reads)
+          c.in-Some.ensures.some c.log_words-count.ensures.words bad c.loop-line.invariant.reads)
     ])

@@ -1,9 +1,12 @@
+use Rattle.std.specs.Prelude.{◌&&◌}
 use Rattle.std.proofs.Common.{◌+◌, ◌<◌, ◌++◌, length, sym, subst, ap, ◌∙◌, arith}
 use Rattle.std.proofs.lemmas.Bool.Decides.{nat_tests}
 use Rattle.network_text.specs.Reading.{IsRead, reading_of}
 use Rattle.network_text.specs.ChoiceLists.{choice_list}
 use Rattle.network_text.specs.ChoosingRead.{choosing_text_of}
-use Rattle.network_answer.specs.Routing.{judgement_text}
+use Rattle.network_answer.specs.Routing.{judgement_text, has_circuit, may_text}
+use Rattle.network_answer.proofs.Sized.{three_parts}
+use Rattle.network_answer.specs.OneFlit.{is_one_flit}
 use Rattle.network_answer.proofs.OneFlit.{told_of_pairs, behind_moved, judged_moved}
 use Rattle.network_answer.proofs.routing.answered_choosing.Goals as goal
 
@@ -25,16 +28,26 @@ returns g c =
     let t = choosing_text_of n in
     let judged = c.in_ok-it.it.judged in
     let marks = c.in_ok-it.it.marks.items in
-    let behind = c.in_ok-behind.behind.items in
+    let behind = c.in_ok-behind.behind.text.items in
+    let never = c.in_ok-behind.behind.never in
+    let free = c.is_free-free.result in
     let some : 0 < length t.fixed.table.joins = grind (arith, nat_tests, c.if-is_empty.ensures, n.fixed.joins.ok) in
     told_of_pairs t.fixed.table.joins t _ some (record {
       judged = judged;
       marks = marks;
       holds = c.in_ok-it.ensures.judged;
       behind = behind;
+      never = never;
       stands = behind_moved c.judgement_of.new.network.fixed n.fixed (n.layers + 1) c.deref.result.now (choice_list t) c.deref-2.result.now marks judged
-          behind c.in_ok-it.ensures.fixed (c.deref.ensures.value ∙ c.in_ok-it.ensures.choices) c.deref-2.ensures.value c.in_ok-behind.ensures;
-      text = c.in_ok-extend_from_slice.ensures.items ∙ (ap (λ s. c.in_ok-text.text.items ++ s) c.deref-3.ensures.value
-          ∙ ap (λ s. s ++ behind) (c.in_ok-text.ensures ∙ ap (λ f. judgement_text (reading_of f) judged) c.in_ok-it.ensures.fixed));
-      rising = c.judgement_rises.ensures;
+          behind never c.in_ok-it.ensures.fixed (c.deref.ensures.value ∙ c.in_ok-it.ensures.choices) c.deref-2.ensures.value c.in_ok-behind.ensures;
+      free = free;
+      free_is = c.is_free-free.ensures ∙ ap (λ f. is_one_flit f.flits && never) c.in_ok-it.ensures.fixed;
+      text = three_parts (judgement_text t.fixed judged) (may_text (has_circuit judged) free) behind c.put_may.new.out.items
+          c.extend_from_slice.new.self.items
+          (c.in_ok-put_may.ensures
+          ∙ (ap (λ s. s ++ may_text c.has_circuit-circuit.result free)
+          (c.in_ok-text.ensures ∙ ap (λ f. judgement_text (reading_of f) judged) c.in_ok-it.ensures.fixed)
+          ∙ ap (λ b. judgement_text t.fixed judged ++ may_text b free) c.has_circuit-circuit.ensures))
+          (c.in_ok-extend_from_slice.ensures.items ∙ ap (λ s. c.put_may.new.out.items ++ s) c.deref-3.ensures.value);
+      rising = c.never_locks_up-rising.ensures;
     })

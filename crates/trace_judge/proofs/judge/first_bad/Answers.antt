@@ -1,9 +1,7 @@
-use Rattle.std.proofs.Common.{length, refl, subst, sym, arith}
-use Rattle.std.proofs.lemmas.Result.{err_from_is_err_and}
-use Rattle.trace_judge.specs.Stops.{IsUndecided, TellsMany}
-use Rattle.trace_judge.specs.declared.undecided.Undecided.{Undecided}
-use Rattle.trace_judge.proofs.Boundary.{boundary_found, boundary_from, trace_take}
+use Rattle.std.proofs.Common.{length, refl, arith, sym, ◌∙◌}
+use Rattle.trace_judge.proofs.Boundary.{boundary_behind, boundary_found, boundary_from, boundary_judged, trace_take}
 use Rattle.trace_judge.proofs.judge.first_bad.Goals as goal
+use Rattle.trace_judge.proofs.judge.first_bad.Goals.{then-is_some, else-is_some}
 
 pub loop-good-init : goal.loop-good-init
 loop-good-init g c = boundary_from c.args.opening.now c.args.events.now _ c.requires.none c.requires.good
@@ -14,20 +12,17 @@ explain_beginning-requires-clause-trace g c = trace_take (length c.args.opening.
 pub explain_beginning-requires-clause-beginning : goal.explain_beginning-requires-clause-beginning
 explain_beginning-requires-clause-beginning g c = (_, refl)
 
-pub returns-in_err-explain_beginning-clause-unjudged : goal.returns-in_err-explain_beginning-clause-unjudged
-returns-in_err-explain_beginning-clause-unjudged g c =
-    let p = err_from_is_err_and c.from_residual-in_err-explain_beginning.result c.from_residual-in_err-explain_beginning.ensures.1 in
-    rw p.1 (subst (λ (e : Undecided). IsUndecided c.args.events.now e) (sym p.2) c.in_err-explain_beginning.ensures.undecided)
+pub loop-good-preserved : goal.loop-good-preserved
+loop-good-preserved g c =
+    let judged = boundary_judged c.args.opening.now c.args.events.now c.loop-good.good c.loop-good.bad c.between-middle.result c.in-Ok.found
+    c.between-middle.ensures.above c.between-middle.ensures.below c.in-Ok.ensures.decided c.loop-good.invariant in
+    elim c.if-is_some.branch [
+      | then-is_some w ↦ rw (w.good-is, w.bad-is) (judged.0 (sym c.is_some.ensures ∙ w.if-is_some.true))
+      | else-is_some w ↦ rw (w.good-is, w.bad-is) (judged.1 (sym c.is_some.ensures ∙ w.if-is_some.false))
+    ]
 
-pub returns-in_err-explain_beginning-clause-full : goal.returns-in_err-explain_beginning-clause-full
-returns-in_err-explain_beginning-clause-full g c =
-    let p = err_from_is_err_and c.from_residual-in_err-explain_beginning.result c.from_residual-in_err-explain_beginning.ensures.1 in
-    rw p.1 (subst (λ (e : Undecided). TellsMany c.args.opening.now c.args.events.now c.args.bound e) (sym p.2) c.in_err-explain_beginning.ensures.full)
+pub shorter-requires-clause-bad : goal.shorter-requires-clause-bad
+shorter-requires-clause-bad g c = boundary_behind c.args.opening.now c.args.events.now c.loop-good.good c.loop-good.bad c.loop-good.invariant
 
-pub returns-in_err-explain_beginning-clause-first : goal.returns-in_err-explain_beginning-clause-first
-returns-in_err-explain_beginning-clause-first g c =
-    let p = err_from_is_err_and c.from_residual-in_err-explain_beginning.result c.from_residual-in_err-explain_beginning.ensures.1 in
-    rw p.1 tt
-
-pub returns-clause-first : goal.returns-clause-first
-returns-clause-first g c = boundary_found c.args.opening.now c.args.events.now c.loop-good.good c.loop-good.bad (omega arith) c.loop-good.invariant
+pub returns : goal.returns
+returns g c = boundary_found c.args.opening.now c.args.events.now c.loop-good.good c.loop-good.bad (omega arith) c.loop-good.invariant

@@ -1,6 +1,6 @@
-use Rattle.std.proofs.Common.{◌≡◌, ◌+◌, ℕ, suc, length, subst, arith, sym}
-use Rattle.trace_why.specs.Values.{IsOverfullWord, IsReachedIn}
-use Rattle.trace_why.proofs.Growing.{round_more}
+use Rattle.std.proofs.Common.{◌≡◌, ◌+◌, ℕ, suc, List, length, subst, arith, sym}
+use Rattle.trace_why.specs.Values.{AreClosed, IsOverfullWord, IsReachedIn}
+use Rattle.trace_why.proofs.Growing.{closed_all, round_more}
 use Rattle.trace_why.proofs.Trying.{reached_next, reached_later, less_only, less_overfull}
 use Rattle.std.proofs.lemmas.Result.{err_from_is_err_and}
 use Rattle.trace_why.specs.declared.untold.Untold.{Untold}
@@ -20,6 +20,19 @@ loop-preserved g c =
           (reached_next c.args.values.now.items c.loop.values.items c.args.calls.now c.loop.counter c.loop.invariant.only.each v h))
           c.grow.new.values.items c.in_ok-grow.ensures.only;
     }
+
+pub returns-then-are_closed-clause-all : goal.returns-then-are_closed-clause-all
+returns-then-are_closed-clause-all g c =
+    let closed = subst (λ (vs : List ℕ). AreClosed vs c.args.calls.now) c.deref.ensures.value (c.are_closed.ensures c.if-are_closed.true) in
+    closed_all c.args.values.now.items c.loop.values.items c.args.calls.now closed
+    (λ v h. c.loop.invariant.has v (reached_later c.args.values.now.items c.args.calls.now 0 c.loop.counter v (omega arith) h)) (length c.args.calls.now)
+
+pub returns-then-are_closed-clause-only : goal.returns-then-are_closed-clause-only
+returns-then-are_closed-clause-only g c =
+    less_only (IsReachedIn c.args.values.now.items c.args.calls.now c.loop.counter)
+    (IsReachedIn c.args.values.now.items c.args.calls.now (length c.args.calls.now))
+    (λ v h. reached_later c.args.values.now.items c.args.calls.now c.loop.counter (length c.args.calls.now) v (omega arith) h)
+    c.loop.values.items c.loop.invariant.only
 
 pub returns-clause-all : goal.returns-clause-all
 returns-clause-all g c = λ v h.

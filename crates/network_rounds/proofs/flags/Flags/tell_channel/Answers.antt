@@ -1,7 +1,7 @@
-use Rattle.std.proofs.Common.{◌∙◌, arith}
-use Rattle.std.proofs.lemmas.List.{get_or_default}
-use Rattle.network_rounds.specs.Flags.{nowhere}
-use Rattle.network_rounds.proofs.Told.{tells, tells_none, places_few}
+use Rattle.std.proofs.Common.{◌∙◌, ap, arith, refl}
+use Rattle.std.proofs.lemmas.List.{get_or_default, with_items_is}
+use Rattle.network_rounds.specs.Flags.{nowhere, told_places}
+use Rattle.network_rounds.proofs.Told.{tells_places, tells_none, places_few}
 use Rattle.network_rounds.proofs.flags.Flags.tell_channel.Goals as goal
 
 pub returns-then-x-len-clause-flags : goal.returns-then-x-len-clause-flags
@@ -11,10 +11,10 @@ returns-then-x-len-clause-flags g c = λ untold choices h.
 
 pub returns-clause-flags : goal.returns-clause-flags
 returns-clause-flags g c = λ untold choices h.
-    tells untold c.args.machine.now choices c.args.x c.lets-lets.result c.index-places.result.now c.args.self.now c.tell.new.self c.tell-2.new.self
-    c.tell-3.new.self c.tell-4.new.self c.tell-5.new.self
+    tells_places untold c.args.machine.now choices c.args.x c.lets-lets.result c.index-places.result.now c.args.self.now _
     (c.index-places.ensures ∙ get_or_default c.args.self.now.places.items c.args.x c.index-places.result.now nowhere
     (let low = c.if-x-len.false in let len = c.len.ensures ∙ c.args.self.now.places.ok.0 in omega (arith, low, len)))
     (places_few c.args.self.now) c.lets-lets.ensures
-    c.tell.ensures.up c.tell.ensures.places c.tell-2.ensures.up c.tell-2.ensures.places c.tell-3.ensures.up c.tell-3.ensures.places
-    c.tell-4.ensures.up c.tell-4.ensures.places c.tell-5.ensures.up c.tell-5.ensures.places h
+    (with_items_is c.args.self.now.up c.tell_places.new.up (c.tell_places.auto.up ∙ c.deref_mut.ensures.len)
+    ∙ (c.tell_places.ensures ∙ ap (λ us. told_places us c.index-places.result.now c.lets-lets.result) c.deref_mut.ensures.value))
+    refl h

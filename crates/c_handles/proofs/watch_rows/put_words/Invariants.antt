@@ -1,0 +1,9 @@
+use Rattle.std.proofs.Common.{◌≡◌, ◌++◌, take, map}
+use Rattle.std.specs.List.{flat_map}
+use Rattle.trace_watch.specs.States.{configs_of}
+use Rattle.c_handles.specs.WatchRows.{word_rows}
+use Rattle.c_handles.proofs.watch_rows.put_words.Given as goal
+
+-- the rows so far are put
+abbrev pub invariant-loop-i : goal.invariant-loop-i
+invariant-loop-i g l = l.rows.items ≡ l.fn.rows.items ++ flat_map word_rows (map (λ v. configs_of v.items) (take l.i l.words))
