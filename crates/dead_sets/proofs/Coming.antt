@@ -15,7 +15,7 @@ use Rattle.network_adaptive.proofs.Flags.{not_true}
 use Rattle.network_adaptive.proofs.Ways.{NoneNamed, none_names, names_at, step_from, and_none}
 use Rattle.network_adaptive.proofs.Bridge.{step_goes, goes_step}
 use Rattle.network_adaptive.proofs.Rising.{adaptive_is}
-use Rattle.adaptive_deadlock.specs.Fillings.{Filling, IsWayTo, AreFree, is_occupied}
+use Rattle.deadlock_laws.specs.Fillings.{Filling, IsWayTo, AreFree, is_occupied}
 use Rattle.dead_sets.specs.FillingFlags.{comes_by}
 
 pub or_false : (a b : Bool) → (a || b) ≡ false → (a ≡ false) × (b ≡ false)

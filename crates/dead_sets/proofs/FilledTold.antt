@@ -9,7 +9,7 @@ use Rattle.network_judge.specs.TableNet.{Flits}
 use Rattle.network_judge.specs.Marks.{is_marked_at}
 use Rattle.network_adaptive.specs.Choosing.{ChoiceTable, base_of, chooses_of, network, IsShaped}
 use Rattle.network_adaptive.proofs.Flags.{not_true, true_not}
-use Rattle.adaptive_deadlock.specs.Fillings.{Filling, IsWayTo, enters_behind, is_occupied, is_full, ComesFreely, FillInTurn}
+use Rattle.deadlock_laws.specs.Fillings.{Filling, IsWayTo, enters_behind, is_occupied, is_full, ComesFreely, FillInTurn}
 use Rattle.dead_sets.specs.declared.filling.FilledChannel.{FilledChannel}
 use Rattle.dead_sets.specs.FillingFlags.{filling_of, comes_by, fills_by, FlagsTell, TellsInTurn}
 use Rattle.dead_sets.proofs.Coming.{way_of, free_of, way_ends, way_low, way_back}

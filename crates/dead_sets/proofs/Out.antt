@@ -21,7 +21,7 @@ use Rattle.network_adaptive.proofs.Bridge.{to_comes, comes_to}
 use Rattle.network_adaptive.proofs.Circles.{are_answers}
 use Rattle.network_adaptive.proofs.Deciding.{comes_end}
 use Rattle.network_adaptive.proofs.Rising.{adaptive_is}
-use Rattle.adaptive_deadlock.specs.DeadSets.{WaitsInside, IsDeadSet, IsGreatestDeadSet, HasRisingChoices}
+use Rattle.deadlock_laws.specs.DeadSets.{WaitsInside, IsDeadSet, IsGreatestDeadSet, HasRisingChoices}
 use Rattle.dead_sets.specs.Cases.{AreCases, HasCase, AddsCases, IsCaseTo, IsReplyCase, IsWaitCase}
 use Rattle.dead_sets.specs.Peeling.{IsPeeled}
 use Rattle.dead_sets.specs.Numbers.{AreFlagsOfLeft, AreNumbers}

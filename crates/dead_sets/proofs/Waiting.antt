@@ -17,8 +17,8 @@ use Rattle.network_adaptive.proofs.Flags.{or_cases, not_true, true_not, any_at, 
 use Rattle.network_adaptive.proofs.Ways.{step_parts}
 use Rattle.network_adaptive.proofs.Bridge.{step_goes, goes_step}
 use Rattle.network_adaptive.proofs.Rising.{adaptive_is}
-use Rattle.adaptive_deadlock.specs.Fillings.{Filling, is_occupied, is_full, FillInTurn, WaitsForAll}
-use Rattle.adaptive_deadlock.proofs.Filled.{fillings_lock}
+use Rattle.deadlock_laws.specs.Fillings.{Filling, is_occupied, is_full, FillInTurn, WaitsForAll}
+use Rattle.deadlock_laws.proofs.ChoiceFilled.{fillings_lock}
 use Rattle.dead_sets.specs.FillingFlags.{answered_by, leaves_free, waits_by, FlagsTell, TellsInTurn, IsDeadBy, CanDeadlock}
 use Rattle.dead_sets.proofs.Coming.{step_at, way_ends, way_low}
 

@@ -12,8 +12,8 @@ use Rattle.network_judge.specs.Marks.{is_marked_at}
 use Rattle.network_adaptive.specs.Spread.{any_below, block_base, leads_on, choice_step}
 use Rattle.network_adaptive.specs.Choosing.{ChoiceTable, network}
 use Rattle.network_adaptive.specs.Judged.{answers_of}
-use Rattle.adaptive_deadlock.specs.Fillings.{Filling, is_occupied, is_full, FillInTurn, IsDeadFilling}
-use Rattle.adaptive_deadlock.specs.LockUps.{IsAdaptiveLockUp, HasSingleFlitPackets}
+use Rattle.deadlock_laws.specs.Fillings.{Filling, is_occupied, is_full, FillInTurn, IsDeadFilling}
+use Rattle.deadlock_laws.specs.LockUps.{IsAdaptiveLockUp, HasSingleFlitPackets}
 use Rattle.dead_sets.specs.declared.filling.FilledChannel.{FilledChannel}
 
 -- an item as a filling

@@ -7,7 +7,7 @@ use Rattle.network_judge.specs.TableNet.{Flits}
 use Rattle.network_judge.specs.Marks.{is_marked_at}
 use Rattle.network_adaptive.specs.Choosing.{ChoiceTable, choosing_of, network, IsShaped}
 use Rattle.network_adaptive.specs.Judged.{answers_of}
-use Rattle.adaptive_deadlock.specs.DeadSets.{HasRisingChoices, IsGreatestDeadSet}
+use Rattle.deadlock_laws.specs.DeadSets.{HasRisingChoices, IsGreatestDeadSet}
 use Rattle.dead_sets.specs.Numbers.{AreFlagsOfLeft, AreNumbers}
 use Rattle.dead_sets.specs.declared.greatest.DeadSet.{DeadSet}
 use Rattle.dead_sets.specs.declared.greatest.DeadSet.TheVariants.{Empty, Greatest}

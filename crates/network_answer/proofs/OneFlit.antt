@@ -13,7 +13,7 @@ use Rattle.network_adaptive.specs.declared.accepting.JudgedNet.{JudgedNet}
 use Rattle.network_adaptive.specs.declared.accepting.JudgedNet.TheVariants.{WrongPair, WrongChoice, Judged}
 use Rattle.network_adaptive.proofs.Rising.{adaptive_is}
 use Rattle.network_adaptive.proofs.Circles.{are_answers}
-use Rattle.adaptive_deadlock.proofs.Empties.{never_locks}
+use Rattle.deadlock_laws.proofs.Empties.{never_locks}
 use Rattle.dead_sets.specs.FillingFlags.{filling_of}
 use Rattle.dead_sets.specs.Deciding.{IsDecidedOf}
 use Rattle.dead_sets.specs.declared.filling.FilledChannel.{FilledChannel}

@@ -8,8 +8,8 @@ use Rattle.network_judge.specs.declared.table.Verdict.{Verdict}
 use Rattle.network_judge.specs.declared.table.Verdict.TheVariants.{Rising, NoRoute, Cycle}
 use Rattle.network_judge.specs.Cycles.{IsCycle}
 use Rattle.network_judge.specs.Verdicts.{AllArrive, IsVerdict}
-use Rattle.packet_lengths.specs.Lengths.{LocksUpOf}
-use Rattle.packet_lengths.proofs.Finished.{cycles_lock}
+use Rattle.deadlock_laws.specs.Lengths.{LocksUpOf}
+use Rattle.deadlock_laws.proofs.Finished.{cycles_lock}
 use Rattle.network_text.specs.Network.{NetworkSpec}
 use Rattle.network_answer.specs.Answer.{LocksUpByLength, length_line, unanswered_length, told_length, TellsLength, IsLengthText}
 

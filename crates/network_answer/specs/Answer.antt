@@ -25,7 +25,7 @@ use Rattle.network_judge.specs.Table.{Table}
 use Rattle.network_answer.specs.Totals.{HasTotals}
 use Rattle.network_answer.specs.declared.totals.Totals.{Totals}
 use Rattle.network_judge.specs.LockUps.{LocksUp, HasOneFlitPackets}
-use Rattle.packet_lengths.specs.Lengths.{LocksUpOf, HasPacketsOf}
+use Rattle.deadlock_laws.specs.Lengths.{LocksUpOf, HasPacketsOf}
 use Rattle.network_judge.specs.Clear.{fill_at}
 use Rattle.network_answer.specs.declared.answer.Answer.{Answer}
 use Rattle.network_text.specs.Lines.{first_lines}

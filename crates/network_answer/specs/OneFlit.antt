@@ -8,14 +8,14 @@ use Rattle.wormhole.specs.Events.{NetEvent}
 use Rattle.network_judge.specs.declared.table.Reply.{Reply}
 use Rattle.network_judge.specs.TableNet.{Flits}
 use Rattle.network_judge.specs.Marks.{is_marked_at}
-use Rattle.packet_lengths.specs.Lengths.{HasLength}
+use Rattle.deadlock_laws.specs.Lengths.{HasLength}
 use Rattle.network_adaptive.specs.Choosing.{ChoiceTable, network}
 use Rattle.network_adaptive.specs.Judged.{answers_of}
 use Rattle.network_adaptive.specs.declared.accepting.JudgedNet.{JudgedNet}
 use Rattle.network_adaptive.specs.declared.accepting.JudgedNet.TheVariants.{WrongPair, WrongChoice}
 use Rattle.network_adaptive.specs.declared.accepting.JudgedNet.TheVariants.{Judged}
-use Rattle.adaptive_deadlock.specs.Fillings.{Filling}
-use Rattle.adaptive_deadlock.specs.LockUps.{IsAdaptiveLockUp}
+use Rattle.deadlock_laws.specs.Fillings.{Filling}
+use Rattle.deadlock_laws.specs.LockUps.{IsAdaptiveLockUp}
 use Rattle.dead_sets.specs.FillingFlags.{filling_of, CanDeadlock}
 use Rattle.dead_sets.specs.Deciding.{IsDecidedOf}
 use Rattle.dead_sets.specs.declared.deciding.Decided.{Decided}

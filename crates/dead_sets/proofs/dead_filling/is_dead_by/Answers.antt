@@ -1,7 +1,7 @@
 use Rattle.std.proofs.Common.{◌∙◌, Bool, List, map, sym, subst}
 use Rattle.std.proofs.lemmas.List.Folds.{list_all-map}
 use Rattle.network_adaptive.specs.Choosing.{ChoiceTable, choosing_of}
-use Rattle.adaptive_deadlock.specs.Fillings.{Filling}
+use Rattle.deadlock_laws.specs.Fillings.{Filling}
 use Rattle.dead_sets.specs.FillingFlags.{filling_of, waits_by, TellsInTurn}
 use Rattle.dead_sets.proofs.FilledTold.{some_items}
 use Rattle.dead_sets.proofs.Waiting.{dead_if, not_dead}

@@ -4,7 +4,7 @@ use Rattle.std.proofs.lemmas.Bool.{or_left}
 use Rattle.std.proofs.lemmas.List.{length-map}
 use Rattle.network_judge.specs.Marks.{is_marked_at}
 use Rattle.network_adaptive.specs.Choosing.{ChoiceTable, choosing_of}
-use Rattle.adaptive_deadlock.specs.Fillings.{Filling}
+use Rattle.deadlock_laws.specs.Fillings.{Filling}
 use Rattle.dead_sets.specs.FillingFlags.{filling_of}
 use Rattle.dead_sets.proofs.FilledTold.{is_none, none_is, item_at, filled_more, filled_no, filled_end}
 use Rattle.dead_sets.proofs.filling.fill_in_turn.Goals.{then-is_empty, else-is_empty}

@@ -2,7 +2,7 @@ use Rattle.std.proofs.Common.{◌≡◌, ◌++◌, List, ℕ, length, map, sym, 
 use Rattle.std.specs.Prelude.{codes, OnOk}
 use Rattle.std.proofs.lemmas.List.{length-map}
 use Rattle.network_text.specs.Lines.{first_lines}
-use Rattle.adaptive_deadlock.specs.Fillings.{Filling}
+use Rattle.deadlock_laws.specs.Fillings.{Filling}
 use Rattle.dead_sets.specs.FillingFlags.{filling_of}
 use Rattle.network_text.proofs.Three.{three_put}
 use Rattle.network_answer.specs.OneFlit.{dead_set_text, filling_line_at}

@@ -1,5 +1,0 @@
-use Rattle.adaptive_deadlock.proofs.Empties.{nothing_stands, never_locks}
-use Rattle.adaptive_deadlock.proofs.laws.rising_choices_never_lock_up.Goals as goal
-
-pub returns : goal.returns
-returns c = record { empty = nothing_stands; never = never_locks }

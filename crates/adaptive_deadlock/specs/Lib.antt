@@ -1,3 +1,0 @@
-pub mod LockUps
-pub mod Fillings
-pub mod DeadSets

@@ -1,5 +1,0 @@
-use Rattle.message_classes.proofs.Locked.{jams_lock, cycles_lock}
-use Rattle.message_classes.proofs.laws.composed_cycles_lock_up.Goals as goal
-
-pub returns : goal.returns
-returns c = record { jam = jams_lock; cycle = cycles_lock }

@@ -1,2 +1,0 @@
-pub mod Endpoints
-pub mod Transactions

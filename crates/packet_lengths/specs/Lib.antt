@@ -1,2 +1,0 @@
-pub mod CircularJams
-pub mod Lengths
