@@ -14,4 +14,5 @@ pub mod Words
 pub mod Found
 pub mod Replied
 pub mod OfRuns
+pub mod WeakRuns
 mod Examples

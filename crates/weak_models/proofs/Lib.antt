@@ -3,3 +3,9 @@ pub mod Edges
 pub mod Exact
 pub mod Steps
 pub mod Weakened
+pub mod Excluded
+pub mod Placed
+pub mod Stronger
+pub mod Bare
+pub mod ByPlace
+pub mod Equalities

@@ -1,12 +1,12 @@
 -- Orders that keep more pairs keep fewer; fewer dependencies, and annotations everywhere.
-use Rattle.std.proofs.Common.{◌≡◌, ◌⊎◌, inl, inr, ℕ, ◌+◌, ◌<◌, true, List, length, refl, sym, subst, arith}
+use Rattle.std.proofs.Common.{◌≡◌, inl, inr, ℕ, ◌+◌, true, List, refl, sym, subst, arith}
 use Rattle.memory_models.specs.declared.kinds.Kind.{Kind}
 use Rattle.memory_models.specs.declared.kinds.Kind.TheVariants.{Load, Store, Atomic, Fence}
 use Rattle.memory_models.specs.declared.kinds.Operation.{Operation}
 use Rattle.memory_models.specs.declared.kinds.Rule.{Rule}
-use Rattle.memory_models.specs.Models.{sequential, all_kinds}
+use Rattle.memory_models.specs.Models.{sequential}
 use Rattle.memory_models.specs.Order.{IsMemoryOrder, KeepsOrder}
-use Rattle.memory_models.specs.Trace.{IsOwn, has, operation_at, uses_word}
+use Rattle.memory_models.specs.Trace.{IsOwn, operation_at, uses_word}
 use Rattle.weak_models.specs.declared.notes.Note.{Note}
 use Rattle.weak_models.specs.declared.notes.Dependency.{Dependency}
 use Rattle.weak_models.specs.declared.notes.DependencyKind.{DependencyKind}
@@ -16,6 +16,7 @@ use Rattle.weak_models.specs.Notes.{DependsWithin, IsWithin}
 use Rattle.weak_models.specs.Preserved.{IsPreserved, KeepsBy}
 use Rattle.weak_models.specs.Order.{IsOrderKeeping, IsRvwmo, ArePairsAtomic}
 use Rattle.weak_models.specs.Laws.{HasNoFences, AreAllRcsc, AreListedIn}
+use Rattle.weak_models.proofs.Excluded.{has_all}
 
 pub keeps_fewer : (more fewer : ℕ → ℕ → Type 0) (ops : List Operation) (writes : List ℕ) (turn : ℕ → ℕ)
     → ((x y : ℕ) → fewer x y → more x y)
@@ -91,12 +92,6 @@ fewer_dependencies notes fewer more ops writes turn l o = record {
       o.order;
   atomic = o.atomic;
 }
-
-has_all : (kind : Kind) → has all_kinds kind ≡ true
-has_all Load = refl
-has_all Store = refl
-has_all Atomic = refl
-has_all Fence = refl
 
 sequential_keeps : (ops : List Operation) (x y : ℕ) → IsOwn ops x y → KeepsOrder sequential ops x y
 sequential_keeps ops x y own = inl (

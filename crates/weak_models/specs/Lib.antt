@@ -4,3 +4,4 @@ pub mod Order
 pub mod Arcs
 pub mod Verdict
 pub mod Laws
+pub mod Equal

@@ -3,6 +3,7 @@
 
 pub mod arcs;
 pub mod depending;
+pub mod equal;
 pub mod judging;
 pub mod laws;
 pub mod notes;
