@@ -111,7 +111,7 @@ impl<A: Allocator + Copy> Search<A> {
             return Ok(());
         }
         if let Some(cost) = self.cost_to_end(ending, new, Some(slot), open.found) {
-            let due = open.answer.min(self.due_from(new));
+            let due = open.due.min(self.due_from(new));
             self.add_choice(from, Taker::Slot(slot), open.op, self.delayed(due, cost))?;
         }
         Ok(())

@@ -19,7 +19,7 @@ impl<A: Allocator + Copy> Search<A> {
             if let Some(place) = steps.get(from.saturating_add(n))
                 && let Some(step) = self.plan.step_at(*place)
             {
-                due = due.min(step.open.answer);
+                due = due.min(step.open.due);
             }
         }
         due
@@ -33,7 +33,7 @@ impl<A: Allocator + Copy> Search<A> {
                 && open.found == Some(value)
                 && but != Some(slot)
             {
-                due = due.min(open.answer);
+                due = due.min(open.due);
             }
         }
         due

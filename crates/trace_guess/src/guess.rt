@@ -15,7 +15,7 @@ use std::alloc::{AllocError, Allocator};
 use trace_laws::{Call, Event};
 
 /// How many slots and kinds of operations a search looks at for each event at most.
-const LOOKS: u64 = 1 << 13;
+const LOOKS: u64 = 1 << 15;
 
 /// The turns that searches came to; where they have been, and how many slots and kinds they may still look at.
 #[derive(Drop)]
@@ -44,9 +44,12 @@ impl<A: Allocator + Copy> Searches<A> {
         mine: &[usize],
     ) -> Result<bool, AllocError> {
         let mut values = values_of(alloc, events, partners, mine)?;
-        let Some(plan) = plan_of(alloc, &mut values, events, partners, mine)? else {
+        let Some(mut plan) = plan_of(alloc, &mut values, events, partners, mine)? else {
             return Ok(false);
         };
+        if values.wild.is_empty() {
+            plan.note_dues(alloc, values.numbers.len(), values.place_of(Some(word)))?;
+        }
         let mut search = search_of(alloc, word, plan, values, self.looks)?;
         if !search.run(&mut self.seen)? {
             return Ok(false);

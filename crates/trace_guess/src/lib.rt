@@ -8,6 +8,7 @@ mod depth;
 mod due;
 pub mod explained;
 pub mod guess;
+mod holds;
 pub mod listed;
 mod near;
 mod needs;

@@ -100,6 +100,15 @@ impl<A: Allocator> Values<A> {
         self.is_target(value, open)
     }
 
+    /// Whether only open operations find the value at a place, and leave it as it is.
+    pub(crate) fn is_over(&self, place: usize) -> bool {
+        let at = Some(place);
+        self.wild.is_empty()
+            && !self.leads.get(place).copied().unwrap_or(true)
+            && count_at(&self.ends, at) == 0
+            && count_at(&self.finds, at) == count_at(&self.waits, at)
+    }
+
     /// How many operations that haven't taken effect find a value.
     pub(crate) fn finds_of(&self, value: u64) -> u32 {
         count_at(&self.finds, self.place_of(Some(value)))

@@ -211,6 +211,7 @@ impl<A: Allocator + Copy> Plan<A> {
         let open = Open {
             issue: k,
             answer: other,
+            due: other,
             op,
             reply,
             found: values.place_of(found_by(Some(reply))),

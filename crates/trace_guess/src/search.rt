@@ -94,6 +94,14 @@ pub(crate) fn search_of<A: Allocator + Copy>(
     })
 }
 
+/// Whether an operation is due before another, if there is one.
+fn is_due_before(open: Open, other: Option<Open>) -> bool {
+    match other {
+        Some(it) => open.due < it.due,
+        None => true,
+    }
+}
+
 impl<A: Allocator + Copy> Search<A> {
     /// The operation in a slot, if it hasn't taken effect.
     pub(crate) fn waiting_at(&self, slot: usize) -> Option<Open> {
@@ -180,9 +188,42 @@ impl<A: Allocator + Copy> Search<A> {
         Ok(())
     }
 
+    /// Whether an operation leaves the current word for one that only open operations find, which leave it as it is.
+    fn is_parting(&self, place: Option<usize>, open: Open) -> bool {
+        match open.left {
+            Some(left) => open.found.is_some() && open.found == place && self.values.is_over(left),
+            None => false,
+        }
+    }
+
+    /// Of the operations that leave the current word so, the one that is due first.
+    fn first_parting(&self) -> Option<Open> {
+        let place = self.values.place_of(Some(self.state.word));
+        let mut first: Option<Open> = None;
+        for slot in 0..self.slots.table.len() {
+            if let Some(open) = self.waiting_at(slot)
+                && self.is_parting(place, open)
+                && is_due_before(open, first)
+            {
+                first = Some(open);
+            }
+        }
+        first
+    }
+
+    /// One of them takes effect, with those that find its word: a store follows at once.
+    fn part(&mut self, event: usize) -> Result<(), AllocError> {
+        let Some(open) = self.first_parting() else {
+            return Ok(());
+        };
+        self.take(open, event)?;
+        self.settle(event)
+    }
+
     /// What is chosen takes effect before an event; a store behind those whose words nothing needs.
     pub(crate) fn take_choice(&mut self, choice: Choice, event: usize) -> Result<(), AllocError> {
         if is_store(choice.op) {
+            self.part(event)?;
             self.silence(event)?;
         }
         match choice.taker {

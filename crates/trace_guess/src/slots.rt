@@ -8,12 +8,13 @@ use std::alloc::{AllocError, Allocator};
 /// How many slots there are at most.
 const SLOTS: usize = 128;
 
-/// An operation that is answered: the events of its issue and its answer, what it asks, its reply, the places of the values that it
-/// finds and leaves, and its slot.
+/// An operation that is answered: the events of its issue and its answer, the one before which it is due, what it asks, its
+/// reply, the places of the values that it finds and leaves, and its slot.
 #[derive(Clone, Copy)]
 pub(crate) struct Open {
     pub issue: usize,
     pub answer: usize,
+    pub due: usize,
     pub op: Op,
     pub reply: Reply,
     pub found: Option<usize>,

@@ -34,7 +34,7 @@ pub(crate) fn count_at(counts: &[u32], place: Option<usize>) -> u32 {
 }
 
 /// One more at a place.
-fn count_up(counts: &mut [u32], place: Option<usize>) {
+pub(crate) fn count_up(counts: &mut [u32], place: Option<usize>) {
     if let Some(i) = place
         && i < counts.len()
     {

@@ -15,6 +15,9 @@ const STEPS: u64 = 1 << 30;
 /// How many choices it keeps at most.
 const CHOICES: usize = 1 << 16;
 
+/// How many times as much a walk takes that goes on from each value.
+const STEPS_ON: u64 = 4;
+
 /// How many events the search goes back at most.
 const BACK: usize = 1024;
 
@@ -103,12 +106,18 @@ impl<A: Allocator + Copy> Search<A> {
         self.choose()
     }
 
-    /// Pays for a walk over the slots for each slot, and for one over the kinds that are near.
+    /// Pays for a walk over the slots for each slot, and for one over the kinds that are near; some times as much where
+    /// operations without an answer lead from each value to further ones.
     fn pay(&mut self) {
         let slots = self.slots.table.len() as u64;
         let kinds = self.plan.near.kinds.len() as u64;
         let walk = slots.saturating_mul(slots).saturating_add(kinds);
-        self.looks = self.looks.saturating_sub(walk);
+        let times = if self.values.wild.is_empty() {
+            1
+        } else {
+            STEPS_ON
+        };
+        self.looks = self.looks.saturating_sub(walk.saturating_mul(times));
     }
 
     /// Goes over the issue of an operation.
