@@ -2,13 +2,16 @@
 #![tactic(auto)]
 
 pub mod arcs;
+pub mod breadth;
 pub mod depending;
 pub mod judging;
 pub mod laws;
 pub mod notes;
 pub mod pairs;
 pub mod preserved;
+pub mod reasoned;
 pub mod rules;
+pub mod shortest;
 pub mod verdict;
 
 pub use judging::judge_rvwmo;
