@@ -3,5 +3,6 @@ pub mod Preserved
 pub mod Order
 pub mod Arcs
 pub mod Verdict
+pub mod Checked
 pub mod Laws
 pub mod Equal

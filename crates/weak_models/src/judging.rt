@@ -9,6 +9,7 @@ use crate::arcs::program_arcs;
 use crate::notes::{Dependency, Note};
 use crate::pairs::{is_behind_pair, pair_arcs};
 use crate::preserved::rule_of;
+use crate::shortest::shortest;
 use crate::verdict::{PreservedRule, Reason, ReasonedStep, RvwmoVerdict};
 use memory_models::program::{rule_arcs, stale_arcs, writes_rule};
 use memory_models::words::word_arcs;
@@ -89,13 +90,10 @@ fn steps_of<A: Allocator + Copy>(
     Ok(steps)
 }
 
-/// Judges a trace by RISC-V's memory model: the turn of each operation in one order that explains it,
-/// or operations that come each before the next around a circle, and then there is no such order.
-/// Each two operations of a processor are looked at, with the fences and stores between them, and of
-/// each all dependencies.
+/// Judges a trace by the edges between its operations: the turn of each, or the steps of a cycle.
 ///
-/// Errors: out of memory, and no other.
-pub fn judge_rvwmo<A: Allocator + Copy>(
+/// Errors: out of memory.
+fn judge_any<A: Allocator + Copy>(
     alloc: A,
     notes: &[Note],
     dependencies: &[Dependency],
@@ -119,6 +117,36 @@ pub fn judge_rvwmo<A: Allocator + Copy>(
             writes,
             &edges,
             &cycle,
+        )?)),
+    }
+}
+
+/// Judges a trace by RISC-V's memory model: the turn of each operation in one order that explains it,
+/// or operations that come each before the next around a circle, and then there is no such order.
+/// Each two operations of a processor are looked at, with the fences and stores between them, and of
+/// each all dependencies. The circle is one that `shortest` finds.
+///
+/// Errors: out of memory, and no other.
+pub fn judge_rvwmo<A: Allocator + Copy>(
+    alloc: A,
+    notes: &[Note],
+    dependencies: &[Dependency],
+    operations: &[Operation],
+    writes: &[usize],
+    words: usize,
+) -> Result<RvwmoVerdict<A>, AllocError>
+    requires { IsMemoryTrace words operations.now writes.now }
+    ensures { IfOk result (IsRvwmoVerdict notes.now dependencies.now operations.now writes.now) }
+{
+    match judge_any(alloc, notes, dependencies, operations, writes, words)? {
+        RvwmoVerdict::Ordered(turns) => Ok(RvwmoVerdict::Ordered(turns)),
+        RvwmoVerdict::Cycle(first) => Ok(RvwmoVerdict::Cycle(shortest(
+            alloc,
+            notes,
+            dependencies,
+            operations,
+            writes,
+            first,
         )?)),
     }
 }

@@ -2,6 +2,7 @@
 #![tactic(auto)]
 
 pub mod arcs;
+pub mod breadth;
 pub mod depending;
 pub mod equal;
 pub mod judging;
@@ -9,7 +10,9 @@ pub mod laws;
 pub mod notes;
 pub mod pairs;
 pub mod preserved;
+pub mod reasoned;
 pub mod rules;
+pub mod shortest;
 pub mod verdict;
 
 pub use judging::judge_rvwmo;
