@@ -1,7 +1,7 @@
 -- A row of a table: an operation, and when it was issued and answered (this project's own format).
 use Rattle.std.specs.Prelude.{ℕ, ◌^◌, nat_lt, List, [], ◌∷◌, Option, Some, None, Result, Ok, Err}
 use Rattle.std.specs.Prelude.{Bool, ◌||◌, codes, map, option_map, if◌then◌else◌}
-use Rattle.std.specs.Str.{bytes_eq}
+use Rattle.std.specs.Str.{str_eq_ignore_ascii_case}
 use Rattle.packet.specs.declared.kinds.Code.{Code}
 use Rattle.packet.specs.declared.kinds.Op.{Op}
 use Rattle.packet.specs.declared.kinds.Op.TheVariants.{Load, Store, Swap, Cas, Add, And, Or, Xor, Max, Min}
@@ -94,13 +94,15 @@ word_expected (Xor v) = None
 word_expected (Max v) = None
 word_expected (Min v) = None
 
--- by these words a cas says that it found the word that it expected
+-- by these words, in small or large letters, a cas says that it found the word that it expected
 abbrev pub says_found : List ℕ → Bool
-says_found word = bytes_eq word (codes "true") || bytes_eq word (codes "ok")
+says_found word = str_eq_ignore_ascii_case word (codes "true")
+    || str_eq_ignore_ascii_case word (codes "ok")
 
--- by these words it says that it found another one, but not which
+-- by these words, in small or large letters, a cas says that it found another one, but not which
 abbrev pub says_another : List ℕ → Bool
-says_another word = bytes_eq word (codes "false") || bytes_eq word (codes "fail")
+says_another word = str_eq_ignore_ascii_case word (codes "false")
+    || str_eq_ignore_ascii_case word (codes "fail")
 
 -- the reply of a word to an operation of a code, which may expect a word
 abbrev pub reply_expected : Code → Option ℕ → List ℕ → Result Reply TableReason

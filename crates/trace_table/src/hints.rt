@@ -92,18 +92,27 @@ fn is_bare_hexadecimal(word: &[u8]) -> bool {
     is_number
 }
 
+/// Whether a word of a cell has hexadecimal digits alone.
+fn has_bare_hexadecimal(cell: &[u8]) -> bool {
+    let (words, count) = first_words(cell);
+    words[..count].iter().any(|word| is_bare_hexadecimal(word))
+}
+
 /// Puts how hexadecimal digits are read, where a cell without a number has such.
 pub(crate) fn put_number_hint<W: fmt::Write>(
     f: &mut fmt::Formatter<W>,
     cell: &[u8],
 ) -> fmt::Result {
-    let (words, count) = first_words(cell);
-    for word in &words[..count] {
-        if is_bare_hexadecimal(word) {
-            return f.write_str(
-                "; hexadecimal digits stand behind 0x, or tools/from_csv reads them by --hex",
-            );
-        }
+    if !has_bare_hexadecimal(cell) {
+        return Ok(());
     }
-    Ok(())
+    f.write_str("; hexadecimal digits stand behind 0x, or tools/from_csv reads them by --hex")
+}
+
+/// Puts how hexadecimal digits are read, where a cell that is no reply has such, and else how no reply is told.
+pub(crate) fn put_reply_hint<W: fmt::Write>(f: &mut fmt::Formatter<W>, cell: &[u8]) -> fmt::Result {
+    if has_bare_hexadecimal(cell) {
+        return put_number_hint(f, cell);
+    }
+    f.write_str("; where no reply came, answered is empty")
 }

@@ -185,14 +185,14 @@ fn word_expected(op: Op) -> Option<u64>
 fn says_found(word: &[u8]) -> bool
     ensures { result ≡ says_found word.now }
 {
-    word == b"true".as_slice() || word == b"ok".as_slice()
+    word.eq_ignore_ascii_case(b"true".as_slice()) || word.eq_ignore_ascii_case(b"ok".as_slice())
 }
 
 /// Whether this is a word by which a cas says that it found another word, but not which.
 fn says_another(word: &[u8]) -> bool
     ensures { result ≡ says_another word.now }
 {
-    word == b"false".as_slice() || word == b"fail".as_slice()
+    word.eq_ignore_ascii_case(b"false".as_slice()) || word.eq_ignore_ascii_case(b"fail".as_slice())
 }
 
 /// The reply that a word is to an operation of a code, which may expect a word.

@@ -7,7 +7,7 @@ ghost use Rattle.trace_table.specs.Told.{TellsTableRefusal};
 
 use crate::cells::{separator_of, without_mark};
 use crate::column::{Column, is_named_so};
-use crate::hints::{put_column_hints, put_number_hint};
+use crate::hints::{put_column_hints, put_number_hint, put_reply_hint};
 use crate::reason::TableReason;
 use crate::rows::read_rows;
 use lexer::{Named, QuotedWords, Refusal, line_at};
@@ -93,7 +93,7 @@ fn cell_text(column: Column) -> &'static str {
         Column::Operation => "one word belongs there",
         Column::Address => "one number belongs there",
         Column::Values => "numbers belong there",
-        Column::Reply => "one word belongs there",
+        Column::Reply => "one word belongs there; where no reply came, answered is empty",
         Column::Issued => "a whole number below 2^64 belongs there",
         Column::Answered => "a whole number below 2^64 or nothing belongs there",
     }
@@ -178,7 +178,7 @@ fn put_hint<W: fmt::Write>(
             put_number_hint(f, cell_of(text, line, Column::Values))
         }
         TableReason::Line(LineReason::NotReply) => {
-            put_number_hint(f, cell_of(text, line, Column::Reply))
+            put_reply_hint(f, cell_of(text, line, Column::Reply))
         }
         _ => Ok(()),
     }
