@@ -7,7 +7,7 @@ use Rattle.model_replies.specs.declared.answer.NoValueAnswer.TheVariants as none
 use Rattle.model_replies.specs.declared.answer.ValueAnswer.{ValueAnswer}
 use Rattle.model_replies.specs.declared.answer.ValueOptions.{ValueOptions}
 use Rattle.model_replies.specs.declared.decision.Decision.{Decision}
-use Rattle.model_replies.specs.declared.decision.Decision.TheVariants.{Obeys, Breaks, Undecided}
+use Rattle.model_replies.specs.declared.decision.Decision.TheVariants.{Obeys, Breaks, Undecided, NotTold}
 use Rattle.model_replies.specs.Answers.{IsUnaskedIn, IsValueAnswerTo}
 use Rattle.model_replies.specs.Judged.{decision_on}
 use Rattle.model_replies.specs.Reading.{values_of}
@@ -41,6 +41,7 @@ abbrev pub decision_status : Decision → ℕ
 decision_status Obeys = 0
 decision_status Breaks = 1
 decision_status Undecided = 5
+decision_status NotTold = 5
 
 abbrev pub decided_status : Decided → MemoryModel → ℕ
 decided_status (Models all) model = decision_status (decision_on model all)

@@ -56,7 +56,7 @@ pub fn values_text<A: Allocator + Copy, W: Out>(
 }
 
 /// The status that the program ends with: 0 where the log obeys the model, 1 where it doesn't, 5 where
-/// that isn't decided.
+/// that isn't decided or told.
 pub fn decided_status(decided: Decided, model: MemoryModel) -> u8
     ensures { result ≡ decided_status decided model }
 {
@@ -65,6 +65,7 @@ pub fn decided_status(decided: Decided, model: MemoryModel) -> u8
             Decision::Obeys => 0,
             Decision::Breaks => 1,
             Decision::Undecided => 5,
+            Decision::NotTold => 5,
         },
         Decided::Alike(_, _) => 5,
         Decided::Unwritten(_) => 1,

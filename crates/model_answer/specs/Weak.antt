@@ -47,6 +47,10 @@ doubts_of fences judged notes = record {
   less = judged && list_any is_weak notes;
 }
 
+-- those of a log that says where its fences stand, by its annotations
+abbrev pub doubts_on : LogLines → Doubts
+doubts_on log = doubts_of true (is_annotated log) (notes_of_log log)
+
 -- there is a verdict exactly where one is asked for
 abbrev pub IsWeakVerdict : {A : Type 0} → Bool → List Note → List Dependency → List Operation → List ℕ
     → Option (RvwmoVerdict A) → Type 0

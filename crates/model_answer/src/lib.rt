@@ -20,4 +20,4 @@ pub use judged::{Obeys, Verdicts, verdicts_of};
 pub use model::{AskedModel, MemoryModel};
 pub use sentence::{LogSentence, WrongSentence};
 pub use text::{is_rvwmo_told, is_told};
-pub use weak::{Doubts, WeakAnswer};
+pub use weak::{Doubts, WeakAnswer, doubts_on};

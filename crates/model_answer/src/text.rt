@@ -81,7 +81,7 @@ pub fn is_told(doubts: Doubts, obeys: Obeys, model: MemoryModel) -> bool
 }
 
 /// Adds why there is neither a yes nor a no of a model.
-fn put_untold<A: Allocator>(text: &mut Vec<u8, A>, fences: bool) -> Result<(), AllocError>
+pub fn put_untold<A: Allocator>(text: &mut Vec<u8, A>, fences: bool) -> Result<(), AllocError>
     ensures { OnOk result (text.new.items ≡ text.old.items ++ untold_text fences) }
 {
     if fences {

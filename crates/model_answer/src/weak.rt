@@ -7,7 +7,7 @@ ghost use Rattle.weak_models.specs.Verdict.{IsRvwmoVerdict};
 ghost use Rattle.model_text.specs.Noted.{dependencies_of_log, notes_of_log};
 ghost use Rattle.model_text.specs.Views.{log_so_far};
 ghost use Rattle.model_answer.specs.Weak.{IsWeakOn, TellsWeak, forbids, is_explained, is_full, is_judged};
-ghost use Rattle.model_answer.specs.Weak.{is_weak, is_weaker, weak_answer_of, doubts_of};
+ghost use Rattle.model_answer.specs.Weak.{is_weak, is_weaker, weak_answer_of, doubts_of, doubts_on};
 
 use crate::answer::Options;
 use model_text::{Log, LogNotes, LogTrace, notes_of_log};
@@ -115,6 +115,25 @@ fn judged<A: Allocator + Copy>(
         &trace.writes,
         words,
     )?)
+}
+
+/// What the models by rules leave out of a log, or count as too strong.
+///
+/// Errors: out of memory, and no other.
+pub fn doubts_on<A: Allocator + Copy>(alloc: A, log: &Log<A>) -> Result<Doubts, AllocError>
+    ensures { IfOk result (λ doubts. doubts ≡ doubts_on (log_so_far log.now)) }
+{
+    if !log.is_annotated() {
+        return Ok(Doubts {
+            more: false,
+            less: false,
+        });
+    }
+    let said = notes_of_log(alloc, log)?;
+    Ok(Doubts {
+        more: any_forbids(&said.notes),
+        less: any_weak(&said.notes),
+    })
 }
 
 /// What is found of a log by RISC-V's model, where it is asked, or the log has annotations.

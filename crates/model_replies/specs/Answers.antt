@@ -3,6 +3,8 @@
 use Rattle.std.specs.Prelude.{◌≡◌, ◌⊎◌, ℕ, List, length, map, Ok, Err}
 use Rattle.lexer.specs.Outcome.{refusal_at}
 use Rattle.trace_lines.specs.declared.reason.LineReason.TheVariants as line
+use Rattle.model_answer.specs.declared.weak.Doubts.{Doubts}
+use Rattle.model_answer.specs.Weak.{doubts_on}
 use Rattle.model_text.specs.declared.logged.Logged.{Logged}
 use Rattle.model_text.specs.declared.reason.LogReason.TheVariants as reason
 use Rattle.model_text.specs.Made.{LogLines}
@@ -17,17 +19,18 @@ use Rattle.model_replies.specs.declared.answer.ValueOptions.{ValueOptions}
 use Rattle.model_replies.specs.declared.judging.Unsaid.{Unsaid}
 use Rattle.model_replies.specs.declared.judging.Unsaid.TheVariants as unsaid
 use Rattle.model_replies.specs.declared.judging.ValueVerdicts.{ValueVerdicts}
-use Rattle.model_replies.specs.Judged.{AreValueVerdicts, HasNoPlacing, decisions_of}
+use Rattle.model_replies.specs.Judged.{AreValueVerdicts, HasNoPlacing, decisions_of, told_decisions}
 use Rattle.model_replies.specs.Printed.{verdicts_text}
 use Rattle.model_replies.specs.Reading.{values_of}
 use Rattle.model_replies.specs.Steps.{IsValuedOf, left_word, unplaced_operations}
 
--- an answer has these verdicts, and prints them
+-- an answer has these verdicts, as far as they are certain, and prints them
 pub record HasVerdicts {A : Type 0} (options : ValueOptions) (openings : ℕ) (steps : List Logged)
-    (all : ValueVerdicts A) (a : ValueAnswer A) : Type 0
+    (doubts : Doubts) (all : ValueVerdicts A) (a : ValueAnswer A) : Type 0
   where
-    pub decisions : a.decisions ≡ decisions_of all
-    pub text : a.text.items ≡ verdicts_text options.nodes options.order openings steps all
+    pub decisions : a.decisions ≡ told_decisions doubts (decisions_of all)
+    pub text : a.text.items
+        ≡ verdicts_text options.nodes options.order openings steps doubts all
 
 -- the answer on a log: the verdicts are those on the words that its replies tell
 pub record IsValueAnswerOn {A : Type 0} (log : LogLines) (options : ValueOptions)
@@ -37,7 +40,8 @@ pub record IsValueAnswerOn {A : Type 0} (log : LogLines) (options : ValueOptions
     pub told : IsValuedOf log valued
     pub verdicts : ValueVerdicts A
     pub judged : AreValueVerdicts valued options.nodes verdicts
-    pub is : HasVerdicts options (length log.addresses) (steps_of_log log) verdicts a
+    pub is : HasVerdicts options (length log.addresses) (steps_of_log log) (doubts_on log)
+        verdicts a
 
 -- the answer to a text: it is a log with its replies, and the answer is that on the log
 pub record IsValueAnswerTo {A : Type 0} (lines : List (List ℕ)) (options : ValueOptions)

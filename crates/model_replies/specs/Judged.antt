@@ -1,9 +1,10 @@
 -- The verdicts of the models on words alone.
-use Rattle.std.specs.Prelude.{ℕ, List, Some}
+use Rattle.std.specs.Prelude.{ℕ, ◌||◌, Bool, true, false, not, List, Some, if◌then◌else◌}
 use Rattle.memory_models.specs.declared.kinds.Operation.{Operation}
 use Rattle.memory_models.specs.Models.{sequential, total_store_order, partial_store_order}
 use Rattle.memory_models.specs.Models.{coherent, fenced}
 use Rattle.model_answer.specs.declared.model.MemoryModel.{MemoryModel}
+use Rattle.model_answer.specs.declared.weak.Doubts.{Doubts}
 use Rattle.model_answer.specs.declared.model.MemoryModel.TheVariants as model
 use Rattle.model_values.specs.declared.question.OrderVerdict.{OrderVerdict}
 use Rattle.model_values.specs.declared.question.OrderVerdict.TheVariants as verdict
@@ -11,7 +12,7 @@ use Rattle.model_values.specs.declared.valued.Valued.{Valued}
 use Rattle.model_values.specs.ValuedVerdict.{IsJudgedOn}
 use Rattle.model_values.specs.Values.{AreAlikeValues, HasClearWriters, IsUnwritten, IsValuedPlacing}
 use Rattle.model_replies.specs.declared.decision.Decision.{Decision}
-use Rattle.model_replies.specs.declared.decision.Decision.TheVariants.{Obeys, Breaks, Undecided}
+use Rattle.model_replies.specs.declared.decision.Decision.TheVariants.{Obeys, Breaks, Undecided, NotTold}
 use Rattle.model_replies.specs.declared.decision.Decisions.{Decisions}
 use Rattle.model_replies.specs.declared.judging.Unsaid.{Unsaid}
 use Rattle.model_replies.specs.declared.judging.Unsaid.TheVariants.{Alike, Unwritten, Memory}
@@ -53,6 +54,40 @@ decisions_of all = record {
   pso = decision_of all.pso;
   tso = decision_of all.tso;
   sc = decision_of all.sc;
+}
+
+-- whether a model is obeyed, or broken, for certain
+abbrev pub is_obeyed : Decision → Bool
+is_obeyed Obeys = true
+is_obeyed Breaks = false
+is_obeyed Undecided = false
+is_obeyed NotTold = false
+
+abbrev pub is_broken : Decision → Bool
+is_broken Obeys = false
+is_broken Breaks = true
+is_broken Undecided = false
+is_broken NotTold = false
+
+-- whether a decision is certain: what the models leave out may turn a yes into a no, but not with
+-- one memory; what they count as too strong may turn a no into a yes, but not without coherence
+abbrev pub is_certain : Doubts → Decisions → Decision → Bool
+is_certain doubts all Obeys = not doubts.more || is_obeyed all.sc
+is_certain doubts all Breaks = not doubts.less || is_broken all.coherent
+is_certain doubts all Undecided = true
+is_certain doubts all NotTold = true
+
+abbrev pub told_of : Doubts → Decisions → Decision → Decision
+told_of doubts all decision = if is_certain doubts all decision then decision else NotTold
+
+-- the decisions that are certain
+abbrev pub told_decisions : Doubts → Decisions → Decisions
+told_decisions doubts all = record {
+  coherent = all.coherent;
+  fenced = told_of doubts all all.fenced;
+  pso = told_of doubts all all.pso;
+  tso = told_of doubts all all.tso;
+  sc = all.sc;
 }
 
 -- the decision on a model

@@ -5,25 +5,21 @@ use Rattle.std.specs.Prelude.{decimal}
 use Rattle.model_answer.specs.declared.judged.Obeys.{Obeys}
 use Rattle.model_answer.specs.declared.model.MemoryModel.{MemoryModel}
 use Rattle.model_answer.specs.declared.model.MemoryModel.TheVariants as model
+use Rattle.model_answer.specs.declared.weak.Doubts.{Doubts}
 use Rattle.model_answer.specs.Answer.{order_heading, strongest_obeyed}
 use Rattle.model_answer.specs.Model.{model_word}
-use Rattle.model_answer.specs.Texts.{model_line, turns_text}
+use Rattle.model_answer.specs.Texts.{model_line, turns_text, untold_text}
 use Rattle.model_text.specs.declared.logged.Logged.{Logged}
 use Rattle.model_values.specs.declared.question.OrderVerdict.{OrderVerdict}
 use Rattle.model_values.specs.declared.question.OrderVerdict.TheVariants as verdict
 use Rattle.model_replies.specs.declared.decision.Decision.{Decision}
 use Rattle.model_replies.specs.declared.decision.Decision.TheVariants.{Obeys as Obeyed}
-use Rattle.model_replies.specs.declared.decision.Decision.TheVariants.{Breaks, Undecided}
+use Rattle.model_replies.specs.declared.decision.Decision.TheVariants.{Breaks, Undecided, NotTold}
 use Rattle.model_replies.specs.declared.decision.Decisions.{Decisions}
 use Rattle.model_replies.specs.declared.judging.ValueVerdicts.{ValueVerdicts}
-use Rattle.model_replies.specs.Judged.{decisions_of, value_verdict_by}
+use Rattle.model_replies.specs.Judged.{decisions_of, is_obeyed, told_decisions, value_verdict_by}
 
--- whether a model is obeyed for certain
-abbrev pub is_obeyed : Decision → Bool
-is_obeyed Obeyed = true
-is_obeyed Breaks = false
-is_obeyed Undecided = false
-
+-- which models are obeyed for certain
 abbrev pub obeyed_by : Decisions → Obeys
 obeyed_by all = record {
   coherent = is_obeyed all.coherent;
@@ -39,6 +35,7 @@ decision_line nodes model Obeyed = model_line model true
 decision_line nodes model Breaks = model_line model false
 decision_line nodes model Undecided =
     model_word model ++ (codes " undecided: more than " ++ (decimal nodes ++ codes " nodes\n"))
+decision_line nodes model NotTold = model_word model ++ untold_text true
 
 -- the lines of the models, weakest first
 abbrev pub decisions_text : ℕ → Decisions → List ℕ
@@ -68,8 +65,9 @@ asked_text openings steps all None = []
 asked_text openings steps all (Some model) =
     order_text openings steps model (value_verdict_by model all)
 
--- what is printed: the models, the order
-abbrev pub verdicts_text : {A : Type 0} → ℕ → Bool → ℕ → List Logged → ValueVerdicts A → List ℕ
-verdicts_text nodes order openings steps all =
-    decisions_text nodes (decisions_of all)
-    ++ asked_text openings steps all (asked_model order (decisions_of all))
+-- what is printed: the models as far as they are certain, the order
+abbrev pub verdicts_text : {A : Type 0} → ℕ → Bool → ℕ → List Logged → Doubts → ValueVerdicts A
+    → List ℕ
+verdicts_text nodes order openings steps doubts all =
+    decisions_text nodes (told_decisions doubts (decisions_of all))
+    ++ asked_text openings steps all (asked_model order (told_decisions doubts (decisions_of all)))

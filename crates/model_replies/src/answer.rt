@@ -2,6 +2,7 @@
 
 ghost use Rattle.std.specs.Prelude.{◌≡◌, IfErr, IfOk};
 ghost use Rattle.std.specs.Str.Lines.{lines};
+ghost use Rattle.model_answer.specs.Weak.{doubts_on};
 ghost use Rattle.model_text.specs.Views.{log_so_far};
 ghost use Rattle.model_replies.specs.Answers.{HasNoAnswerOn, HasNoAnswerTo};
 ghost use Rattle.model_replies.specs.Answers.{HasVerdicts, IsValueAnswerOn, IsValueAnswerTo, no_answer_of};
@@ -12,6 +13,7 @@ use crate::printing::text_of;
 use crate::reading::read_values;
 use crate::steps::{ValuedLog, values_of_log};
 use lexer::Refusal;
+use model_answer::{Doubts, doubts_on};
 use model_text::trace::logged_at;
 use model_text::{Log, LogReason, Logged};
 use model_values::Valued;
@@ -49,17 +51,18 @@ pub enum NoValueAnswer {
     Memory,
 }
 
-/// The answer that has these verdicts.
+/// The answer that has these verdicts, as far as they are certain.
 ///
 /// Errors: out of memory.
 fn answer_of<A: Allocator + Copy>(
     alloc: A,
     values: &ValuedLog<A>,
+    doubts: Doubts,
     verdicts: &ValueVerdicts<A>,
     options: ValueOptions,
 ) -> Result<ValueAnswer<A>, NoValueAnswer>
     ensures answer { IfOk result (HasVerdicts options values.now.openings values.now.steps.items
-        verdicts.now) }
+        doubts verdicts.now) }
     ensures none { IfErr result (λ why. why ≡ NoValueAnswer.Memory) }
 {
     let ValueOptions { nodes, order } = options;
@@ -69,10 +72,11 @@ fn answer_of<A: Allocator + Copy>(
         order,
         values.openings,
         &values.steps,
+        doubts,
         verdicts,
     ) {
         Ok(text) => Ok(ValueAnswer {
-            decisions: verdicts.decisions(),
+            decisions: verdicts.decisions().told(doubts),
             text,
         }),
         Err(_) => Err(NoValueAnswer::Memory),
@@ -115,8 +119,11 @@ pub fn answer_to_values<A: Allocator + Copy>(
         words,
         openings: values.openings,
     };
+    let Ok(doubts) = doubts_on(alloc, log) else {
+        return Err(NoValueAnswer::Memory);
+    };
     match verdicts_of_values(alloc, &valued, options.nodes) {
-        Ok(verdicts) => answer_of(alloc, &values, &verdicts, options),
+        Ok(verdicts) => answer_of(alloc, &values, doubts, &verdicts, options),
         Err(why) => Err(no_answer(&values.steps, why)),
     }
 }

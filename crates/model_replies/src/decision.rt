@@ -2,10 +2,11 @@
 
 ghost use Rattle.std.specs.Prelude.{◌≡◌, true};
 ghost use Rattle.model_replies.specs.Judged.{decision_of, decision_on, decisions_of, value_verdict_by};
-ghost use Rattle.model_replies.specs.Printed.{is_obeyed, obeyed_by};
+ghost use Rattle.model_replies.specs.Judged.{is_broken, is_certain, is_obeyed, told_decisions, told_of};
+ghost use Rattle.model_replies.specs.Printed.{obeyed_by};
 
 use crate::judging::ValueVerdicts;
-use model_answer::{MemoryModel, Obeys};
+use model_answer::{Doubts, MemoryModel, Obeys};
 use model_values::OrderVerdict;
 use std::alloc::Allocator;
 
@@ -18,6 +19,8 @@ pub enum Decision {
     Breaks,
     /// More nodes would have to be looked at.
     Undecided,
+    /// Annotations or weaker fences, which the model doesn't know, may make its answer another one.
+    NotTold,
 }
 
 /// Whether a log obeys each model.
@@ -77,10 +80,62 @@ fn is_obeyed(decision: Decision) -> bool
         Decision::Obeys => true,
         Decision::Breaks => false,
         Decision::Undecided => false,
+        Decision::NotTold => false,
+    }
+}
+
+/// Whether a model is broken.
+fn is_broken(decision: Decision) -> bool
+    ensures { result ≡ is_broken decision }
+{
+    match decision {
+        Decision::Obeys => false,
+        Decision::Breaks => true,
+        Decision::Undecided => false,
+        Decision::NotTold => false,
+    }
+}
+
+/// Whether a decision is certain. What the models by rules leave out may turn a yes into a no, but not
+/// where the log is sequentially consistent; what they count as too strong may turn a no into a yes, but
+/// not where the log isn't coherent.
+fn is_certain(doubts: Doubts, all: Decisions, decision: Decision) -> bool
+    ensures { result ≡ is_certain doubts all decision }
+{
+    match decision {
+        Decision::Obeys => !doubts.more || is_obeyed(all.sc),
+        Decision::Breaks => !doubts.less || is_broken(all.coherent),
+        Decision::Undecided => true,
+        Decision::NotTold => true,
+    }
+}
+
+/// A decision, where it is certain.
+fn told_of(doubts: Doubts, all: Decisions, decision: Decision) -> Decision
+    ensures { result ≡ told_of doubts all decision }
+{
+    if is_certain(doubts, all, decision) {
+        decision
+    } else {
+        Decision::NotTold
     }
 }
 
 impl Decisions {
+    /// The decisions that are certain, by what the models leave out of the log. Those on coherence and on
+    /// one memory always are.
+    pub(crate) fn told(self, doubts: Doubts) -> Decisions
+        ensures { result ≡ told_decisions doubts self }
+    {
+        Decisions {
+            coherent: self.coherent,
+            fenced: told_of(doubts, self, self.fenced),
+            pso: told_of(doubts, self, self.pso),
+            tso: told_of(doubts, self, self.tso),
+            sc: self.sc,
+        }
+    }
+
     /// The decision on a model.
     pub fn on(self, model: MemoryModel) -> Decision
         ensures { result ≡ decision_on model self }

@@ -6,9 +6,9 @@ ghost use Rattle.model_replies.specs.Printed.{order_text, verdicts_text};
 
 use crate::decision::{Decision, Decisions};
 use crate::judging::ValueVerdicts;
-use model_answer::MemoryModel;
 use model_answer::order::{put_heading, put_order, strongest_obeyed};
-use model_answer::text::{put, put_number, put_verdict};
+use model_answer::text::{put, put_number, put_untold, put_verdict};
+use model_answer::{Doubts, MemoryModel};
 use model_text::Logged;
 use model_values::OrderVerdict;
 use std::alloc::{AllocError, Allocator};
@@ -40,6 +40,10 @@ fn put_decision<A: Allocator>(
         Decision::Undecided => {
             put(text, model.word().as_bytes())?;
             put_limit(text, nodes)
+        }
+        Decision::NotTold => {
+            put(text, model.word().as_bytes())?;
+            put_untold(text, true)
         }
     }
 }
@@ -114,7 +118,7 @@ fn put_order_by<A: Allocator + Copy>(
     }
 }
 
-/// What is printed of the verdicts, by searches of at most so many nodes.
+/// What is printed of the verdicts, as far as they are certain, by searches of at most so many nodes.
 ///
 /// Errors: out of memory.
 pub(crate) fn text_of<A: Allocator + Copy>(
@@ -123,13 +127,14 @@ pub(crate) fn text_of<A: Allocator + Copy>(
     order: bool,
     openings: usize,
     steps: &[Logged],
+    doubts: Doubts,
     all: &ValueVerdicts<A>,
 ) -> Result<Vec<u8, A>, AllocError>
     ensures { IfOk result (λ text.
-        text.items ≡ verdicts_text nodes order openings steps.now all.now) }
+        text.items ≡ verdicts_text nodes order openings steps.now doubts all.now) }
 {
     let mut text = Vec::new(alloc);
-    let decisions = all.decisions();
+    let decisions = all.decisions().told(doubts);
     put_decisions(&mut text, nodes, decisions)?;
     let model = asked_model(order, decisions);
     put_order_by(alloc, &mut text, openings, steps, all, model)?;
