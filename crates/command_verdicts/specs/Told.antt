@@ -52,9 +52,7 @@ verdict_text_of (NoReport why) bound = unfit_text why
 -- what was tried where a trace isn't decided with so many configurations of a word
 abbrev pub tried_text : ℕ → List ℕ
 tried_text bound = if nat_lt bound 1024 then codes ""
-    else (if nat_lt 4096 bound
-    then codes "; zones, a guess, a search depth first and all configurations were tried"
-    else codes "; zones, a guess and all configurations were tried")
+    else codes "; zones, a guess, a search depth first and all configurations were tried"
 
 -- the status that the program ends with
 abbrev pub judged_status : Result Judged ProgramFault → ℕ

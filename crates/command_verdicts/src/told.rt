@@ -53,8 +53,6 @@ pub fn tried_text(configurations: u64) -> &'static str
 {
     if configurations < 1024 {
         ""
-    } else if configurations <= 4096 {
-        "; zones, a guess and all configurations were tried"
     } else {
         "; zones, a guess, a search depth first and all configurations were tried"
     }

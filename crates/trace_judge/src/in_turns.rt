@@ -7,15 +7,16 @@ ghost use Rattle.trace_laws.specs.Orders.{IsOrder, IsLinearizable};
 ghost use Rattle.trace_judge.specs.Stops.{IsUndecided, TellsMany};
 ghost use Rattle.trace_judge.specs.Verdicts.{IsGoodUntil};
 
+use crate::likely::GUESSED;
 use crate::order::{Ended, find_order};
 use crate::undecided::Undecided;
 use std::alloc::{AllocError, Allocator};
 use trace_guess::deep::{First, deep_order};
 use trace_laws::{Call, Event};
 
-/// How many configurations of a word the first turn allows; how many times as many each later one does, and how many
+/// How many configurations of a word the first turn allows: wherever an order is guessed, one is searched for depth first, too. How many times as many each later one does, and how many
 /// turns there are before the last.
-const LEAST: usize = 1 << 12;
+const LEAST: usize = GUESSED - 1;
 
 const MORE: usize = 4;
 
