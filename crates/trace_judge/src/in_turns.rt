@@ -14,12 +14,14 @@ use std::alloc::{AllocError, Allocator};
 use trace_guess::deep::{First, deep_order};
 use trace_laws::{Call, Event};
 
-/// How many configurations of a word the first turn allows: wherever an order is guessed, one is searched for depth first, too. How many times as many each later one does, and how many
-/// turns there are before the last.
+/// How many configurations of a word the first turn allows: wherever an order is guessed, one is searched
+/// for depth first, too.
 const LEAST: usize = GUESSED - 1;
 
+/// How many times as many each later turn allows.
 const MORE: usize = 4;
 
+/// How many turns there are before the last.
 const TURNS: u32 = 10;
 
 /// How many operations are looked at, depth first, for each configuration that a turn allows.
