@@ -81,7 +81,7 @@ impl<A: Allocator> Holds<A> {
         for place in 0..self.leavers.len() {
             let from = self.firsts.get(place).copied().unwrap_or(0);
             let to = self.lasts.get(place).copied().unwrap_or(0);
-            if self.leavers[place] == 1 {
+            if count_at(&self.leavers, Some(place)) == 1 {
                 self.hold(place, from, to);
             }
         }
