@@ -15,6 +15,9 @@ use Rattle.network_answer.proofs.routing.answered_choosing.Goals as goal
 pub judgement_text-requires : goal.judgement_text-requires
 judgement_text-requires g c = subst (λ r. IsRead {A = g.row.A.Denot} r) (sym c.in_ok-it.ensures.fixed) c.requires.read.fixed
 
+pub choosing_causes-requires : goal.choosing_causes-requires
+choosing_causes-requires g c = subst (λ r. IsRead {A = g.row.A.Denot} r) (sym c.in_ok-it.ensures.fixed) c.requires.read.fixed
+
 pub behind_text-requires-clause-read : goal.behind_text-requires-clause-read
 behind_text-requires-clause-read g c = subst (λ r. IsRead {A = g.row.A.Denot} r) (sym c.in_ok-it.ensures.fixed) c.requires.read.fixed
 
@@ -54,7 +57,7 @@ returns g c =
       rising = c.never_locks_up-rising.ensures;
       causes = c.in_ok-causes.ensures
           ∙ (ap (λ e. escape_words (are_none e) ++ judged_causes (reading_of c.judgement_of.new.network.fixed) judged)
-          (c.deref-4.ensures.value ∙ ap (λ (e : Vec ℕ). e.items) c.in_ok-it.ensures.escapes)
+          (c.deref-4.ensures.value ∙ ap (λ (e : Vec ℕ g.row.A.Denot). e.items) c.in_ok-it.ensures.escapes)
           ∙ ap (λ f. escape_words (are_none n.escapes.items) ++ judged_causes (reading_of f) judged) c.in_ok-it.ensures.fixed);
       kinds = c.in_ok-kinds.ensures.items ∙ (c.deref-5.ensures.value ∙ ap (λ f. (reading_of f).table.kinds) c.in_ok-it.ensures.fixed);
     })
