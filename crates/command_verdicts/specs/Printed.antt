@@ -8,6 +8,15 @@ use Rattle.program_fault.specs.declared.fault.ProgramFault.{ProgramFault}
 use Rattle.program_fault.specs.declared.fault.ProgramFault.TheVariants as program
 use Rattle.program_fault.specs.Done.{Does, Output}
 
+-- a text is that of an answer, what is judged of the network that the lines of a text give, of fixed
+-- routes or of routers that choose, and why it is so
+pub record IsAnsweredText {A : Type 0} (lines : List (List ℕ)) (answer : Answer A) (text : List ℕ)
+    : Type 0 where
+  pub network : Routing
+  pub read : routing_of lines ≡ Ok network
+  pub tells : TellsRouting network answer
+  pub is : text ≡ answer.text.items
+
 -- a text is what is judged of the network that the lines of a text give, of fixed routes or of
 -- routers that choose; and whether its numbers rise
 pub record IsNetworkText (A : Type 0) (lines : List (List ℕ)) (rising : Bool) (text : List ℕ) : Type
@@ -28,6 +37,11 @@ IsRoutingFault lines _ = ⊥
 abbrev pub IsNetworkFault : List (List ℕ) → ProgramFault → Type 0
 IsNetworkFault lines (program.Line found) = network_of lines ≡ Err found
 IsNetworkFault lines _ = ⊥
+
+-- the verdict on a network was printed, with which it is answered why it is so
+abbrev pub AnswersNetwork : (A : Type 0) → List (List ℕ) → Output → Output
+    → Result (Answer A) ProgramFault → Type 0
+AnswersNetwork A lines = Does (IsAnsweredText lines) (IsRoutingFault lines)
 
 -- the verdict on a network was printed
 abbrev pub PrintsNetwork : (A : Type 0) → List (List ℕ) → Output → Output → Result Bool ProgramFault

@@ -17,20 +17,18 @@ use Rattle.command_verdicts.specs.Printed.{IsNetworkFault}
 
 -- a text is what is answered of the network of a text, given as the list of its lines: that it has no
 -- source-destination pair; or the run by which it deadlocks, where it has a cycle, and else its
--- verdict; and whether the verdict's numbers rise
-pub record IsLockUpText (A : Type 0) (lines : List (List ℕ)) (depth : ℕ) (rising : Bool)
+-- verdict; and why it is so
+pub record IsLockUpText {A : Type 0} (lines : List (List ℕ)) (depth : ℕ) (answer : Answer A)
     (text : List ℕ) : Type 0 where
   pub network : NetworkSpec
   pub read : network_of lines ≡ Ok network
-  pub answer : Answer A
   pub told : TellsRunOrNoPair network depth answer
   pub is : text ≡ answer.text.items
-  pub rises : rising ≡ answer.rising
 
 -- the run of a network, or its verdict, was printed
 abbrev pub PrintsLockUp : (A : Type 0) → List (List ℕ) → ℕ → Output → Output
-    → Result Bool ProgramFault → Type 0
-PrintsLockUp A lines depth = Does (IsLockUpText A lines depth) (IsNetworkFault lines)
+    → Result (Answer A) ProgramFault → Type 0
+PrintsLockUp A lines depth = Does (IsLockUpText lines depth) (IsNetworkFault lines)
 
 -- a text is the line on a replay over the network that the lines of a text give, of the run that
 -- others give; and whether it shows nothing wrong

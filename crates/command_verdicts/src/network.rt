@@ -2,9 +2,9 @@
 
 ghost use Rattle.std.specs.Str.Lines.{lines};
 ghost use Rattle.program_fault.specs.Done.{output};
-ghost use Rattle.command_verdicts.specs.Printed.{PrintsNetwork};
+ghost use Rattle.command_verdicts.specs.Printed.{AnswersNetwork, PrintsNetwork};
 
-use network_answer::{routing_answer, routing_answer_once};
+use network_answer::{Answer, routing_answer, routing_answer_once};
 use program_fault::ProgramFault;
 use report_lines::Out;
 use report_lines::output::put_all;
@@ -14,7 +14,8 @@ use std::alloc::Allocator;
 /// that it never deadlocks; or the first pair without a route; or a cycle of channels, and behind it the
 /// channels that fill up where the network deadlocks. Where routers choose among several channels,
 /// the numbers come with a line on how far packets can go, and the verdict may also be the first
-/// channel without an escape, or the first choice that can't stand. Answers whether the numbers rise.
+/// channel without an escape, or the first choice that can't stand. Answers with what was printed, whether
+/// the numbers rise, and why the verdict is so.
 ///
 /// Errors: the text's first fault, or out of memory; and nothing was written then. If the output
 /// fails, a beginning was written.
@@ -22,17 +23,17 @@ pub fn network_text<A: Allocator + Copy, W: Out>(
     alloc: A,
     network: &[u8],
     out: &mut W,
-) -> Result<bool, ProgramFault>
-    ensures { PrintsNetwork A (lines network.now) (output (W.taken out.old) (W.failures out.old))
+) -> Result<Answer<A>, ProgramFault>
+    ensures { AnswersNetwork A (lines network.now) (output (W.taken out.old) (W.failures out.old))
         (output (W.taken out.new) (W.failures out.new)) result }
 {
     let answer = routing_answer(alloc, network)?;
     put_all(out, &answer.text)?;
-    Ok(answer.rising)
+    Ok(answer)
 }
 
 /// Prints the verdict on the network of a text as `network_text` does, and gives up the text once it is
-/// read: so it takes no memory while the network is judged.
+/// read: so it takes no memory while the network is judged. Answers whether the numbers rise.
 ///
 /// Errors: the text's first fault, or out of memory; and nothing was written then. If the output
 /// fails, a beginning was written.

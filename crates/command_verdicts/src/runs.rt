@@ -5,6 +5,7 @@ ghost use Rattle.std.specs.Str.Lines.{lines};
 ghost use Rattle.program_fault.specs.Done.{output};
 ghost use Rattle.command_verdicts.specs.PrintedRuns.{PrintsLockUp, PrintsReplay, PrintsSimulation};
 
+use network_answer::Answer;
 use network_rounds::Arbiter;
 use network_run::{replay_answer, run_answer};
 use network_traffic::simulation_answer;
@@ -14,7 +15,8 @@ use report_lines::output::put_all;
 use std::alloc::Allocator;
 
 /// Judges the network of a text whose channels hold so many flits, and prints the run by which it
-/// deadlocks; where there is none, the verdict. Answers whether the numbers of its channels rise.
+/// deadlocks; where there is none, the verdict. Answers with what was printed, whether the numbers of its
+/// channels rise, and why the verdict is so.
 ///
 /// Errors: the text's first fault, or out of memory; and nothing was written then. If the output
 /// fails, a beginning was written.
@@ -23,7 +25,7 @@ pub fn lock_up_text<A: Allocator + Copy, W: Out>(
     network: &[u8],
     depth: u64,
     out: &mut W,
-) -> Result<bool, ProgramFault>
+) -> Result<Answer<A>, ProgramFault>
     requires { depth ≤ 8 }
     ensures { PrintsLockUp A (lines network.now) depth
         (output (W.taken out.old) (W.failures out.old))
@@ -31,7 +33,7 @@ pub fn lock_up_text<A: Allocator + Copy, W: Out>(
 {
     let answer = run_answer(alloc, network, depth)?;
     put_all(out, &answer.text)?;
-    Ok(answer.rising)
+    Ok(answer)
 }
 
 /// Replays a run over the network of a text whose channels hold so many flits, and prints how it ends,

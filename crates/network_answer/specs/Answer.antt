@@ -23,6 +23,8 @@ use Rattle.network_judge.specs.declared.fill.Fill.{Fill}
 use Rattle.network_judge.specs.Jams.{IsJam}
 use Rattle.network_judge.specs.Table.{Table}
 use Rattle.network_answer.specs.Totals.{HasTotals}
+use Rattle.network_answer.specs.Causes.{next_place, verdict_causes}
+use Rattle.network_answer.specs.declared.causes.Cause.TheVariants as cause
 use Rattle.network_answer.specs.declared.totals.Totals.{Totals}
 use Rattle.network_judge.specs.LockUps.{LocksUp, HasOneFlitPackets}
 use Rattle.deadlock_laws.specs.Lengths.{LocksUpOf, HasPacketsOf}
@@ -54,10 +56,6 @@ why_words Round = codes "round for ever"
 abbrev pub by_line : ℕ → By → ℕ → List ℕ
 by_line x (To j) y = pair_line [] x (codes " to ") j (codes "\n")
 by_line x Replied y = pair_line [] x (codes " replies ") y (codes "\n")
-
--- the place of a cycle that comes after a place
-abbrev pub next_place : ℕ → ℕ → ℕ
-next_place n k = if k + 1 == n then 0 else k + 1
 
 -- the line of the link at a place of a cycle
 abbrev pub link_line : List Link → ℕ → List ℕ
@@ -208,17 +206,20 @@ pub record IsJudgedText {A : Type 0} (n : NetworkSpec) (v : Verdict A) (text : L
     pub totals : IsTotalsText n.table v last
     pub is : text ≡ jammed ++ (sized ++ last)
 
--- what the verdict of a network says, and whether its numbers rise
+-- what the verdict of a network says, whether its numbers rise, and why it is so
 pub record TellsNetworkVerdict {A : Type 0} (n : NetworkSpec) (a : Answer A) : Type 0 where
   pub verdict : Verdict A
   pub holds : IsVerdict n.table n.replies verdict
   pub text : IsJudgedText n verdict a.text.items
   pub rising : a.rising ≡ is_rising verdict
+  pub causes : a.causes.items ≡ verdict_causes verdict
+  pub kinds : a.kinds.items ≡ n.table.kinds
 
 -- what is said of a network without a source-destination pair: that it has none
 pub record SaysNoPair {A : Type 0} (a : Answer A) : Type 0 where
   pub text : a.text.items ≡ codes "no pair\n"
   pub rising : a.rising ≡ false
+  pub causes : a.causes.items ≡ cause.NoPair ∷ []
 
 -- what is said of a network with these pairs
 abbrev pub TellsOfPairs : {A : Type 0} → List Join → NetworkSpec → Answer A → Type 0

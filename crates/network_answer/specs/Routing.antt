@@ -12,6 +12,7 @@ use Rattle.network_text.specs.Network.{Reading, taken_cell}
 use Rattle.network_answer.specs.Answer.{pair_line, number_line, no_route_line}
 use Rattle.network_text.specs.Lines.{first_lines}
 use Rattle.network_answer.specs.Answer.{SaysNoPair, TellsFixedRoutes}
+use Rattle.network_answer.specs.Causes.{choosing_causes}
 use Rattle.network_judge.specs.declared.table.Join.{Join}
 use Rattle.network_adaptive.specs.declared.accepting.JudgedNet.{JudgedNet}
 use Rattle.network_adaptive.specs.declared.accepting.JudgedNet.TheVariants.{WrongPair, WrongChoice}
@@ -110,8 +111,8 @@ has_circuit (Judged v) = is_circuit v
 abbrev pub may_text : Bool → Bool → List ℕ
 may_text circuit free = if circuit && not free then codes "may lock up\n" else []
 
--- what is judged of a network whose routers choose, what stands behind it, and whether it never
--- deadlocks: its numbers rise, or all packets have one flit and such packets never deadlock
+-- what is judged of a network whose routers choose, what stands behind it, whether it never
+-- deadlocks: its numbers rise, or all packets have one flit and such packets never deadlock; and why
 pub record TellsJudged {A : Type 0} (t : ChoosingText) (a : Answer A) : Type 0 where
   pub judged : JudgedNet A
   pub marks : List Bool
@@ -124,6 +125,8 @@ pub record TellsJudged {A : Type 0} (t : ChoosingText) (a : Answer A) : Type 0 w
   pub text : a.text.items
       ≡ judgement_text t.fixed judged ++ (may_text (has_circuit judged) free ++ behind)
   pub rising : a.rising ≡ (judgement_rises judged || free)
+  pub causes : a.causes.items ≡ choosing_causes t judged
+  pub kinds : a.kinds.items ≡ t.fixed.table.kinds
 
 -- what is said of such a network with these pairs
 abbrev pub TellsChoosingOf : {A : Type 0} → List Join → ChoosingText → Answer A → Type 0

@@ -5,8 +5,10 @@ ghost use Rattle.std.specs.Str.Lines.{lines};
 ghost use Rattle.network_judge.specs.Verdicts.{IsVerdict};
 ghost use Rattle.network_answer.specs.Answer.{Answers, SaysNoPair, TellsFixedRoutes, is_rising};
 
+use crate::causes::{Cause, one_cause, verdict_causes};
 use crate::jam::judged_text;
-use network_judge::{Verdict, judge};
+use crate::short_cycle::judge_table;
+use network_judge::{Kind, Verdict};
 use network_text::network::{Network, read_network};
 use script::LineFault;
 use std::alloc::{AllocError, Allocator, Global};
@@ -19,6 +21,10 @@ pub struct Answer<A: Allocator = Global> {
     pub text: Vec<u8, A>,
     /// Whether the channels' numbers rise, or packets have one flit and never deadlock.
     pub rising: bool,
+    /// Why what is judged is so.
+    pub causes: Vec<Cause, A>,
+    /// The kinds of the channels that the causes name.
+    pub kinds: Vec<Kind, A>,
 }
 
 /// Whether a verdict has numbers.
@@ -32,7 +38,8 @@ pub(crate) fn is_rising<A: Allocator>(verdict: &Verdict<A>) -> bool
     }
 }
 
-/// Judges the network of a text.
+/// Judges the network of a text. A cycle is the shortest that searches in breadth find, which end where
+/// they came to many channels.
 ///
 /// Errors: out of memory.
 pub fn judge_network<A: Allocator + Copy>(
@@ -41,7 +48,7 @@ pub fn judge_network<A: Allocator + Copy>(
 ) -> Result<Verdict<A>, AllocError>
     ensures { IfOk result (IsVerdict network.now.table network.now.replies) }
 {
-    judge(
+    judge_table(
         alloc,
         network.kinds(),
         network.joins(),
@@ -61,6 +68,8 @@ pub fn no_pair<A: Allocator + Copy>(alloc: A) -> Result<Answer<A>, AllocError>
     Ok(Answer {
         text,
         rising: false,
+        causes: one_cause(alloc, Cause::NoPair)?,
+        kinds: Vec::new(alloc),
     })
 }
 
@@ -82,6 +91,8 @@ pub fn answered<A: Allocator + Copy>(
     Ok(Answer {
         text,
         rising: is_rising(&verdict),
+        causes: verdict_causes(alloc, &verdict)?,
+        kinds: Vec::from_slice(alloc, network.kinds())?,
     })
 }
 

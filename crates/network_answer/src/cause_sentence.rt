@@ -1,7 +1,8 @@
 //! The sentence of a cause, which names channels as the text does.
 
 use crate::causes::{Cause, Wait};
-use network_adaptive::NoEscape;
+use network_adaptive::shape::{Misfit, NoChoice};
+use network_adaptive::{NoEscape, Round};
 use network_judge::Kind;
 use network_judge::walk::kind_at;
 use network_text::Title;
@@ -61,9 +62,55 @@ impl<'a> CauseSentence<'a> {
     }
 }
 
+impl<'a> CauseSentence<'a> {
+    /// Writes where packets can go round.
+    fn put_round<W: fmt::Write>(&self, f: &mut fmt::Formatter<W>, round: Round) -> fmt::Result {
+        let (to, at) = (self.title(round.to), self.title(round.at));
+        write!(
+            f,
+            "packets to channel {to} can come back to channel {at}, so nothing bounds how far they go"
+        )
+    }
+
+    /// Writes why a choice can't stand.
+    fn put_choice<W: fmt::Write>(
+        &self,
+        f: &mut fmt::Formatter<W>,
+        choice: NoChoice,
+    ) -> fmt::Result {
+        let (to, at, next) = (
+            self.title(choice.to),
+            self.title(choice.at),
+            self.title(choice.next),
+        );
+        write!(
+            f,
+            "packets to channel {to} can't go from channel {at} on to channel {next}: "
+        )?;
+        f.write_str(match choice.why {
+            Misfit::Itself => "they are in it already",
+            Misfit::Injects => "senders alone put packets there",
+            Misfit::Ejects => "what goes there leaves the network at another receiver",
+        })
+    }
+}
+
 impl<'a> fmt::Display for CauseSentence<'a> {
     fn fmt<W: fmt::Write>(&self, f: &mut fmt::Formatter<W>) -> fmt::Result {
         match self.cause {
+            Cause::NoPair => f.write_str(
+                "no line says join, so no packets go anywhere, and nothing is judged",
+            ),
+            Cause::Chooses => f.write_str("routers choose among channels"),
+            Cause::AllEscapes => f.write_str("no line says escape, so all channels are escapes"),
+            Cause::Rises => f.write_str(
+                "the numbers rise along every route and over every reply, so no packets wait for one another in a circle",
+            ),
+            Cause::RisesByEscapes => f.write_str(
+                "the numbers rise along all ways from one escape to the next and over every reply, so packets never wait for one another's escapes in a circle",
+            ),
+            Cause::GoesRound(round) => self.put_round(f, round),
+            Cause::WrongChoice(choice) => self.put_choice(f, choice),
             Cause::NoRoute(pair) => {
                 let (from, to) = (self.title(pair.from), self.title(pair.to));
                 write!(

@@ -1,16 +1,20 @@
 //! Why the verdict on a network is as it is.
 
-ghost use Rattle.std.specs.Prelude.{◌≡◌, ◌<◌, [], ◌∷◌, length, map, IfOk};
+ghost use Rattle.std.specs.Prelude.{◌≡◌, ◌<◌, ◌++◌, [], ◌∷◌, length, map, IfOk};
 ghost use Rattle.std.specs.List.{range_with_len};
 ghost use Rattle.network_text.specs.Network.{taken_cell};
 ghost use Rattle.network_text.specs.Reading.{reading_of, IsRead};
 ghost use Rattle.network_answer.specs.Causes.{by_cause, link_cause, verdict_causes};
 ghost use Rattle.network_answer.specs.Causes.{how_cause, dependency_cause};
 ghost use Rattle.network_answer.specs.Causes.{chosen_causes, escape_cause, judged_causes};
+ghost use Rattle.network_answer.specs.Causes.{travel_causes, escape_words};
+ghost use Rattle.network_answer.specs.declared.causes.Cause.TheVariants.{RisesByEscapes};
+ghost use Rattle.network_text.specs.Choosing.{are_none};
 
 use crate::verdict::next_place;
 use network_adaptive::accepting::JudgedNet;
-use network_adaptive::{Dependency, How, NoEscape, Verdict as Chosen};
+use network_adaptive::shape::NoChoice as WrongChoice;
+use network_adaptive::{Dependency, How, NoEscape, Round, Travel, Verdict as Chosen};
 use network_judge::{By, Join, Link, Verdict};
 use network_text::reading::Reading;
 use std::alloc::{AllocError, Allocator};
@@ -31,6 +35,20 @@ pub struct Wait {
 /// Why a verdict is as it is.
 #[derive(Clone, Copy)]
 pub enum Cause {
+    /// There is no source-destination pair.
+    NoPair,
+    /// Routers choose among channels.
+    Chooses,
+    /// No line of the text names an escape, so all channels are escapes.
+    AllEscapes,
+    /// Numbers rise along each route and over each reply.
+    Rises,
+    /// Numbers rise along all ways from an escape to the next, and over each reply.
+    RisesByEscapes,
+    /// Packets can go round for ever.
+    GoesRound(Round),
+    /// A choice that can't stand.
+    WrongChoice(WrongChoice),
     /// Packets between these channels have no route.
     NoRoute(Join),
     /// Packets come to a channel behind which they have no choice.
@@ -48,7 +66,7 @@ pub enum Cause {
 /// The list of one cause.
 ///
 /// Errors: out of memory.
-fn one_cause<A: Allocator>(alloc: A, cause: Cause) -> Result<Vec<Cause, A>, AllocError>
+pub(crate) fn one_cause<A: Allocator>(alloc: A, cause: Cause) -> Result<Vec<Cause, A>, AllocError>
     ensures { IfOk result (λ causes. causes.items ≡ cause ∷ []) }
 {
     let mut causes = Vec::new(alloc);
@@ -95,8 +113,8 @@ fn link_causes<A: Allocator + Copy>(alloc: A, links: &[Link]) -> Result<Vec<Caus
     Ok(causes)
 }
 
-/// Why the verdict on a network of fixed routes is as it is: the source-destination pair without a route;
-/// or how each channel of the cycle leads on, and which run deadlocks.
+/// Why the verdict on a network of fixed routes is as it is: numbers that rise; or the source-destination
+/// pair without a route; or how each channel of the cycle leads on, and which run deadlocks.
 ///
 /// Errors: out of memory.
 pub fn verdict_causes<A: Allocator + Copy>(
@@ -106,7 +124,7 @@ pub fn verdict_causes<A: Allocator + Copy>(
     ensures { IfOk result (λ causes. causes.items ≡ verdict_causes verdict.now) }
 {
     match verdict {
-        Verdict::Rising(_) => Ok(Vec::new(alloc)),
+        Verdict::Rising(_) => one_cause(alloc, Cause::Rises),
         Verdict::NoRoute(r) => one_cause(alloc, Cause::NoRoute(r.join)),
         Verdict::Cycle(links) => {
             let mut causes = link_causes(alloc, links)?;
@@ -169,8 +187,23 @@ fn escape_cause<A: Allocator + Copy>(network: &Reading<A>, fault: NoEscape) -> C
     }
 }
 
-/// Why the verdict on a network whose routers choose is as it is: the channel without an escape, or how
-/// each channel of the cycle leads on.
+/// Why a network whose routers choose never deadlocks, and whether its packets can go round.
+///
+/// Errors: out of memory.
+fn rising_causes<A: Allocator>(alloc: A, travel: &Travel) -> Result<Vec<Cause, A>, AllocError>
+    ensures { IfOk result (λ causes. causes.items
+        ≡ RisesByEscapes ∷ travel_causes travel.now) }
+{
+    let mut causes = one_cause(alloc, Cause::RisesByEscapes)?;
+    match travel {
+        Travel::Bounded(_) => {}
+        Travel::Round(round) => causes.push(Cause::GoesRound(*round))?,
+    }
+    Ok(causes)
+}
+
+/// Why the verdict on a network whose routers choose is as it is: numbers that rise, the channel without
+/// an escape, or how each channel of the cycle leads on.
 ///
 /// Errors: out of memory.
 fn chosen_causes<A: Allocator + Copy>(
@@ -183,7 +216,7 @@ fn chosen_causes<A: Allocator + Copy>(
         ≡ chosen_causes (reading_of network.now) verdict.now) }
 {
     match verdict {
-        Chosen::Rising(_, _) => Ok(Vec::new(alloc)),
+        Chosen::Rising(_, travel) => rising_causes(alloc, travel),
         Chosen::NoEscape(fault) => one_cause(alloc, escape_cause(network, *fault)),
         Chosen::Cycle(edges) => dependency_causes(alloc, edges),
     }
@@ -192,7 +225,7 @@ fn chosen_causes<A: Allocator + Copy>(
 /// Why what is judged of a network whose routers choose is so.
 ///
 /// Errors: out of memory.
-pub fn judged_causes<A: Allocator + Copy>(
+fn judged_causes<A: Allocator + Copy>(
     alloc: A,
     network: &Reading<A>,
     judged: &JudgedNet<A>,
@@ -203,7 +236,40 @@ pub fn judged_causes<A: Allocator + Copy>(
 {
     match judged {
         JudgedNet::WrongPair(r) => one_cause(alloc, Cause::NoRoute(r.join)),
-        JudgedNet::WrongChoice(_) => Ok(Vec::new(alloc)),
+        JudgedNet::WrongChoice(choice) => one_cause(alloc, Cause::WrongChoice(*choice)),
         JudgedNet::Judged(verdict) => chosen_causes(alloc, network, verdict),
     }
+}
+
+/// That routers choose, and that all channels are escapes, where no line of a text names one.
+///
+/// Errors: out of memory.
+fn escape_words<A: Allocator>(alloc: A, escapes: &[u32]) -> Result<Vec<Cause, A>, AllocError>
+    ensures { IfOk result (λ causes. causes.items ≡ escape_words (are_none escapes.now)) }
+{
+    let mut causes = one_cause(alloc, Cause::Chooses)?;
+    match escapes {
+        [] => causes.push(Cause::AllEscapes)?,
+        [_, ..] => {}
+    }
+    Ok(causes)
+}
+
+/// Why what is judged of a network whose routers choose, with these escapes, is so.
+///
+/// Errors: out of memory.
+pub fn choosing_causes<A: Allocator + Copy>(
+    alloc: A,
+    network: &Reading<A>,
+    escapes: &[u32],
+    judged: &JudgedNet<A>,
+) -> Result<Vec<Cause, A>, AllocError>
+    requires { IsRead network.now }
+    ensures { IfOk result (λ causes. causes.items
+        ≡ escape_words (are_none escapes.now) ++ judged_causes (reading_of network.now) judged.now) }
+{
+    let mut causes = escape_words(alloc, escapes)?;
+    let others = judged_causes(alloc, network, judged)?;
+    causes.extend_from_slice(&others)?;
+    Ok(causes)
 }

@@ -3,23 +3,24 @@
 #![tactic(auto)]
 
 pub mod answer;
+mod breadth;
 pub mod cause_sentence;
 pub mod causes;
 mod going;
 pub mod jam;
 pub mod judgement;
-pub mod judging;
+mod judging;
 mod lengths;
 pub mod one_flit;
 pub mod routing;
+pub mod short_cycle;
 pub mod totals;
 pub mod verdict;
 
 pub use answer::{Answer, judge_network, network_answer};
 pub use cause_sentence::CauseSentence;
-pub use causes::{Cause, Wait, judged_causes, verdict_causes};
+pub use causes::{Cause, Wait, verdict_causes};
 pub use jam::judged_text;
-pub use judging::judged_of;
 pub use routing::{routing_answer, routing_answer_once};
 pub use totals::{Totals, totals_of};
 pub use verdict::verdict_text;

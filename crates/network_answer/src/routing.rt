@@ -9,6 +9,7 @@ ghost use Rattle.lexer.specs.Outcome.{Gives};
 ghost use Rattle.network_text.specs.Choosing.{text_or_why};
 
 use crate::answer::{Answer, answered, no_pair};
+use crate::causes::choosing_causes;
 use crate::judgement::{has_circuit, judgement_text, put_may};
 use crate::judging::{judgement_of, never_locks_up};
 use crate::one_flit::{behind_text, is_free};
@@ -52,7 +53,14 @@ fn answered_choosing<A: Allocator + Copy>(
     put_may(&mut text, circuit, free)?;
     text.extend_from_slice(&behind.text)?;
     let rising = never_locks_up(&it.judged, free);
-    Ok(Answer { text, rising })
+    let causes = choosing_causes(alloc, fixed, &network.escapes, &it.judged)?;
+    let kinds = Vec::from_slice(alloc, &fixed.kinds)?;
+    Ok(Answer {
+        text,
+        rising,
+        causes,
+        kinds,
+    })
 }
 
 /// Judges the network of a text, and makes the text of what is judged.

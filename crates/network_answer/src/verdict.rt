@@ -3,7 +3,8 @@
 ghost use Rattle.std.specs.Prelude.{◌≡◌, ◌++◌, ◌<◌, length, decimal, IfOk, OnOk};
 ghost use Rattle.network_answer.specs.Answer.{verdict_text, pair_line, number_line};
 ghost use Rattle.network_text.specs.Lines.{first_lines};
-ghost use Rattle.network_answer.specs.Answer.{why_words, by_line, link_line, next_place};
+ghost use Rattle.network_answer.specs.Answer.{why_words, by_line, link_line};
+ghost use Rattle.network_answer.specs.Causes.{next_place};
 ghost use Rattle.network_answer.specs.Answer.{no_route_line};
 
 use itoa::Buffer;

@@ -6,6 +6,7 @@ use Rattle.network_judge.specs.declared.table.Verdict.TheVariants.{Rising, NoRou
 use Rattle.network_judge.specs.Verdicts.{IsVerdict}
 use Rattle.network_text.specs.Network.{NetworkSpec}
 use Rattle.network_answer.specs.Answer.{is_rising}
+use Rattle.network_answer.specs.Causes.{verdict_causes}
 use Rattle.network_answer.specs.declared.answer.Answer.{Answer}
 use Rattle.network_machine.specs.declared.moves.Move.{Move}
 use Rattle.network_run.specs.Printed.{IsLockingRun, FindsRun, IsOfCycle, IsOfVerdict, AnswersRun}
@@ -24,10 +25,12 @@ of_verdict n depth (Cycle links) moves text finds is = of_cycle n depth (Cycle l
 
 pub run_told : {A : Type 0} (n : NetworkSpec) (depth : ℕ) (v : Verdict A) (found : Option (Vec Move A)) (moves : Vec Move A) (lent : List Move) (a : Answer A)
     → found ≡ Some moves → FindsRun n depth v found → IsVerdict n.table n.replies v → a.text.items ≡ moves_text lent → lent ≡ moves.items
-    → a.rising ≡ is_rising v → AnswersRun n depth a
-run_told n depth v found moves lent a some finds holds text same rises = record {
+    → a.rising ≡ is_rising v → a.causes.items ≡ verdict_causes v → a.kinds.items ≡ n.table.kinds → AnswersRun n depth a
+run_told n depth v found moves lent a some finds holds text same rises why kinds = record {
   verdict = v;
   holds = holds;
   text = of_verdict n depth v moves a.text.items (subst (λ (f : Option (Vec Move _)). FindsRun n depth v f) some finds) (text ∙ ap moves_text same);
   rising = rises;
+  causes = why;
+  kinds = kinds;
 }

@@ -7,6 +7,7 @@ use Rattle.network_judge.specs.declared.table.Verdict.TheVariants.{Rising, NoRou
 use Rattle.network_judge.specs.Verdicts.{IsVerdict}
 use Rattle.network_text.specs.Network.{NetworkSpec}
 use Rattle.network_answer.specs.Answer.{verdict_text, is_rising, SaysNoPair}
+use Rattle.network_answer.specs.Causes.{verdict_causes}
 use Rattle.network_answer.specs.declared.answer.Answer.{Answer}
 use Rattle.network_machine.specs.declared.moves.Move.{Move}
 use Rattle.network_run.specs.LockedUp.{MovesLockUp}
@@ -41,12 +42,14 @@ IsOfVerdict {A} n depth (NoRoute r) text = text ≡ verdict_text {A = A} (NoRout
 IsOfVerdict {A} n depth (Cycle links) text = IsOfCycle {A = A} n depth (Cycle links) text
 
 -- what is answered of a network: the text of a run by which it deadlocks, where there is a cycle, and
--- else that of its verdict; and whether its numbers rise
+-- else that of its verdict; whether its numbers rise, and why
 pub record AnswersRun {A : Type 0} (n : NetworkSpec) (depth : ℕ) (a : Answer A) : Type 0 where
   pub verdict : Verdict A
   pub holds : IsVerdict n.table n.replies verdict
   pub text : IsOfVerdict n depth verdict a.text.items
   pub rising : a.rising ≡ is_rising verdict
+  pub causes : a.causes.items ≡ verdict_causes verdict
+  pub kinds : a.kinds.items ≡ n.table.kinds
 
 -- what is answered of a network with these pairs
 abbrev pub TellsRunOf : {A : Type 0} → List Join → NetworkSpec → ℕ → Answer A → Type 0

@@ -9,7 +9,7 @@ ghost use Rattle.network_run.specs.Printed.{FindsRun, IsLockingRun, AnswersRun, 
 use crate::filling::filling_moves;
 use crate::writing::moves_text;
 use network_answer::answer::no_pair;
-use network_answer::{Answer, judge_network, verdict_text};
+use network_answer::{Answer, judge_network, verdict_causes, verdict_text};
 use network_judge::{Fill, Link, Verdict, find_jam};
 use network_machine::Move;
 use network_text::Network;
@@ -99,14 +99,20 @@ fn judged_run<A: Allocator + Copy>(
     let verdict = judge_network(alloc, network)?;
     let found = run_of(alloc, network, &verdict, depth)?;
     let rising = is_rising(&verdict);
+    let causes = verdict_causes(alloc, &verdict)?;
+    let kinds = Vec::from_slice(alloc, network.kinds())?;
     match found {
         Some(moves) => Ok(Answer {
             text: moves_text(alloc, &moves)?,
             rising,
+            causes,
+            kinds,
         }),
         None => Ok(Answer {
             text: verdict_text(alloc, &verdict)?,
             rising,
+            causes,
+            kinds,
         }),
     }
 }

@@ -15,6 +15,7 @@ use command_verdicts::{
 };
 use model_answer::{AskedModel, MemoryModel};
 use model_replies::ValueOptions;
+use network_answer::Answer;
 use network_rounds::Arbiter;
 use program_fault::{ProgramFault, Texts};
 use report_lines::Out;
@@ -48,7 +49,8 @@ pub(crate) enum Outcome {
     Decided(Decided, MemoryModel),
 }
 
-/// The answer of the job; `ending` is shown what a run reached.
+/// The answer of the job; `ending` is shown what a run reached, and what a network is judged to be stands in
+/// `told` then.
 pub(crate) fn answer<R: Eprint + Clock + AllocGlobal + Threads + Wait + Sync, W: Out, E: Ending>(
     rt: &R,
     job: &Job,
@@ -56,14 +58,17 @@ pub(crate) fn answer<R: Eprint + Clock + AllocGlobal + Threads + Wait + Sync, W:
     is_seen: bool,
     out: &mut W,
     ending: &mut E,
+    told: &mut Option<Answer<Global>>,
 ) -> Result<Outcome, ProgramFault>
     requires { AreJobLimits job.now }
 {
     let alloc = rt.alloc();
     let first = texts.first.as_slice();
     match *job {
-        Job::Network { .. } => sound(network_text(alloc, first, out)),
-        Job::LockUp { depth, .. } => sound(lock_up_text(alloc, first, u64::from(depth), out)),
+        Job::Network { .. } => network_sound(network_text(alloc, first, out), told),
+        Job::LockUp { depth, .. } => {
+            network_sound(lock_up_text(alloc, first, u64::from(depth), out), told)
+        }
         Job::Replay { depth, .. } => {
             let run = texts.second.as_slice();
             sound(replay_network_text(alloc, first, run, u64::from(depth), out))
@@ -127,7 +132,18 @@ pub(crate) fn answer<R: Eprint + Clock + AllocGlobal + Threads + Wait + Sync, W:
     }
 }
 
-/// The answer of a job that judges a network, or replays a run or sends packets over one.
+/// The answer of a job that judges a network, which stands in `told` then.
+fn network_sound(
+    answer: Result<Answer<Global>, ProgramFault>,
+    told: &mut Option<Answer<Global>>,
+) -> Result<Outcome, ProgramFault> {
+    let answer = answer?;
+    let rising = answer.rising;
+    *told = Some(answer);
+    Ok(Outcome::Sound(rising))
+}
+
+/// The answer of a job that replays a run of a network or sends packets over one.
 fn sound(is_sound: Result<bool, ProgramFault>) -> Result<Outcome, ProgramFault> {
     Ok(Outcome::Sound(is_sound?))
 }

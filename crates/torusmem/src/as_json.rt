@@ -10,6 +10,7 @@ use command_line::{Job, Request};
 use command_verdicts::{
     Verdict, decided_status, json_object, judged_verdict, model_verdict, verdict_of_status,
 };
+use network_answer::Answer;
 use program_fault::{Failure, ProgramFault, Texts, Unread, explain_unread, fault_text, status_of};
 use report_lines::Piped;
 use std::alloc::{AllocError, Global};
@@ -110,6 +111,7 @@ fn gathered<R: Eprint + Clock + AllocGlobal + Threads + Wait + Sync>(
     texts: &Texts,
     is_seen: bool,
     text: &mut Vec<u8, Global>,
+    told: &mut Option<Answer<Global>>,
 ) -> Result<Outcome, ProgramFault>
     requires { AreJobLimits job.now }
 {
@@ -122,6 +124,7 @@ fn gathered<R: Eprint + Clock + AllocGlobal + Threads + Wait + Sync>(
         is_seen,
         &mut Piped::new(&mut judging),
         &mut end,
+        told,
     );
     judging.end();
     match outcome {
@@ -165,12 +168,13 @@ fn texts_as_json<R: Print + Eprint + Clock + AllocGlobal + Threads + Wait + Sync
 {
     let is_explained = request.explain || is_seen;
     let mut text = Vec::new(rt.alloc());
-    match gathered(rt, &request.job, texts, is_seen, &mut text) {
+    let mut told = None;
+    match gathered(rt, &request.job, texts, is_seen, &mut text, &mut told) {
         Ok(outcome) => {
             let status = outcome_status(&outcome);
             let status = object_told(rt, command, verdict_of(&outcome), &text, status);
             if is_explained {
-                explain_outcome(rt, &request.job, texts, &outcome);
+                explain_outcome(rt, &request.job, texts, &outcome, &told);
             }
             status
         }

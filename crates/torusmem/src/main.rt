@@ -21,6 +21,7 @@ use command_line::{Job, Request, asks_commands, asks_version, name_of, request_t
 use command_verdicts::network_text_once;
 use judging::Judging;
 use model_answer::AskedModel;
+use network_answer::Answer;
 use network_rounds::Arbiter;
 use program_fault::{ProgramFault, Texts};
 use report_lines::Piped;
@@ -143,11 +144,12 @@ fn other_done<R: Files + Input + Print + Eprint + Clock + AllocGlobal + Threads 
     {
         return network_told(rt, texts.first);
     }
-    match printed(rt, request, &texts, is_seen) {
+    let mut told = None;
+    match printed(rt, request, &texts, is_seen, &mut told) {
         Ok(outcome) => {
             let status = status_told(rt, &outcome);
             if is_explained {
-                explain_outcome(rt, &request.job, &texts, &outcome);
+                explain_outcome(rt, &request.job, &texts, &outcome, &told);
             }
             status
         }
@@ -190,13 +192,15 @@ fn json_of(request: &Request) -> Option<&'static str> {
     }
 }
 
-/// The answer of the job, whose output was written to its last byte. How a run ended is printed behind
-/// its report, where that is asked for or standard error `is_seen`.
+/// The answer of the job, whose output was written to its last byte; what a network is judged to be stands in
+/// `told` then. How a run ended is printed behind its report, where that is asked for or standard error
+/// `is_seen`.
 fn printed<R: Input + Print + Eprint + Clock + AllocGlobal + Threads + Wait + Sync>(
     rt: &R,
     request: &Request,
     texts: &Texts,
     is_seen: bool,
+    told: &mut Option<Answer<Global>>,
 ) -> Result<Outcome, ProgramFault>
     requires { AreJobLimits request.now.job }
 {
@@ -209,7 +213,7 @@ fn printed<R: Input + Print + Eprint + Clock + AllocGlobal + Threads + Wait + Sy
     let mut writer = writer(rt)?;
     let mut judging = Judging::begin(rt, &mut writer, &request.job, texts, is_seen);
     let mut out = Piped::new(&mut judging);
-    let outcome = answer(rt, &request.job, texts, is_seen, &mut out, &mut end);
+    let outcome = answer(rt, &request.job, texts, is_seen, &mut out, &mut end, told);
     judging.end();
     let outcome = outcome?;
     flushed(&mut writer)?;

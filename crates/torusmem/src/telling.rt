@@ -12,7 +12,9 @@ use command_verdicts::{
 };
 use model_answer::WrongSentence;
 use model_replies::{AlikeSentence, UnwrittenSentence};
+use network_answer::Answer;
 use program_fault::{ProgramFault, Texts, explain, status_of};
+use std::alloc::Global;
 use std::fmt;
 
 /// What standard error says of an answer: that a trace has no order or that it isn't decided, that
@@ -106,18 +108,17 @@ pub(crate) fn status_told<R: Eprint>(rt: &R, outcome: &Outcome) -> u8 {
     outcome_status(outcome)
 }
 
-/// Says why a trace has no order from a line on, or why the verdict on a network is as it is,
-/// where that is the answer.
+/// Says why a trace has no order from a line on, or why the verdict on a network is as it is, of which this
+/// was told, where that is the answer.
 pub(crate) fn explain_outcome<R: Eprint + AllocGlobal>(
     rt: &R,
     job: &Job,
     texts: &Texts,
     outcome: &Outcome,
+    told: &Option<Answer<Global>>,
 ) {
-    if let (Job::Network { network } | Job::LockUp { network, .. }, Outcome::Sound(_)) = (
-        *job, *outcome,
-    ) {
-        explain_verdict(rt, network, &texts.first);
+    if let (Job::Network { network } | Job::LockUp { network, .. }, Some(answer)) = (*job, told) {
+        explain_verdict(rt, network, &texts.first, answer);
     }
     if let (Job::Linearize { trace, .. }, Outcome::Judged(judged, bounds)) = (*job, *outcome)
         && let Judged::NotLinearizable { line } | Judged::NotLinearizableBy { line, .. } = judged

@@ -186,7 +186,7 @@ def duato_verdict(net: Network, walks: Callable[[Network], Walk] = Walk) -> Adap
     return AdaptiveVerdict("cycle", turns=turns, dead=greatest_dead_set(net), is_short=net.flits == 1)
 
 
-def shortest_cycle(edges: Dict[Tuple[int, int], Edge]) -> List[int]:
+def shortest_cycle(edges: Iterable[Tuple[int, int]]) -> List[int]:
     """The channels of a cycle of the fewest edges; there is one."""
     after: Dict[int, List[int]] = {}
     for x, y in sorted(edges):

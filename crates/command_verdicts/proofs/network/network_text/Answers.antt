@@ -1,5 +1,4 @@
 -- The whole text of what is judged was taken; or, where the output failed, a beginning of it.
-use Rattle.std.proofs.Common.{refl}
 use Rattle.std.proofs.lemmas.Result.{err_from_is_err_and}
 use Rattle.command_verdicts.proofs.network.network_text.Goals as goal
 
@@ -8,16 +7,14 @@ returns-in_err-put_all g c =
     let p = err_from_is_err_and c.from_residual-in_err-put_all.result c.from_residual-in_err-put_all.ensures.1 in
     let told = c.in_ok-answer.ensures in
     rw (p.1, p.2) (
-      c.in_ok-answer.answer.rising,
+      c.in_ok-answer.answer,
       (
         c.deref.result.now,
         record {
           network = told.0;
           read = told.1;
-          answer = c.in_ok-answer.answer;
           tells = told.2;
           is = c.deref.ensures.value;
-          rises = refl;
         },
         record { bytes = c.in_err-put_all.ensures.err; failed = c.in_err-put_all.ensures.failed },
       ),
@@ -30,10 +27,8 @@ returns g c =
       record {
         network = told.0;
         read = told.1;
-        answer = c.in_ok-answer.answer;
         tells = told.2;
         is = c.deref.ensures.value;
-        rises = refl;
       },
       record { bytes = c.in_ok-put_all.ensures.ok; quiet = c.in_ok-put_all.ensures.quiet },
     )

@@ -1,9 +1,11 @@
-use Rattle.std.specs.Prelude.{◌&&◌}
-use Rattle.std.proofs.Common.{◌+◌, ◌<◌, ◌++◌, length, sym, subst, ap, ◌∙◌, arith}
+use Rattle.std.specs.Prelude.{◌&&◌, Vec}
+use Rattle.std.proofs.Common.{ℕ, ◌+◌, ◌<◌, ◌++◌, length, sym, subst, ap, ◌∙◌, arith}
 use Rattle.std.proofs.lemmas.Bool.Decides.{nat_tests}
 use Rattle.network_text.specs.Reading.{IsRead, reading_of}
 use Rattle.network_text.specs.ChoiceLists.{choice_list}
 use Rattle.network_text.specs.ChoosingRead.{choosing_text_of}
+use Rattle.network_text.specs.Choosing.{are_none}
+use Rattle.network_answer.specs.Causes.{escape_words, judged_causes}
 use Rattle.network_answer.specs.Routing.{judgement_text, has_circuit, may_text}
 use Rattle.network_answer.proofs.Sized.{three_parts}
 use Rattle.network_answer.specs.OneFlit.{is_one_flit}
@@ -12,6 +14,9 @@ use Rattle.network_answer.proofs.routing.answered_choosing.Goals as goal
 
 pub judgement_text-requires : goal.judgement_text-requires
 judgement_text-requires g c = subst (λ r. IsRead {A = g.row.A.Denot} r) (sym c.in_ok-it.ensures.fixed) c.requires.read.fixed
+
+pub choosing_causes-requires : goal.choosing_causes-requires
+choosing_causes-requires g c = subst (λ r. IsRead {A = g.row.A.Denot} r) (sym c.in_ok-it.ensures.fixed) c.requires.read.fixed
 
 pub behind_text-requires-clause-read : goal.behind_text-requires-clause-read
 behind_text-requires-clause-read g c = subst (λ r. IsRead {A = g.row.A.Denot} r) (sym c.in_ok-it.ensures.fixed) c.requires.read.fixed
@@ -50,4 +55,9 @@ returns g c =
           ∙ ap (λ b. judgement_text t.fixed judged ++ may_text b free) c.has_circuit-circuit.ensures))
           (c.in_ok-extend_from_slice.ensures.items ∙ ap (λ s. c.put_may.new.out.items ++ s) c.deref-3.ensures.value);
       rising = c.never_locks_up-rising.ensures;
+      causes = c.in_ok-causes.ensures
+          ∙ (ap (λ e. escape_words (are_none e) ++ judged_causes (reading_of c.judgement_of.new.network.fixed) judged)
+          (c.deref-4.ensures.value ∙ ap (λ (e : Vec ℕ g.row.A.Denot). e.items) c.in_ok-it.ensures.escapes)
+          ∙ ap (λ f. escape_words (are_none n.escapes.items) ++ judged_causes (reading_of f) judged) c.in_ok-it.ensures.fixed);
+      kinds = c.in_ok-kinds.ensures.items ∙ (c.deref-5.ensures.value ∙ ap (λ f. (reading_of f).table.kinds) c.in_ok-it.ensures.fixed);
     })
