@@ -1,11 +1,12 @@
 -- Answers on a log by what its replies tell.
-use Rattle.std.proofs.Common.{◌≡◌, ℕ, List, ap, subst}
+use Rattle.std.proofs.Common.{◌≡◌, ℕ, List, length, ap, subst}
 use Rattle.memory_models.specs.declared.kinds.Operation.{Operation}
 use Rattle.model_text.specs.declared.logged.Logged.{Logged}
 use Rattle.model_text.specs.Made.{LogLines}
 use Rattle.model_text.specs.Traces.{logged_at, steps_of_log}
 use Rattle.model_values.specs.declared.valued.Valued.{Valued}
 use Rattle.model_values.specs.Values.{AreAlikeValues}
+use Rattle.model_answer.specs.declared.weak.Doubts.{Doubts}
 use Rattle.model_answer.specs.Weak.{doubts_on}
 use Rattle.model_replies.specs.declared.answer.ValueAnswer.{ValueAnswer}
 use Rattle.model_replies.specs.declared.answer.ValueOptions.{ValueOptions}
@@ -17,16 +18,17 @@ use Rattle.model_replies.specs.Answers.{HasNoAnswerOn, HasVerdicts, IsValueAnswe
 use Rattle.model_replies.specs.Judged.{AreValueVerdicts, IsUnsaid}
 use Rattle.model_replies.specs.Steps.{IsValuedOf, TellsValues, unplaced_operations}
 
-pub answered : {A : Type 0} (log : LogLines) (options : ValueOptions) (v : Valued) (t : ValuedLog A) (all : ValueVerdicts A) (a : ValueAnswer A)
-    → TellsValues log t → IsValuedOf log v → AreValueVerdicts v options.nodes all → HasVerdicts options t.openings t.steps.items (doubts_on log) all a
-    → IsValueAnswerOn log options a
-answered log options v t all a tells told judged is = record {
+pub answered : {A : Type 0} (log : LogLines) (options : ValueOptions) (v : Valued) (t : ValuedLog A) (doubts : Doubts) (all : ValueVerdicts A)
+    (a : ValueAnswer A) → TellsValues log t → IsValuedOf log v → doubts ≡ doubts_on log → AreValueVerdicts v options.nodes all
+    → HasVerdicts options t.openings t.steps.items doubts all a → IsValueAnswerOn log options a
+answered log options v t doubts all a tells told e judged is = record {
   valued = v;
   told = told;
   verdicts = all;
   judged = judged;
-  is = subst (λ (n : ℕ). HasVerdicts options n (steps_of_log log) (doubts_on log) all a) tells.openings
-      (subst (λ (s : List Logged). HasVerdicts options t.openings s (doubts_on log) all a) tells.steps is);
+  is = subst (λ (d : Doubts). HasVerdicts options (length log.addresses) (steps_of_log log) d all a) e
+      (subst (λ (n : ℕ). HasVerdicts options n (steps_of_log log) doubts all a) tells.openings
+      (subst (λ (s : List Logged). HasVerdicts options t.openings s doubts all a) tells.steps is));
 }
 
 pub unanswered : (log : LogLines) (v : Valued) (steps : List Logged) (why : Unsaid) → steps ≡ steps_of_log log → IsValuedOf log v → IsUnsaid v why
