@@ -1,5 +1,5 @@
 -- Answers on a log by what its replies tell.
-use Rattle.std.proofs.Common.{◌≡◌, ℕ, List, length, ap, subst}
+use Rattle.std.proofs.Common.{◌≡◌, ℕ, List, length, ap, subst, Result, Ok, Err, IfOk}
 use Rattle.memory_models.specs.declared.kinds.Operation.{Operation}
 use Rattle.model_text.specs.declared.logged.Logged.{Logged}
 use Rattle.model_text.specs.Made.{LogLines}
@@ -8,6 +8,7 @@ use Rattle.model_values.specs.declared.valued.Valued.{Valued}
 use Rattle.model_values.specs.Values.{AreAlikeValues}
 use Rattle.model_answer.specs.declared.weak.Doubts.{Doubts}
 use Rattle.model_answer.specs.Weak.{doubts_on}
+use Rattle.model_replies.specs.declared.answer.NoValueAnswer.{NoValueAnswer}
 use Rattle.model_replies.specs.declared.answer.ValueAnswer.{ValueAnswer}
 use Rattle.model_replies.specs.declared.answer.ValueOptions.{ValueOptions}
 use Rattle.model_replies.specs.declared.judging.Unsaid.{Unsaid}
@@ -30,6 +31,13 @@ answered log options v t doubts all a tells told e judged is = record {
       (subst (λ (n : ℕ). HasVerdicts options n (steps_of_log log) doubts all a) tells.openings
       (subst (λ (s : List Logged). HasVerdicts options t.openings s doubts all a) tells.steps is));
 }
+
+-- an answer that came is one on the log
+pub answered_if : {A : Type 0} (log : LogLines) (options : ValueOptions) (v : Valued) (t : ValuedLog A) (doubts : Doubts) (all : ValueVerdicts A)
+    (r : Result (ValueAnswer A) NoValueAnswer) → TellsValues log t → IsValuedOf log v → doubts ≡ doubts_on log → AreValueVerdicts v options.nodes all
+    → IfOk r (HasVerdicts options t.openings t.steps.items doubts all) → IfOk r (IsValueAnswerOn log options)
+answered_if log options v t doubts all (Ok a) tells told e judged is = answered log options v t doubts all a tells told e judged is
+answered_if log options v t doubts all (Err why) tells told e judged is = tt
 
 pub unanswered : (log : LogLines) (v : Valued) (steps : List Logged) (why : Unsaid) → steps ≡ steps_of_log log → IsValuedOf log v → IsUnsaid v why
     → HasNoAnswerOn log (no_answer_of steps why)
