@@ -515,6 +515,8 @@ static torusmem_decided decided_of(const char *log, uint64_t nodes, uint32_t ord
 /* Which models a log obeys by its replies alone: store buffering breaks sequential consistency and no other. */
 static void replies_are_judged(void) {
   static const char *buffers = "log 1\nwords 2\nmade 0 store 0 1\nmade 0 load 1\nmade 1 store 1 1\nmade 1 load 0\nreplied 0 1 0\nreplied 1 1 0\n";
+  static const char *annotated = "log 1\nwords 2\nmade 0 store 0 1\nmade 0 load 1 acquire\nmade 1 store 1 1\nmade 1 load 0\nreplied 0 1 0\nreplied 1 1 0\n";
+  static const char *left_open = "coherent yes\nfenced not told: the log has annotations or weaker fences\npso not told: ";
   static const char *none = "log 1\nwords 2\nmade 0 load 1\nreplied 0 0 3\n";
   static const char *text = "coherent yes\nfenced yes\npso yes\ntso yes\nsc no\n";
   torusmem_decided said = decided_of(buffers, 10000, 0, MOST_BYTES);
@@ -526,6 +528,9 @@ static void replies_are_judged(void) {
   said = decided_of(buffers, 10000, 1, MOST_BYTES);
   MUST(said.code == TORUSMEM_OK && said.value > strlen(text) && memcmp(written.bytes, text, strlen(text)) == 0);
   MUST(memcmp(written.bytes + strlen(text), "an order of tso:\n", 17) == 0 && written.bytes[said.value] == 0xAA && live == 0);
+  said = decided_of(annotated, 10000, 0, MOST_BYTES);
+  MUST(said.code == TORUSMEM_OK && said.obeyed == TORUSMEM_COHERENT && said.broken == TORUSMEM_SC && live == 0);
+  MUST(memcmp(written.bytes, left_open, strlen(left_open)) == 0 && written.bytes[said.value] == 0xAA);
   said = decided_of(none, 10000, 0, MOST_BYTES);
   MUST(said.code == TORUSMEM_UNWRITTEN && said.value == 4 && said.obeyed == 0 && said.broken == 0 && said.other == 0 && live == 0);
   said = decided_of("log 1\nwords 2\nmade 0 store 1 3\nmade 1 store 1 3\n", 10000, 0, MOST_BYTES);

@@ -673,7 +673,8 @@ torusmem_models torusmem_model(uint64_t words, const torusmem_log_entry *entries
 typedef struct torusmem_decided {
   uint32_t code;   /* OK, SHORT, UNWRITTEN, ALIKE or a fault */
   uint32_t obeyed; /* of OK and SHORT: the models that it obeys; else 0 */
-  uint32_t broken; /* of OK and SHORT: those that it breaks; of the others nothing is decided; else 0 */
+  uint32_t broken; /* of OK and SHORT: those that it breaks; else 0. A model is in neither where the search gave up, or
+                      annotations or weaker fences leave it open: the text says which */
   uint64_t value;  /* of OK and SHORT: the length of the text; else the line at fault, from 1 */
   uint64_t other;  /* of ALIKE: the line of the second write; else 0 */
 } torusmem_decided;
@@ -681,8 +682,8 @@ typedef struct torusmem_decided {
 /* Judges the log of a log text (docs/FORMATS.md, "Log text") by five memory models, by what processors made and what was replied
    alone: whether some order of each word's writes, and some write for each load, lets it obey a model. nodes: how many are
    looked at for each model; 10000 is what the program takes. Needs no machine.
-   The text that `model --values` prints is put into a buffer: a line for each model, as `tso yes` or `tso undecided: more than
-   10000 nodes`; then, unless order is 0, an order of the strongest that it obeys. Each yes and each no is proved.
+   The text that `model --values` prints is put into a buffer: a line for each model, as `tso yes`, or why it has neither yes
+   nor no; then, unless order is 0, an order of the strongest that it obeys. Each yes and each no is proved.
    OK: the text is the first `value` bytes of out, and the bytes behind them are as they were.
    SHORT: `value` is what the text needs, and out is as it was; so is it on all other codes.
    UNWRITTEN: no order explains the log, so every model is broken. ALIKE: nothing is decided. A fault: of line `value`,

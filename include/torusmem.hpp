@@ -441,7 +441,8 @@ inline obeyed model(uint64_t words, span<const torusmem_log_entry> entries, bool
 }
 
 // The verdict on a log text by its replies alone: the models that it obeys, those that it breaks, and the text that the
-// program prints; or the line of a reply that no write left, or the lines of two writes that leave the same.
+// program prints; or the line of a reply that no write left, or the lines of two writes that leave the same. A model is in
+// neither sum where the search gave up, or annotations or weaker fences leave it open.
 struct decided {
   uint32_t code;            // OK, UNWRITTEN or ALIKE
   uint32_t obeyed, broken;  // sums of TORUSMEM_COHERENT to TORUSMEM_SC

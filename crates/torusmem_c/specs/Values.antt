@@ -1,5 +1,5 @@
 -- The models that a log obeys by its replies alone, as C sees them (this project's own format).
-use Rattle.std.specs.Prelude.{◌≡◌, ℕ, ◌==◌, not, Bool, true, false, List, length, Option, Some, None}
+use Rattle.std.specs.Prelude.{◌≡◌, ℕ, ◌==◌, not, List, length, Option, Some, None}
 use Rattle.script.specs.Outcome.{fault_of_refusal}
 use Rattle.model_text.specs.declared.logged.Logged.{Logged}
 use Rattle.model_text.specs.declared.logged.Told.{Told}
@@ -10,10 +10,9 @@ use Rattle.model_replies.specs.declared.answer.NoValueAnswer.TheVariants.{Refuse
 use Rattle.model_replies.specs.declared.answer.NoValueAnswer.TheVariants.{Unwritten, Memory}
 use Rattle.model_replies.specs.declared.answer.ValueAnswer.{ValueAnswer}
 use Rattle.model_replies.specs.declared.answer.ValueOptions.{ValueOptions}
-use Rattle.model_replies.specs.declared.decision.Decision.{Decision}
-use Rattle.model_replies.specs.declared.decision.Decision.TheVariants as decision
 use Rattle.model_replies.specs.declared.decision.Decisions.{Decisions}
 use Rattle.model_replies.specs.Answers.{HasNoAnswerTo, IsValueAnswerTo}
+use Rattle.model_replies.specs.Judged.{is_broken}
 use Rattle.model_replies.specs.Printed.{obeyed_by}
 use Rattle.torusmem_c.specs.declared.values.ValuesRecord.{ValuesRecord}
 use Rattle.torusmem_c.specs.declared.outcome.Code.{Code}
@@ -22,12 +21,6 @@ use Rattle.torusmem_c.specs.declared.outcome.Outcome.{Outcome}
 use Rattle.torusmem_c.specs.Models.{models_number}
 use Rattle.torusmem_c.specs.Outcome.{c_code, c_outcome, fault_outcome, no_memory}
 use Rattle.torusmem_c.specs.Room.{put_over, put_code}
-
--- whether a model is broken for certain
-abbrev pub is_broken : Decision → Bool
-is_broken decision.Obeys = false
-is_broken decision.Breaks = true
-is_broken decision.Undecided = false
 
 -- the models that are broken for certain
 abbrev pub broken_by : Decisions → Obeys

@@ -2,8 +2,9 @@
 
 ghost use Rattle.std.specs.Prelude.{◌≡◌, ◌⊎◌};
 ghost use Rattle.std.specs.Str.Lines.{lines};
+ghost use Rattle.model_replies.specs.Judged.{is_broken};
 ghost use Rattle.torusmem_c.specs.Values.{PutsValues, TellsNoValues, asked_values, broken_by};
-ghost use Rattle.torusmem_c.specs.Values.{decided_record, is_broken, no_values_record};
+ghost use Rattle.torusmem_c.specs.Values.{decided_record, no_values_record};
 ghost use Rattle.torusmem_c.specs.Values.{reply_line, unvalued_record};
 
 use crate::models::models_number;
@@ -16,8 +17,9 @@ use script::LineFault;
 use std::alloc::Global;
 
 /// Which models a log obeys by its replies alone: the number of a code; the sums of the numbers of the
-/// models that it obeys and of those that it breaks; the length of the text, or the line at fault; and
-/// the line of the other write that leaves the same.
+/// models that it obeys and of those that it breaks (a model is in neither where the search gave up, or
+/// annotations or weaker fences leave it open); the length of the text, or the line at fault; and the
+/// line of the other write that leaves the same.
 #[repr(C)]
 #[derive(Clone, Copy)]
 pub struct ValuesRecord {
@@ -28,7 +30,8 @@ pub struct ValuesRecord {
     pub other: u64,
 }
 
-/// Whether a model is broken for certain.
+/// Whether a model is broken for certain. It isn't where the search gave up, or where annotations or
+/// weaker fences leave it open.
 fn is_broken(decision: Decision) -> bool
     ensures { result ≡ is_broken decision }
 {
@@ -36,6 +39,7 @@ fn is_broken(decision: Decision) -> bool
         Decision::Obeys => false,
         Decision::Breaks => true,
         Decision::Undecided => false,
+        Decision::NotTold => false,
     }
 }
 

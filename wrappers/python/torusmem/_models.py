@@ -129,8 +129,8 @@ def model(entries: Iterable[LogEntry], words: int = 2**32, order: bool = False) 
 
 
 class Decided(NamedTuple):
-    """The models that a log obeys by its replies alone, those that it breaks, and the text that the program prints of it. Of a
-    model in neither nothing is decided."""
+    """The models that a log obeys by its replies alone, those that it breaks, and the text that the program prints of it. A model
+    is in neither where the search gave up, or annotations or weaker fences leave it open."""
 
     obeyed: Model
     broken: Model

@@ -113,8 +113,8 @@ pub fn model(words: u64, entries: &[LogEntry], order: bool) -> Result<Obeyed, Lo
     }
 }
 
-/// Whether a log obeys each memory model by its replies alone, weakest first; `None` where that isn't decided. And the text
-/// that the program prints of it.
+/// Whether a log obeys each memory model by its replies alone, weakest first; `None` where the search gave up, or annotations
+/// or weaker fences leave it open. And the text that the program prints of it.
 #[derive(Clone, Debug, PartialEq, Eq)]
 pub struct Decided {
     pub coherent: Option<bool>,
