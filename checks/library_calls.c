@@ -476,6 +476,71 @@ static void networks_are_answered(void) {
   MUST(judge(choose, 100).code != TORUSMEM_OK && says(torusmem_network_answer(NULL, 0, NULL, 0), 5, 1) && live == 0);
 }
 
+static bool told(const char *wanted, uint64_t length) {
+  return length == strlen(wanted) && memcmp(written.bytes, wanted, length) == 0 && written.bytes[length] == 0xAA;
+}
+
+static torusmem_said said_of(const char *trace, uint64_t configurations, size_t room) {
+  memset(written.bytes, 0xAA, sizeof written.bytes);
+  return torusmem_linearize_answer((const uint8_t *)trace, strlen(trace), configurations, written.bytes, room);
+}
+
+/* What is said of a trace: an order, why there is none, or why that isn't decided; and which line is refused. */
+static void traces_are_said(void) {
+  static const char *good = "trace 1\nwords 8\nissue 0 store 5 17\nissue 1 load 5\nanswer 1 0 17\nanswer 0 0 ok\n";
+  static const char *old = "trace 1\nwords 8\n\nissue 0 store 5 17\nanswer 0 0 ok\nissue 1 load 5\nanswer 1 0 0\n";
+  static const char *adds = "trace 1\nwords 8\nissue 0 add 5 1\nissue 1 add 5 2\nissue 2 add 5 4\nissue 3 load 5\nanswer 3 0 0\nanswer 0 0 6\n";
+  static const char *order = "order 0 0 store 5 17 ok\norder 1 0 load 5 17\nlinearizable\n";
+  static const char *none = "not linearizable at line 7\ntrace:7: answer 1 0 0: no order gives 0: word 5 can be 17\n";
+  torusmem_said said = said_of(good, 1000, 100);
+  MUST(said.code == TORUSMEM_OK && said.line == 0 && told(order, said.length) && live == 0);
+  said = said_of(good, 1000, strlen(order) - 1);
+  MUST(said.code == TORUSMEM_SHORT && said.line == 0 && said.length == strlen(order) && written.bytes[0] == 0xAA && live == 0);
+  said = said_of(old, 1000, MOST_BYTES);
+  MUST(said.code == TORUSMEM_NOT_LINEARIZABLE && said.line == 7 && said.length > strlen(none) && live == 0);
+  MUST(memcmp(written.bytes, none, strlen(none)) == 0 && written.bytes[said.length - 1] == '\n' && written.bytes[said.length] == 0xAA);
+  said = said_of(adds, 1, MOST_BYTES);
+  MUST(said.code == TORUSMEM_TOO_MANY && said.line == 8 && told("undecided at line 8: more than 1 configurations\n", said.length));
+  said = said_of("trace 1\nwords 8\nissue 0 load 8\n", 1000, MOST_BYTES);
+  MUST(said.code == TORUSMEM_FAULT_ADDRESS && said.line == 3 && said.length == 0 && written.bytes[0] == 0xAA && live == 0);
+  said = torusmem_linearize_answer(NULL, 0, 1000, NULL, 0);
+  MUST(said.code == TORUSMEM_FAULT_LINE && said.line == 1 && live == 0);
+}
+
+static torusmem_decided decided_of(const char *log, uint64_t nodes, uint32_t order, size_t room) {
+  memset(written.bytes, 0xAA, sizeof written.bytes);
+  return torusmem_model_values((const uint8_t *)log, strlen(log), nodes, order, written.bytes, room);
+}
+
+/* Which models a log obeys by its replies alone: store buffering breaks sequential consistency and no other. */
+static void replies_are_judged(void) {
+  static const char *buffers = "log 1\nwords 2\nmade 0 store 0 1\nmade 0 load 1\nmade 1 store 1 1\nmade 1 load 0\nreplied 0 1 0\nreplied 1 1 0\n";
+  static const char *annotated = "log 1\nwords 2\nmade 0 store 0 1\nmade 0 load 1 acquire\nmade 1 store 1 1\nmade 1 load 0\nreplied 0 1 0\nreplied 1 1 0\n";
+  static const char *left_open = "coherent yes\nfenced not told: the log has annotations or weaker fences\npso not told: ";
+  static const char *none = "log 1\nwords 2\nmade 0 load 1\nreplied 0 0 3\n";
+  static const char *text = "coherent yes\nfenced yes\npso yes\ntso yes\nsc no\n";
+  torusmem_decided said = decided_of(buffers, 10000, 0, MOST_BYTES);
+  MUST(said.code == TORUSMEM_OK && said.obeyed == 15 && said.broken == TORUSMEM_SC && said.other == 0);
+  MUST(told(text, said.value) && live == 0);
+  said = decided_of(buffers, 10000, 0, strlen(text) - 1);
+  MUST(said.code == TORUSMEM_SHORT && said.obeyed == 15 && said.broken == TORUSMEM_SC && said.value == strlen(text));
+  MUST(written.bytes[0] == 0xAA && live == 0);
+  said = decided_of(buffers, 10000, 1, MOST_BYTES);
+  MUST(said.code == TORUSMEM_OK && said.value > strlen(text) && memcmp(written.bytes, text, strlen(text)) == 0);
+  MUST(memcmp(written.bytes + strlen(text), "an order of tso:\n", 17) == 0 && written.bytes[said.value] == 0xAA && live == 0);
+  said = decided_of(annotated, 10000, 0, MOST_BYTES);
+  MUST(said.code == TORUSMEM_OK && said.obeyed == TORUSMEM_COHERENT && said.broken == TORUSMEM_SC && live == 0);
+  MUST(memcmp(written.bytes, left_open, strlen(left_open)) == 0 && written.bytes[said.value] == 0xAA);
+  said = decided_of(none, 10000, 0, MOST_BYTES);
+  MUST(said.code == TORUSMEM_UNWRITTEN && said.value == 4 && said.obeyed == 0 && said.broken == 0 && said.other == 0 && live == 0);
+  said = decided_of("log 1\nwords 2\nmade 0 store 1 3\nmade 1 store 1 3\n", 10000, 0, MOST_BYTES);
+  MUST(said.code == TORUSMEM_ALIKE && said.value == 3 && said.other == 4 && written.bytes[0] == 0xAA && live == 0);
+  said = decided_of("log 1\nwords 2\nmade 0 load 1\n", 10000, 0, MOST_BYTES);
+  MUST(said.code == TORUSMEM_FAULT_SETTING && said.value == 3 && said.other == 0 && written.bytes[0] == 0xAA && live == 0);
+  said = torusmem_model_values(NULL, 0, 10000, 0, NULL, 0);
+  MUST(said.code == TORUSMEM_FAULT_LINE && said.value == 1 && live == 0);
+}
+
 static const char spin_machine[] = "radix 2\ndims 1\ndepth 4\ntags 4\nwords 8\n";
 /* The spin of line 3 never finds its number; that of line 6 finds it at its first load; that of line 7 has no load that
    finds it, and a second one runs out behind it. */
@@ -982,6 +1047,8 @@ static void codes(void) {
   networks_are_judged();
   networks_are_answered();
   spins_run_out(&other);
+  traces_are_said();
+  replies_are_judged();
   traces_of_a_register();
   traces_are_refused();
   logs_are_judged();
@@ -1031,6 +1098,19 @@ static void explain_with_little_memory(void) {
   MUST(was_read || (refused != 0 && was_refused));
   MUST(said.code == TORUSMEM_OK || (refused != 0 && said.code == TORUSMEM_FAULT_MEMORY && said.length == 0));
   MUST(says(judged, TORUSMEM_NO_ROUTE, 35) || (refused != 0 && says(judged, TORUSMEM_FAULT_MEMORY, 0)));
+}
+
+/* What is said of a trace, and of a log's replies, for which memory may be refused: for a sentence alone it is left out. */
+static void say_with_little_memory(void) {
+  torusmem_said said = said_of("trace 1\nwords 8\nissue 0 load 5\nanswer 0 0 3\n", 1000, MOST_BYTES);
+  MUST(said.code == TORUSMEM_NOT_LINEARIZABLE || (refused != 0 && said.code == TORUSMEM_FAULT_MEMORY));
+  MUST(said.code == TORUSMEM_FAULT_MEMORY ? said.line == 0 && said.length == 0 && written.bytes[0] == 0xAA
+                                          : said.line == 4 && memcmp(written.bytes, "not linearizable at line 4\n", 27) == 0);
+  MUST((refused != 0 || (said.length > 27 && memcmp(written.bytes + 27, "trace:4: ", 9) == 0)) && live == 0);
+  torusmem_decided decided = decided_of("log 1\nwords 2\nmade 0 load 1\nreplied 0 0 0\n", 10000, 1, MOST_BYTES);
+  bool was_refused = decided.code == TORUSMEM_FAULT_MEMORY && decided.obeyed == 0 && written.bytes[0] == 0xAA;
+  MUST((decided.code == TORUSMEM_OK && decided.obeyed == 31) || (refused != 0 && was_refused));
+  MUST(live == 0);
 }
 
 /* The spins that ran out, and a verdict on a trace, for which memory may be refused. */
@@ -1104,6 +1184,7 @@ static void run_with_little_memory(void) {
   explain_with_little_memory();
   MUST(live == 0);
   judge_with_little_memory();
+  say_with_little_memory();
   MUST(live == 0);
   watch_with_little_memory();
   MUST(live == 0);

@@ -94,6 +94,16 @@ void judges() {
   MUST(torusmem::network("channels 2\ninject 0\neject 1\n").code == TORUSMEM_NO_PAIR);
   torusmem::verdict answer = torusmem::network_answer("channels 2\ninject 0\neject 1\njoin 0 1\n");
   MUST(answer.code == TORUSMEM_NOT_RISING && answer.text == "no route 0 1: no channel at step 1\n");
+  torusmem::trace_said reasons = torusmem::linearize_answer("trace 1\nwords 8\nissue 0 load 5\nanswer 0 0 3\n");
+  MUST(reasons.code == TORUSMEM_NOT_LINEARIZABLE && reasons.line == 4);
+  MUST(reasons.text.find("trace:4: answer 0 0 3: no order gives 3: word 5 can be 0\n") != std::string::npos);
+  MUST(torusmem::linearize_answer("trace 1\nwords 8\n").text == "linearizable\n");
+  MUST(thrown(TORUSMEM_FAULT_SETTING, [&] { torusmem::linearize_answer("trace 1\n"); }).find("linearize_answer: ") == 0);
+  torusmem::decided by = torusmem::model_values("log 1\nwords 2\nmade 0 load 1\nreplied 0 0 0\n", 10000, true);
+  MUST(by.code == TORUSMEM_OK && by.obeyed == 31 && by.broken == 0 && by.text.find("an order of sc:\n") != std::string::npos);
+  by = torusmem::model_values("log 1\nwords 2\nmade 0 load 1\nreplied 0 0 3\n");
+  MUST(by.code == TORUSMEM_UNWRITTEN && by.line == 4 && by.text.empty());
+  MUST(thrown(TORUSMEM_FAULT_SETTING, [&] { torusmem::model_values("log 1\n"); }).find("model_values: ") == 0);
   std::vector<torusmem_log_entry> log(3, torusmem_log_entry());
   log[0].kind = TORUSMEM_LOG_MADE;
   log[1].kind = TORUSMEM_LOG_READ_OPENING;

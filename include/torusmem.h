@@ -9,8 +9,8 @@
    torusmem_clone allocate what the machine needs, torusmem_append and torusmem_ask what a further line needs, and
    torusmem_free frees all of it. Of a machine that keeps a record, the calls that make steps or rounds also allocate what the record needs.
    torusmem_report, torusmem_save, torusmem_events, torusmem_events_from, torusmem_check, torusmem_explain, torusmem_spins_out,
-   torusmem_network, torusmem_network_answer, torusmem_linearize, torusmem_model and torusmem_watch_save free what they allocate
-   before they return. torusmem_watch_begin, torusmem_watch_clone and torusmem_watch_restore allocate what a watch needs at first,
+   torusmem_network, torusmem_network_answer, torusmem_linearize, torusmem_linearize_answer, torusmem_model,
+   torusmem_model_values and torusmem_watch_save free what they allocate before they return. torusmem_watch_begin, torusmem_watch_clone and torusmem_watch_restore allocate what a watch needs at first,
    torusmem_watch_issue and torusmem_watch_answer allocate and free as operations open and end, and torusmem_watch_end frees all
    of it. No other call allocates.
 
@@ -139,7 +139,10 @@ enum {
   TORUSMEM_BAD_ACTION = 29,  /* an action of a record can't be done; value: the action, from 0 */
   TORUSMEM_WRONG_REPLY = 30, /* of a log: a reply isn't what its operation does to the word that it finds */
   TORUSMEM_NO_PAIR = 31,     /* no packets go anywhere in a network; value: the length of the verdict's text */
-  TORUSMEM_NOT_RISING = 32   /* the numbers of a network's channels don't rise; value: the length of the answer's text */
+  TORUSMEM_NOT_RISING = 32,  /* the numbers of a network's channels don't rise; value: the length of the answer's text */
+  /* Of a log whose replies alone count. */
+  TORUSMEM_UNWRITTEN = 33,   /* a reply is what no write of its word left; value: its line */
+  TORUSMEM_ALIKE = 34        /* two writes leave the same in one word; value: the line of the first one */
 };
 
 /* What a code says, in a few words of ASCII, as "an address is not below the number of words". For any number. */
@@ -583,6 +586,26 @@ torusmem_outcome torusmem_linearize(const uint64_t *opening, size_t opening_leng
                                     size_t events_length, uint64_t configurations, uint64_t *out, size_t out_length)
     TORUSMEM_RESULT;
 
+/* What is said of a trace. */
+typedef struct torusmem_said {
+  uint32_t code;   /* of the text, as below */
+  uint64_t line;   /* the line that it is of, from 1; 0 of a trace that an order explains, and of FAULT_MEMORY */
+  uint64_t length; /* of the text; 0 on a fault */
+} torusmem_said;
+
+/* Judges the trace of a trace text (docs/FORMATS.md, "Trace text") as torusmem_linearize does, and puts a text into a buffer that
+   says why. Needs no machine.
+   OK: the operations in an order that explains the trace, a line each, then `linearizable`, as the program prints them.
+   NOT_LINEARIZABLE: `not linearizable at line N`, then sentences of `linearize --explain`: what the answer could be,
+   what is open on its word there, and which operations show it; they call the text `trace`. A first line `not linearizable by
+   line N, undecided at M` says that an earlier line may be the first.
+   TOO_MANY, TOO_OPEN: `undecided at line N`, with the reason.
+   Of these four, the text is the first `length` bytes of out, and those behind them are as they were.
+   SHORT: `length` is what the text needs, and out is as it was; so is it on a fault of the text and on FAULT_MEMORY. Where memory is
+   refused for a sentence alone, the text has none. */
+torusmem_said torusmem_linearize_answer(const uint8_t *trace, size_t trace_length, uint64_t configurations, uint8_t *out,
+                                        size_t out_length) TORUSMEM_RESULT;
+
 /* Kinds of entries of a log. */
 enum {
   TORUSMEM_LOG_INIT = 0,         /* the opening word of an address; all of these stand in front */
@@ -645,6 +668,28 @@ typedef struct torusmem_models {
    4096. F9: there are 4194304 operations already, or operations on 1048576 addresses. F12 is out of memory, with 0. */
 torusmem_models torusmem_model(uint64_t words, const torusmem_log_entry *entries, size_t entries_length, uint32_t order,
                                uint8_t *out, size_t out_length) TORUSMEM_RESULT;
+
+/* Which memory models a log obeys by its replies alone. */
+typedef struct torusmem_decided {
+  uint32_t code;   /* OK, SHORT, UNWRITTEN, ALIKE or a fault */
+  uint32_t obeyed; /* of OK and SHORT: the models that it obeys; else 0 */
+  uint32_t broken; /* of OK and SHORT: those that it breaks; else 0. A model is in neither where the search gave up, or
+                      annotations or weaker fences leave it open: the text says which */
+  uint64_t value;  /* of OK and SHORT: the length of the text; else the line at fault, from 1 */
+  uint64_t other;  /* of ALIKE: the line of the second write; else 0 */
+} torusmem_decided;
+
+/* Judges the log of a log text (docs/FORMATS.md, "Log text") by five memory models, by what processors made and what was replied
+   alone: whether some order of each word's writes, and some write for each load, lets it obey a model. nodes: how many are
+   looked at for each model; 10000 is what the program takes. Needs no machine.
+   The text that `model --values` prints is put into a buffer: a line for each model, as `tso yes`, or why it has neither yes
+   nor no; then, unless order is 0, an order of the strongest that it obeys. Each yes and each no is proved.
+   OK: the text is the first `value` bytes of out, and the bytes behind them are as they were.
+   SHORT: `value` is what the text needs, and out is as it was; so is it on all other codes.
+   UNWRITTEN: no order explains the log, so every model is broken. ALIKE: nothing is decided. A fault: of line `value`,
+   which is refused, or FAULT_MEMORY. */
+torusmem_decided torusmem_model_values(const uint8_t *log, size_t log_length, uint64_t nodes, uint32_t order, uint8_t *out,
+                                       size_t out_length) TORUSMEM_RESULT;
 
 /* A watch of a trace that goes on: what torusmem_linearize judges at the end, it judges at each event, so that a host
    checks itself while it runs. Its memory follows the operations that are open, and not the length of the trace. Room
@@ -888,6 +933,15 @@ static inline torusmem_outcome torusmem_linearize_events(const uint64_t *opening
 #define torusmem_linearize torusmem_linearize_events
 
 TORUSMEM_RESULT
+static inline torusmem_said torusmem_linearize_answer_text(const uint8_t *trace, size_t trace_length, uint64_t configurations,
+                                                           uint8_t *out, size_t out_length) {
+  uint8_t none = 0;
+  return torusmem_linearize_answer(torusmem_text_at(trace, trace_length), trace_length, configurations,
+                                   TORUSMEM_OUT(&none), out_length);
+}
+#define torusmem_linearize_answer torusmem_linearize_answer_text
+
+TORUSMEM_RESULT
 static inline torusmem_models torusmem_model_entries(uint64_t words, const torusmem_log_entry *entries,
                                                      size_t entries_length, uint32_t order, uint8_t *out,
                                                      size_t out_length) {
@@ -897,6 +951,14 @@ static inline torusmem_models torusmem_model_entries(uint64_t words, const torus
                         TORUSMEM_OUT(&none), out_length);
 }
 #define torusmem_model torusmem_model_entries
+
+TORUSMEM_RESULT
+static inline torusmem_decided torusmem_model_values_text(const uint8_t *log, size_t log_length, uint64_t nodes, uint32_t order,
+                                                          uint8_t *out, size_t out_length) {
+  uint8_t none = 0;
+  return torusmem_model_values(torusmem_text_at(log, log_length), log_length, nodes, order, TORUSMEM_OUT(&none), out_length);
+}
+#define torusmem_model_values torusmem_model_values_text
 
 TORUSMEM_RESULT
 static inline torusmem_outcome torusmem_watch_begin_at(torusmem_watch *w, const uint64_t *opening,
@@ -1093,9 +1155,13 @@ static inline void torusmem_watch_end_marked(torusmem_watch *w) {
 #undef torusmem_network
 #undef torusmem_network_answer
 #undef torusmem_linearize
+#undef torusmem_linearize_answer
 #undef torusmem_model
+#undef torusmem_model_values
 #define torusmem_linearize(...) (TORUSMEM_HERE("torusmem_linearize"), torusmem_linearize_events(__VA_ARGS__))
+#define torusmem_linearize_answer(...) (TORUSMEM_HERE("torusmem_linearize_answer"), torusmem_linearize_answer_text(__VA_ARGS__))
 #define torusmem_model(...) (TORUSMEM_HERE("torusmem_model"), torusmem_model_entries(__VA_ARGS__))
+#define torusmem_model_values(...) (TORUSMEM_HERE("torusmem_model_values"), torusmem_model_values_text(__VA_ARGS__))
 #define torusmem_explain(...) (TORUSMEM_HERE("torusmem_explain"), torusmem_explain_texts(__VA_ARGS__))
 #define torusmem_check(...) (TORUSMEM_HERE("torusmem_check"), torusmem_check_text(__VA_ARGS__))
 #define torusmem_network(...) (TORUSMEM_HERE("torusmem_network"), torusmem_network_text(__VA_ARGS__))

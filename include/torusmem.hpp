@@ -396,6 +396,28 @@ inline judged linearize(span<const uint64_t> opening, span<const torusmem_event>
   return {TORUSMEM_OK, 0, order};
 }
 
+// What is said of a trace text: OK with an order; NOT_LINEARIZABLE with the reasons; or TOO_MANY or TOO_OPEN. With the line,
+// or 0.
+struct trace_said {
+  uint32_t code;
+  uint64_t line;
+  std::string text;
+};
+inline trace_said linearize_answer(text trace, uint64_t configurations = 1000000) {
+  std::string made(4096, ' ');
+  torusmem_said told;
+  for (;;) {
+    told = torusmem_linearize_answer(trace.data(), trace.size(), configurations, reinterpret_cast<uint8_t *>(&made[0]),
+                                     made.size());
+    if (told.code != TORUSMEM_SHORT) break;
+    made.resize(static_cast<size_t>(told.length));
+  }
+  bool is_judged = told.code == TORUSMEM_OK || (told.code >= TORUSMEM_NOT_LINEARIZABLE && told.code <= TORUSMEM_TOO_OPEN);
+  if (!is_judged) granted("linearize_answer", {told.code, told.line});
+  made.resize(static_cast<size_t>(told.length));
+  return {told.code, told.line, made};
+}
+
 // The verdict on a log: the models that it obeys, and the text that the program prints; or, of a wrong reply, its entry,
 // the word that its operation finds, and the entry that made the operation which left it.
 struct obeyed {
@@ -416,6 +438,29 @@ inline obeyed model(uint64_t words, span<const torusmem_log_entry> entries, bool
   if (said.code == TORUSMEM_WRONG_REPLY) return {said.code, 0, "", said.value, said.word, said.writer};
   made.resize(static_cast<size_t>(granted("model", {said.code, said.value})));
   return {said.code, said.models, made, 0, 0, 0};
+}
+
+// The verdict on a log text by its replies alone: the models that it obeys, those that it breaks, and the text that the
+// program prints; or the line of a reply that no write left, or the lines of two writes that leave the same. A model is in
+// neither sum where the search gave up, or annotations or weaker fences leave it open.
+struct decided {
+  uint32_t code;            // OK, UNWRITTEN or ALIKE
+  uint32_t obeyed, broken;  // sums of TORUSMEM_COHERENT to TORUSMEM_SC
+  std::string text;
+  uint64_t line, other;
+};
+inline decided model_values(text log, uint64_t nodes = 10000, bool order = false) {
+  std::string made(4096, ' ');
+  torusmem_decided told;
+  for (;;) {
+    told = torusmem_model_values(log.data(), log.size(), nodes, order ? 1 : 0, reinterpret_cast<uint8_t *>(&made[0]),
+                                 made.size());
+    if (told.code != TORUSMEM_SHORT) break;
+    made.resize(static_cast<size_t>(told.value));
+  }
+  if (told.code == TORUSMEM_UNWRITTEN || told.code == TORUSMEM_ALIKE) return {told.code, 0, 0, "", told.value, told.other};
+  made.resize(static_cast<size_t>(granted("model_values", {told.code, told.value})));
+  return {told.code, told.obeyed, told.broken, made, 0, 0};
 }
 
 }  // namespace torusmem

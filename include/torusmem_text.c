@@ -38,6 +38,8 @@ static const char *const texts[] = {
   "a reply of a log isn't what its operation does to the word that it finds",
   "a network has no source-destination pair",
   "the numbers of a network's channels don't rise",
+  "a reply of a log is what no write of its word left",
+  "two writes of a log leave the same in one word",
 };
 
 const char *torusmem_code_text(uint32_t code) {

@@ -17,9 +17,11 @@ pub mod Networks
 pub mod Explained
 pub mod Spins
 pub mod Traces
+pub mod TraceAnswers
 pub mod Watching
 pub mod WatchCloning
 pub mod WatchSaving
 pub mod Appending
 pub mod Opening
 pub mod Models
+pub mod Values

@@ -17,7 +17,7 @@ use Rattle.torusmem_c.specs.declared.outcome.Outcome.{Outcome}
 use Rattle.torusmem_c.specs.Outcome.{c_code, c_flag, fault_outcome, no_memory}
 use Rattle.torusmem_c.specs.Room.{put_over, put_code}
 
--- the sum of the numbers of the models that are obeyed: 1, 2, 4, 8 and 16, weakest first
+-- the sum of the numbers of some models, as those that are obeyed: 1, 2, 4, 8 and 16, weakest first
 abbrev pub models_number : Obeys → ℕ
 models_number o = c_flag o.coherent + 2 * c_flag o.fenced + 4 * c_flag o.pso + 8 * c_flag o.tso
     + 16 * c_flag o.sc

@@ -26,8 +26,8 @@ pub struct ModelsRecord {
     pub writer: u64,
 }
 
-/// The sum of the numbers of the models that are obeyed: 1, 2, 4, 8 and 16, weakest first.
-fn models_number(obeys: Obeys) -> u32
+/// The sum of the numbers of some models, as those that are obeyed: 1, 2, 4, 8 and 16, weakest first.
+pub(crate) fn models_number(obeys: Obeys) -> u32
     ensures { result ≡ models_number obeys }
 {
     u32::from(obeys.coherent)

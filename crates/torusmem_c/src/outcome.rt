@@ -50,13 +50,17 @@ pub enum Code {
     NoPair,
     /// The numbers of a network's channels don't rise.
     NotRising,
+    /// A reply of a log is what no write of its word left.
+    Unwritten,
+    /// Two writes of a log leave the same in one word.
+    Alike,
 }
 
 impl Code {
     /// The number by which C knows it.
     pub fn number(self) -> u32
         ensures value { result ≡ c_code self }
-        ensures small { result ≤ 32 }
+        ensures small { result ≤ 34 }
     {
         match self {
             Code::Done => 0,
@@ -79,6 +83,8 @@ impl Code {
             Code::WrongReply => 30,
             Code::NoPair => 31,
             Code::NotRising => 32,
+            Code::Unwritten => 33,
+            Code::Alike => 34,
         }
     }
 }

@@ -23,9 +23,9 @@ use std::alloc::{AllocError, Global};
 
 /// A text that grows as it is written; its failed puts are those for which memory was refused.
 #[derive(Drop)]
-struct Text {
-    bytes: Vec<u8>,
-    refused: u64,
+pub(crate) struct Text {
+    pub(crate) bytes: Vec<u8>,
+    pub(crate) refused: u64,
 }
 
 impl Out for Text {

@@ -17,7 +17,7 @@ import torusmem
 from torusmem import Answer, Answered, BadReport, Channel, Choice, Closed, Cycle, Entry, EventFault, Fill, Issued, Kind
 from torusmem import Linearizable, Link, Machine, NoPair, NoRoute, NotLinearizable, Operation, Rising, Spin, TextFault
 from torusmem import Init, LogFault, Made, Model, Read, Replied, Served, Steps, TooMany, Undecided, Watch, WrongReply, Wrote
-from torusmem import linearize, model, network, network_answer
+from torusmem import Unwritten, linearize, linearize_answer, model, model_values, network, network_answer
 
 ROOT = os.path.dirname(os.path.dirname(os.path.dirname(os.path.dirname(os.path.realpath(__file__)))))
 EXAMPLES = os.path.join(ROOT, "examples")
@@ -401,6 +401,26 @@ class Networks(unittest.TestCase):
         self.assertRaises(TextFault, network_answer, "channels 2\ninject 2\n")
         self.assertRaises(TextFault, network, text)
 
+    def test_what_is_said_of_a_trace(self):
+        head = "trace 1\nwords 8\nissue 0 add 5 1\nissue 1 add 5 2\nissue 2 add 5 4\nanswer 0 0 "
+        said = linearize_answer(head + "6\n")
+        self.assertEqual((said.linearizable, said.line), (True, 0))
+        self.assertEqual(said.text.splitlines()[-2:], ["order 0 0 add 5 1 6", "linearizable"])
+        said = linearize_answer(head + "9\n")
+        self.assertEqual((said.linearizable, said.line), (False, 6))
+        self.assertTrue(said.text.startswith("not linearizable at line 6\ntrace:6: answer 0 0 9: "), said.text)
+        self.assertRaises(TextFault, linearize_answer, "trace 1\nwords 8\nissue 0 load 8\n")
+        self.assertRaises(ValueError, linearize_answer, head, -1)
+
+    def test_models_by_replies_alone(self):
+        made = "log 1\nwords 2\nmade 0 store 0 1\nmade 0 load 1\nmade 1 store 1 1\nmade 1 load 0\n"
+        decided = model_values(made + "replied 0 1 0\nreplied 1 1 0\n", order=True)
+        self.assertEqual((decided.obeyed, decided.broken), (Model(15), Model.SC))
+        self.assertIn("\nsc no\nan order of tso:\n", decided.text)
+        self.assertEqual(model_values(made + "replied 0 1 7\nreplied 1 1 0\n"), Unwritten(7))
+        self.assertRaises(TextFault, model_values, made)
+        self.assertRaises(ValueError, model_values, made, 2**64)
+
     def test_cycles(self):
         there, back = Link(2, 5, None), Link(3, 4, None)
         one, two = Fill(0, 5, 1), Fill(1, 4, 1)
@@ -744,7 +764,7 @@ class Words(unittest.TestCase):
         names = "OK FAULT_MEMORY BAD_REPORT EMPTY FULL NONE SHORT NO_ROUTE CYCLE".split()
         names += ["NO_TEXT", "MACHINE_TEXT", "SCRIPTS_TEXT", "ISSUE", "ANSWER"]
         names += ["NOT_LINEARIZABLE", "TOO_MANY", "TOO_OPEN", "BEHIND_SPIN", "NOT_YET"]
-        names += ["NO_RECORD", "BAD_RECORD", "BAD_ACTION", "WRONG_REPLY", "NO_PAIR", "NOT_RISING", "ISSUED", "SERVED", "ANSWERED"]
+        names += ["NO_RECORD", "BAD_RECORD", "BAD_ACTION", "WRONG_REPLY", "NO_PAIR", "NOT_RISING", "UNWRITTEN", "ALIKE", "ISSUED", "SERVED", "ANSWERED"]
         names += ["LOG_INIT", "LOG_MADE", "LOG_WROTE", "LOG_READ", "LOG_READ_OPENING", "LOG_SERVED", "LOG_REPLIED"]
         names += ["FENCE", "SPIN", "FIRST_IS_LAST", "SECOND_IS_LAST"]
         codes = {name: getattr(library, name) for name in names}

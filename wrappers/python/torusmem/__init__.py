@@ -19,8 +19,9 @@ the reason: TextFault, BadReport.
 
 network() judges any network that is written down, and answers numbers that rise along every route, a pair without a
 route, or a cycle with the channels that fill up; network_answer() one whose routers choose, too, and gives the text. linearize() finds an order that explains a trace of calls and answers,
-or the event from which on there is none, or that the trace is undecided. A Watch judges a trace event by event, while it
-goes on. model() tells which memory models a log of programs obeys, and the cycle of the weakest that it breaks.
+or the event from which on there is none, or that the trace is undecided; linearize_answer() says why. A Watch judges a trace
+event by event, while it goes on. model() tells which memory models a log of programs obeys, and the cycle of the weakest that
+it breaks; model_values() asks the replies alone.
 
 The library beneath is proved; this package, which only passes numbers and texts on, is tested.
 """
@@ -30,16 +31,18 @@ from __future__ import annotations
 from ._faults import BadReport, Closed, EVENT_REASONS, EventFault, LOG_REASONS, LogFault, NETWORK_REASONS, REASONS
 from ._faults import TextFault, TooMany
 from ._judges import Answered, Cycle, Event, Fill, Issued, Judged, Linearizable, Link, NoPair, NoRoute, NotLinearizable
-from ._judges import Rising, Undecided, Verdict, check, linearize, network, network_answer
+from ._judges import Rising, Said, Undecided, Verdict, check, linearize, linearize_answer, network, network_answer
 from ._library import LibraryNotFound
 from ._machine import Machine
-from ._models import Init, LogEntry, Made, Model, Obeyed, Read, Replied, Served, WrongReply, Wrote, model
+from ._models import Alike, Decided, Init, LogEntry, Made, Model, Obeyed, Read, Replied, Served, Unwritten, WrongReply
+from ._models import Wrote, model, model_values
 from ._records import Answer, Channel, Choice, Entry, FENCE, Happened, Kind, Line, Operation, Ordered, SPIN, Shape, Spin
 from ._records import Steps
 from ._watch import Watch
 
 __version__ = "0.3.0"
 __all__ = [
+    "Alike",
     "Answer",
     "Answered",
     "BadReport",
@@ -47,6 +50,7 @@ __all__ = [
     "Choice",
     "Closed",
     "Cycle",
+    "Decided",
     "EVENT_REASONS",
     "Entry",
     "Event",
@@ -80,6 +84,7 @@ __all__ = [
     "Replied",
     "Rising",
     "SPIN",
+    "Said",
     "Served",
     "Shape",
     "Spin",
@@ -87,13 +92,16 @@ __all__ = [
     "TextFault",
     "TooMany",
     "Undecided",
+    "Unwritten",
     "Verdict",
     "Watch",
     "WrongReply",
     "Wrote",
     "check",
     "linearize",
+    "linearize_answer",
     "model",
+    "model_values",
     "network",
     "network_answer",
 ]

@@ -55,7 +55,7 @@ LOG_REASONS = {
 class TextFault(ValueError):
     """A text was refused: its first fault.
 
-    text: `machine`, `scripts` or `network`
+    text: `machine`, `scripts`, `network`, `trace` or `log`
     file: the file that it was read from, or `machine text` and so on
     line: the line of the fault, from 1
     fault: its number, 1 for F1 and so on

@@ -8,7 +8,7 @@ from operator import index as whole
 from typing import Any, Dict, Iterable, Mapping, NamedTuple, Optional, Tuple, Union
 
 from . import _library
-from ._faults import NETWORK_REASONS, REASONS, BadReport, EventFault, TextFault
+from ._faults import EVENT_REASONS, NETWORK_REASONS, REASONS, BadReport, EventFault, TextFault
 from ._records import VALUES, Operation, Text, bytes_of, number_of, word_of
 
 
@@ -216,6 +216,37 @@ def linearize(
     if said.code == _library.FAULT_MEMORY:
         raise MemoryError(f"torusmem: {REASONS[12]} (F12)")
     raise EventFault(said.value, said.code)
+
+
+class Said(NamedTuple):
+    """What is said of a trace text. linearizable: True with the operations in an order in text; False or, where it isn't
+    decided, None, with the reasons in text. line: where it shows, from 1; else 0."""
+
+    linearizable: Optional[bool]
+    line: int
+    text: str
+
+
+def linearize_answer(text: Text, configurations: int = 1_000_000, file: str = "trace text") -> Said:
+    """Judges the trace of a trace text (docs/FORMATS.md, "Trace text") as linearize() does, and says why. TextFault tells the first
+    fault of the text; file is how it names the text.
+
+        >>> from torusmem import linearize_answer
+        >>> print(linearize_answer("trace 1\\nwords 8\\nissue 0 load 5\\nanswer 0 0 3\\n").text.splitlines()[0])
+        not linearizable at line 4
+    """
+    given, calls, most = bytes_of(text, "trace"), _library.library(), word_of(configurations, "configurations")
+    out = create_string_buffer(1 << 12)
+    said = calls.linearize_answer(given, len(given), most, out, len(out))
+    if said.code == _library.SHORT:
+        out = create_string_buffer(said.length)
+        said = calls.linearize_answer(given, len(given), most, out, len(out))
+    if said.code == _library.FAULT_MEMORY:
+        raise MemoryError(f"torusmem: {REASONS[12]} (F12)")
+    found = {_library.OK: True, _library.NOT_LINEARIZABLE: False, _library.TOO_MANY: None, _library.TOO_OPEN: None}
+    if said.code not in found:
+        raise TextFault(file, said.line, said.code, "trace", EVENT_REASONS.get(said.code, ""))
+    return Said(found[said.code], said.line, out.raw[: said.length].decode("ascii"))
 
 
 def event_from(event: Event, places: Dict[int, int]) -> Any:

@@ -14,6 +14,7 @@ OK, FAULT_MEMORY, BAD_REPORT, EMPTY, FULL, NONE, SHORT, NO_ROUTE, CYCLE = 0, 12,
 NOT_LINEARIZABLE, TOO_MANY, TOO_OPEN = 22, 23, 24
 BEHIND_SPIN, NOT_YET = 25, 26
 NO_RECORD, BAD_RECORD, BAD_ACTION, WRONG_REPLY, NO_PAIR, NOT_RISING = 27, 28, 29, 30, 31, 32
+UNWRITTEN, ALIKE = 33, 34
 ISSUE, ANSWER = 0, 1
 ISSUED, SERVED, ANSWERED = 0, 1, 2
 LOG_INIT, LOG_MADE, LOG_WROTE, LOG_READ, LOG_READ_OPENING, LOG_SERVED, LOG_REPLIED = 0, 1, 2, 3, 4, 5, 6
@@ -99,6 +100,14 @@ class RawModels(Structure):
     _fields_ = [(it, c_uint32) for it in ("code", "models")] + [(it, c_uint64) for it in ("value", "word", "writer")]
 
 
+class RawSaid(Structure):
+    _fields_ = [("code", c_uint32), ("line", c_uint64), ("length", c_uint64)]
+
+
+class RawDecided(Structure):
+    _fields_ = [(it, c_uint32) for it in ("code", "obeyed", "broken")] + [(it, c_uint64) for it in ("value", "other")]
+
+
 class Explanation(Structure):
     """Why a load is refused."""
 
@@ -163,6 +172,8 @@ CALLS = {
         Outcome,
         [POINTER(c_uint64), c_size_t, POINTER(RawEvent), c_size_t, c_uint64, POINTER(c_uint64), c_size_t],
     ),
+    "linearize_answer": (RawSaid, [c_char_p, c_size_t, c_uint64, c_void_p, c_size_t]),
+    "model_values": (RawDecided, [c_char_p, c_size_t, c_uint64, c_uint32, c_void_p, c_size_t]),
     "model": (RawModels, [c_uint64, POINTER(RawLogEntry), c_size_t, c_uint32, c_void_p, c_size_t]),
     "watch_begin": (Outcome, [_M, POINTER(c_uint64), c_size_t]),
     "watch_issue": (Outcome, [_M, c_uint64, c_uint32, c_uint32, c_uint64, c_uint64]),

@@ -8,8 +8,8 @@ from enum import IntFlag
 from typing import Any, Iterable, NamedTuple, Optional, Tuple, Union
 
 from . import _library
-from ._faults import REASONS, LogFault
-from ._records import FENCE, VALUES, Operation, number_of, word_of
+from ._faults import LOG_REASONS, REASONS, LogFault, TextFault
+from ._records import FENCE, VALUES, Operation, Text, bytes_of, number_of, word_of
 
 
 class Model(IntFlag):
@@ -126,6 +126,59 @@ def model(entries: Iterable[LogEntry], words: int = 2**32, order: bool = False) 
     if said.code == _library.FAULT_MEMORY:
         raise MemoryError(f"torusmem: {REASONS[12]} (F12)")
     raise LogFault(said.value, said.code)
+
+
+class Decided(NamedTuple):
+    """The models that a log obeys by its replies alone, those that it breaks, and the text that the program prints of it. A model
+    is in neither where the search gave up, or annotations or weaker fences leave it open."""
+
+    obeyed: Model
+    broken: Model
+    text: str
+
+
+class Unwritten(NamedTuple):
+    """The reply of this line is what no write of its word left: every model is broken."""
+
+    line: int
+
+
+class Alike(NamedTuple):
+    """The writes of two lines leave the same in one word, so nothing is decided."""
+
+    line: int
+    other: int
+
+
+def model_values(
+    text: Text, nodes: int = 10_000, order: bool = False, file: str = "log text"
+) -> Union[Decided, Unwritten, Alike]:
+    """Judges the log of a log text (docs/FORMATS.md, "Log text") by five memory models, by its operations and their replies alone,
+    with at most so many nodes for each. With order the text has an order of the strongest that it obeys. TextFault tells the
+    first fault of the text; file is how it names the text.
+
+        >>> from torusmem import Model, model_values
+        >>> made = "made 0 store 0 1\\nmade 0 load 1\\nmade 1 store 1 1\\nmade 1 load 0\\n"
+        >>> log = "log 1\\nwords 2\\n" + made + "replied 0 1 0\\nreplied 1 1 0\\n"
+        >>> decided = model_values(log)
+        >>> Model.TSO in decided.obeyed, Model.SC in decided.broken
+        (True, True)
+    """
+    given, most, call = bytes_of(text, "log"), word_of(nodes, "nodes"), _library.library().model_values
+    out = create_string_buffer(1 << 12)
+    said = call(given, len(given), most, int(order), out, len(out))
+    if said.code == _library.SHORT:
+        out = create_string_buffer(said.value)
+        said = call(given, len(given), most, int(order), out, len(out))
+    if said.code == _library.OK:
+        return Decided(Model(said.obeyed), Model(said.broken), out.raw[: said.value].decode("ascii"))
+    if said.code == _library.UNWRITTEN:
+        return Unwritten(said.value)
+    if said.code == _library.ALIKE:
+        return Alike(said.value, said.other)
+    if said.code == _library.FAULT_MEMORY:
+        raise MemoryError(f"torusmem: {REASONS[12]} (F12)")
+    raise TextFault(file, said.value, said.code, "log", LOG_REASONS.get(said.code, ""))
 
 
 def entry_from(entry: LogEntry) -> Any:

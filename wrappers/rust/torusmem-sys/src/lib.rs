@@ -64,6 +64,8 @@ pub const TORUSMEM_BAD_ACTION: u32 = 29;
 pub const TORUSMEM_WRONG_REPLY: u32 = 30;
 pub const TORUSMEM_NO_PAIR: u32 = 31;
 pub const TORUSMEM_NOT_RISING: u32 = 32;
+pub const TORUSMEM_UNWRITTEN: u32 = 33;
+pub const TORUSMEM_ALIKE: u32 = 34;
 
 pub const TORUSMEM_SEND: u32 = 0;
 pub const TORUSMEM_TAKE: u32 = 1;
@@ -265,6 +267,26 @@ pub struct torusmem_log_entry {
     pub old: u64,
 }
 
+/// What is said of a trace.
+#[repr(C)]
+#[derive(Clone, Copy, Debug, PartialEq, Eq)]
+pub struct torusmem_said {
+    pub code: u32,
+    pub line: u64,
+    pub length: u64,
+}
+
+/// Which memory models a log obeys by its replies alone.
+#[repr(C)]
+#[derive(Clone, Copy, Debug, PartialEq, Eq)]
+pub struct torusmem_decided {
+    pub code: u32,
+    pub obeyed: u32,
+    pub broken: u32,
+    pub value: u64,
+    pub other: u64,
+}
+
 /// Which memory models a log obeys.
 #[repr(C)]
 #[derive(Clone, Copy, Debug, PartialEq, Eq)]
@@ -435,6 +457,21 @@ extern "C" {
         out: *mut u64,
         out_length: usize,
     ) -> torusmem_outcome;
+    pub fn torusmem_linearize_answer(
+        trace: *const u8,
+        trace_length: usize,
+        configurations: u64,
+        out: *mut u8,
+        out_length: usize,
+    ) -> torusmem_said;
+    pub fn torusmem_model_values(
+        log: *const u8,
+        log_length: usize,
+        nodes: u64,
+        order: u32,
+        out: *mut u8,
+        out_length: usize,
+    ) -> torusmem_decided;
     pub fn torusmem_model(
         words: u64,
         entries: *const torusmem_log_entry,

@@ -27,13 +27,13 @@ mod trace;
 mod watch;
 
 pub use line::{Line, Refused, RefusedLine, Value};
-pub use log::{model, LogEntry, LogFault, Obeyed};
+pub use log::{model, model_values, Decided, LogEntry, LogFault, Obeyed, Undecided};
 pub use network::{network, network_answer, By, Fill, Link, Verdict, Why};
 use raw::Raw;
 use std::error::Error;
 use std::fmt;
 use torusmem_sys as sys;
-pub use trace::{linearize, Event, EventFault, Judged};
+pub use trace::{linearize, linearize_answer, Event, EventFault, Judged, Said};
 pub use watch::{NotTaken, Watch};
 
 /// Why a text was refused.

@@ -113,6 +113,77 @@ pub fn model(words: u64, entries: &[LogEntry], order: bool) -> Result<Obeyed, Lo
     }
 }
 
+/// Whether a log obeys each memory model by its replies alone, weakest first; `None` where the search gave up, or annotations
+/// or weaker fences leave it open. And the text that the program prints of it.
+#[derive(Clone, Debug, PartialEq, Eq)]
+pub struct Decided {
+    pub coherent: Option<bool>,
+    pub fenced: Option<bool>,
+    pub pso: Option<bool>,
+    pub tso: Option<bool>,
+    pub sc: Option<bool>,
+    pub text: String,
+}
+
+/// Why no model is asked of a log by its replies alone.
+#[derive(Clone, Copy, Debug, PartialEq, Eq)]
+pub enum Undecided {
+    /// The reply of this line is what no write of its word left, so every model is broken.
+    Unwritten { line: u64 },
+    /// The writes of these lines leave the same in one word.
+    Alike { line: u64, other: u64 },
+    /// The text is refused, or memory is.
+    Fault(Fault),
+}
+
+impl fmt::Display for Undecided {
+    fn fmt(&self, f: &mut fmt::Formatter) -> fmt::Result {
+        match self {
+            Undecided::Unwritten { line } => write!(f, "the reply of line {line} is what no write left"),
+            Undecided::Alike { line, other } => write!(f, "lines {line} and {other} leave the same in one word"),
+            Undecided::Fault(fault) => fault.fmt(f),
+        }
+    }
+}
+
+impl Error for Undecided {}
+
+/// Judges the log of a log text (docs/FORMATS.md, "Log text") by five memory models, by its operations and their replies
+/// alone, with at most so many nodes for each, where 10000 is what the program takes. With `order` the text has an order of
+/// the strongest that it obeys.
+///
+/// ```
+/// let made = "made 0 store 0 1\nmade 0 load 1\nmade 1 store 1 1\nmade 1 load 0\n";
+/// let log = format!("log 1\nwords 2\n{made}replied 0 1 0\nreplied 1 1 0\n").into_bytes();
+/// let decided = torusmem::model_values(&log, 10000, false)?;
+/// assert_eq!((decided.tso, decided.sc), (Some(true), Some(false)));
+/// # Ok::<(), torusmem::Undecided>(())
+/// ```
+pub fn model_values(log: &[u8], nodes: u64, order: bool) -> Result<Decided, Undecided> {
+    let mut room = vec![0; 4096];
+    let mut said = raw::model_values(log, nodes, u32::from(order), &mut room);
+    if said.code == sys::TORUSMEM_SHORT {
+        room.resize(said.value as usize, 0);
+        said = raw::model_values(log, nodes, u32::from(order), &mut room);
+    }
+    let sys::torusmem_decided { code, obeyed, broken, value, other } = said;
+    let told = |model| if obeyed & model != 0 { Some(true) } else { (broken & model != 0).then_some(false) };
+    match code {
+        sys::TORUSMEM_OK => Ok(Decided {
+            coherent: told(sys::TORUSMEM_COHERENT),
+            fenced: told(sys::TORUSMEM_FENCED),
+            pso: told(sys::TORUSMEM_PSO),
+            tso: told(sys::TORUSMEM_TSO),
+            sc: told(sys::TORUSMEM_SC),
+            text: String::from_utf8_lossy(&room[..value as usize]).into_owned(),
+        }),
+        sys::TORUSMEM_UNWRITTEN => Err(Undecided::Unwritten { line: value }),
+        sys::TORUSMEM_ALIKE => Err(Undecided::Alike { line: value, other }),
+        sys::TORUSMEM_FAULT_MEMORY => Err(Undecided::Fault(Fault::Memory)),
+        fault => Err(Undecided::Fault(Fault::Text { fault, line: value })),
+    }
+}
+
 fn raw_of(entry: &LogEntry) -> sys::torusmem_log_entry {
     let named = |kind, processor, index| sys::torusmem_log_entry { kind, processor, index, ..Default::default() };
     match *entry {

@@ -294,6 +294,20 @@ pub fn model(words: u64, entries: &[torusmem_log_entry], order: u32, out: &mut [
     unsafe { torusmem_model(words, entries_at, entries.len(), order, at, room) }
 }
 
+pub fn linearize_answer(trace: &[u8], configurations: u64, out: &mut [u8]) -> torusmem_said {
+    let (mut no_byte, room) = (0, out.len());
+    let at = buffer_at(out, &mut no_byte);
+    // SAFETY: the slices have as many bytes as they say; what is written is nobody else's. There is no machine.
+    unsafe { torusmem_linearize_answer(text_at(trace), trace.len(), configurations, at, room) }
+}
+
+pub fn model_values(log: &[u8], nodes: u64, order: u32, out: &mut [u8]) -> torusmem_decided {
+    let (mut no_byte, room) = (0, out.len());
+    let at = buffer_at(out, &mut no_byte);
+    // SAFETY: the slices have as many bytes as they say; what is written is nobody else's. There is no machine.
+    unsafe { torusmem_model_values(text_at(log), log.len(), nodes, order, at, room) }
+}
+
 pub struct RawWatch(torusmem_watch);
 
 // SAFETY: as of a machine.

@@ -89,6 +89,45 @@ pub fn linearize(
     }
 }
 
+/// What is said of a trace text. Lines are counted from 1.
+#[derive(Clone, Debug, PartialEq, Eq)]
+pub enum Said {
+    /// One order explains it: the text has the operations in this order.
+    Linearizable { text: String },
+    /// No order explains it up to this line: the text says why.
+    NotLinearizable { line: u64, text: String },
+    /// It isn't decided: the text says why.
+    Undecided { line: u64, text: String },
+}
+
+/// Judges the trace of a trace text (docs/FORMATS.md, "Trace text"), with at most so many configurations of a word at once, and
+/// says why. The faults are those of the text, and memory that is refused.
+///
+/// ```
+/// use torusmem::{linearize_answer, Said};
+///
+/// let text = b"trace 1\nwords 8\nissue 0 load 5\nanswer 0 0 3\n";
+/// let Ok(Said::NotLinearizable { line: 4, text }) = linearize_answer(text, 1000000) else { panic!("the word is 0") };
+/// assert!(text.contains("no order gives 3: word 5 can be 0\n"));
+/// ```
+pub fn linearize_answer(text: &[u8], configurations: u64) -> Result<Said, Fault> {
+    let mut room = vec![0; 4096];
+    let mut said = raw::linearize_answer(text, configurations, &mut room);
+    if said.code == sys::TORUSMEM_SHORT {
+        room.resize(said.length as usize, 0);
+        said = raw::linearize_answer(text, configurations, &mut room);
+    }
+    let sys::torusmem_said { code, line, length } = said;
+    let text = String::from_utf8_lossy(&room[..length as usize]).into_owned();
+    match code {
+        sys::TORUSMEM_OK => Ok(Said::Linearizable { text }),
+        sys::TORUSMEM_NOT_LINEARIZABLE => Ok(Said::NotLinearizable { line, text }),
+        sys::TORUSMEM_TOO_MANY | sys::TORUSMEM_TOO_OPEN => Ok(Said::Undecided { line, text }),
+        sys::TORUSMEM_FAULT_MEMORY => Err(Fault::Memory),
+        fault => Err(Fault::Text { fault, line }),
+    }
+}
+
 /// The words that events name, each at the number of its address: that of those which were named before.
 #[derive(Default)]
 struct Memory {

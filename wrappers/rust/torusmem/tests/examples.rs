@@ -2,7 +2,8 @@
 use std::fs;
 use std::path::{Path, PathBuf};
 use std::thread;
-use torusmem::{check, explain, linearize, model, network, network_answer, Answer, Asked, By, Channel, Choice, Class, Dir};
+use torusmem::{check, explain, linearize, linearize_answer, model, model_values, network, network_answer};
+use torusmem::{Answer, Asked, By, Channel, Choice, Class, Dir, Said, Undecided};
 use torusmem::{Entry, Event, EventFault, LogEntry, LogFault};
 use torusmem::{Fault, Judged, Kind, Line, Link, Machine, NotTaken, Operation, Refused, Reply, Spin, Text, Value};
 use torusmem::{Fill, Verdict, Watch, What, Why};
@@ -426,6 +427,30 @@ fn networks_are_judged() {
     assert!(network_answer(choose).is_ok_and(|(rising, said)| rising && said.starts_with("number 0 ")));
     assert_eq!(network_answer(b"channels 2\ninject 0\neject 1\n"), Ok((false, "no pair\n".to_string())));
     assert_eq!(network_answer(b""), Err(Fault::Text { fault: 5, line: 1 }));
+}
+
+/// An order of a trace text; why there is none; and the line that is refused.
+#[test]
+fn traces_are_said() {
+    let head = "trace 1\nwords 8\nissue 0 add 5 1\nissue 1 add 5 2\nanswer 0 0 ";
+    let said = |reply: &str| linearize_answer(format!("{head}{reply}\n").as_bytes(), 1000000);
+    let text = "order 1 0 add 5 2 -\norder 0 0 add 5 1 2\nlinearizable\n".to_string();
+    assert_eq!(said("2"), Ok(Said::Linearizable { text }));
+    let Ok(Said::NotLinearizable { line: 5, text }) = said("9") else { panic!("no order gives 9") };
+    assert!(text.starts_with("not linearizable at line 5\ntrace:5: answer 0 0 9: no order gives 9"), "{text}");
+    assert_eq!(said("ok"), Err(Fault::Text { fault: 4, line: 5 }));
+}
+
+/// Store buffering by its replies alone; a reply that no write left; and the line that is refused.
+#[test]
+fn replies_are_judged() {
+    let made = "log 1\nwords 2\nmade 0 store 0 1\nmade 0 load 1\nmade 1 store 1 1\nmade 1 load 0\n";
+    let of = |replies: &str| model_values(format!("{made}{replies}").as_bytes(), 10000, true);
+    let decided = of("replied 0 1 0\nreplied 1 1 0\n").unwrap();
+    assert_eq!([decided.coherent, decided.fenced, decided.pso, decided.tso], [Some(true); 4]);
+    assert!(decided.sc == Some(false) && decided.text.contains("\nsc no\nan order of tso:\n"));
+    assert_eq!(of("replied 0 1 7\nreplied 1 1 0\n"), Err(Undecided::Unwritten { line: 7 }));
+    assert_eq!(of(""), Err(Undecided::Fault(Fault::Text { fault: 5, line: 4 })));
 }
 
 /// A chain so long that its verdict doesn't fit at once: the numbers rise from the one end to the other.
