@@ -6,7 +6,7 @@ use Rattle.rising.specs.Found.{IsOrderOrCycle, IsEdgeCycle}
 use Rattle.memory_models.specs.Arcs.{ExtendsEdges}
 use Rattle.weak_models.specs.Arcs.{RisesByProgram, AreReasoned}
 use Rattle.weak_models.proofs.Exact.{word_arcs_are, is_rvwmo, no_rvwmo, around}
-use Rattle.weak_models.proofs.judging.judge_rvwmo.Goals as goal
+use Rattle.weak_models.proofs.judging.judge_by_pairs.Goals as goal
 
 pub program_arcs-requires : goal.program_arcs-requires
 program_arcs-requires g c =
