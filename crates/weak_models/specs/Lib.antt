@@ -3,4 +3,5 @@ pub mod Preserved
 pub mod Order
 pub mod Arcs
 pub mod Verdict
+pub mod Bounds
 pub mod Laws

@@ -1,11 +1,8 @@
 //! Whether steps go around, each for its reason.
 
-ghost use Rattle.std.specs.Prelude.{◌≡◌, ◌<◌, ◌+◌, ◌-◌, ℕ, true, length, IfOk, IfSome};
-ghost use Rattle.memory_models.specs.Trace.{IsMemoryTrace};
+ghost use Rattle.std.specs.Prelude.{◌≡◌, ◌<◌, true, length, IfSome};
 ghost use Rattle.weak_models.specs.Arcs.{IsReason};
-ghost use Rattle.weak_models.specs.Order.{IsRvwmo};
 ghost use Rattle.weak_models.specs.Verdict.{AreAround};
-ghost use Rattle.weak_models.specs.Checked.{IsReasonedStep, AreReasonedSteps, AreJoinedSteps};
 
 use crate::notes::{Dependency, Note};
 use crate::pairs::is_behind_pair;
@@ -32,7 +29,7 @@ pub fn reason_between(
     if is_behind_pair(notes, operations, x, y) {
         return Some(Reason::Atomicity);
     }
-    match memory_models::cycle::reason_of(&[], operations, writes, x, y) {
+    match memory_models::reason_of(&[], operations, writes, x, y) {
         Some(Why::Read) => Some(Reason::Read),
         Some(Why::Overwritten) => Some(Reason::Overwritten),
         Some(Why::Stale) => Some(Reason::Stale),
@@ -49,11 +46,10 @@ fn is_reasoned(
     writes: &[usize],
     step: ReasonedStep,
 ) -> bool
-    ensures { result ≡ true
-        → IsReasonedStep notes.now dependencies.now operations.now writes.now step }
+    ensures { result ≡ true → IsReason notes.now dependencies.now operations.now writes.now
+        step.from step.to step.why }
 {
-    let count = operations.len();
-    if step.from >= count || step.to >= count {
+    if step.from >= operations.len() || step.to >= operations.len() {
         return false;
     }
     match reason_between(notes, dependencies, operations, writes, step.from, step.to) {
@@ -62,41 +58,7 @@ fn is_reasoned(
     }
 }
 
-/// Whether each step has its reason.
-fn are_reasoned(
-    notes: &[Note],
-    dependencies: &[Dependency],
-    operations: &[Operation],
-    writes: &[usize],
-    steps: &[ReasonedStep],
-) -> bool
-    ensures { result ≡ true
-        → AreReasonedSteps notes.now dependencies.now operations.now writes.now steps.now }
-{
-    for k in 0..steps.len() {
-        if !is_reasoned(notes, dependencies, operations, writes, steps[k]) {
-            return false;
-        }
-    }
-    true
-}
-
-/// Whether each step leads to the next, and the last one to the first.
-fn are_joined(steps: &[ReasonedStep]) -> bool
-    ensures { result ≡ true → AreJoinedSteps steps.now }
-{
-    if steps.is_empty() {
-        return false;
-    }
-    for k in 1..steps.len() {
-        if steps[k - 1].to != steps[k].from {
-            return false;
-        }
-    }
-    steps[steps.len() - 1].to == steps[0].from
-}
-
-/// Whether steps go around, each for its reason; then no order explains the trace.
+/// Whether each step has its reason and leads to the next, and the last one to the first.
 pub fn go_around(
     notes: &[Note],
     dependencies: &[Dependency],
@@ -111,5 +73,18 @@ pub fn go_around(
     ensures none { result ≡ true → (turn : ℕ → ℕ)
         → IsRvwmo notes.now dependencies.now operations.now writes.now turn → ⊥ }
 {
-    are_joined(steps) && are_reasoned(notes, dependencies, operations, writes, steps)
+    if steps.is_empty() {
+        return false;
+    }
+    for k in 0..steps.len() {
+        if !is_reasoned(notes, dependencies, operations, writes, steps[k]) {
+            return false;
+        }
+    }
+    for k in 1..steps.len() {
+        if steps[k - 1].to != steps[k].from {
+            return false;
+        }
+    }
+    steps[steps.len() - 1].to == steps[0].from
 }
