@@ -6,6 +6,7 @@ mod accept;
 mod arcs;
 pub mod by_values;
 mod by_word;
+mod choices;
 mod conflict;
 mod decided;
 mod first;
@@ -23,7 +24,7 @@ mod starting;
 pub mod valued;
 mod waits;
 
-pub use by_values::{ValuedVerdict, judge_valued};
+pub use by_values::judge_valued;
 pub use question::{Explanation, OrderVerdict, Unordered};
 pub use search::judge_unordered;
 pub use valued::{Sources, Valued, sources_by_values};

@@ -30,7 +30,8 @@ pub struct Valued<'a> {
 pub enum Sources<A: Allocator = Global> {
     /// The source of each operation: the write that left what a load or an atomic found, and else 0.
     Told(Vec<usize, A>),
-    /// These two writes left the same in one word, so a word that was found may not show who wrote it.
+    /// Some write left what each operation found, and these two left the same in one word, so a word that
+    /// was found may not show who wrote it.
     Alike(usize, usize),
     /// This operation found what no write of its word left.
     Unwritten(usize),
@@ -107,7 +108,7 @@ fn find_alike(
 }
 
 /// Whether a write left what an operation found in its word.
-fn is_left_by(valued: &Valued, x: usize, s: usize) -> bool
+pub(crate) fn is_left_by(valued: &Valued, x: usize, s: usize) -> bool
     requires x { x < length valued.now.operations.now }
     requires s { s < length valued.now.operations.now }
     ensures yes { result ≡ true
@@ -151,8 +152,8 @@ fn source_at<A: Allocator>(valued: &Valued, writes: &Writes<A>, x: usize) -> Opt
     source_of(valued, x, writes.likely_source(valued, x))
 }
 
-/// The sources of loads and atomics; or two writes that left the same in one word; or an operation that
-/// found what no write of its word left.
+/// The sources of loads and atomics; or an operation that found what no write of its word left; or else
+/// two writes that left the same in one word.
 ///
 /// Errors: out of memory.
 pub fn sources_by_values<A: Allocator + Copy>(
@@ -162,10 +163,6 @@ pub fn sources_by_values<A: Allocator + Copy>(
     ensures { IfOk result (AreSourcesOf valued.now) }
 {
     let writes = sorted_writes(alloc, valued)?;
-    let (order, places) = (&writes.order, &writes.places);
-    if let Some((x, y)) = find_alike(valued.operations, valued.left, order, places) {
-        return Ok(Sources::Alike(x, y));
-    }
     let mut sources = Vec::new(alloc);
     for x in 0..valued.operations.len() {
         let Some(source) = source_at(valued, &writes, x) else {
@@ -173,5 +170,9 @@ pub fn sources_by_values<A: Allocator + Copy>(
         };
         sources.push(source)?;
     }
-    Ok(Sources::Told(sources))
+    let (order, places) = (&writes.order, &writes.places);
+    match find_alike(valued.operations, valued.left, order, places) {
+        Some((x, y)) => Ok(Sources::Alike(x, y)),
+        None => Ok(Sources::Told(sources)),
+    }
 }
