@@ -26,7 +26,7 @@ use Rattle.fair_rounds.proofs.Charges.{step_charges}
 use Rattle.fair_rounds.proofs.NetRuns.{noted_run, net_append}
 use Rattle.fair_rounds.proofs.RoundMoves.{Finds}
 
--- the same of states
+-- the steps that begin no operation, from state to state
 abbrev pub plain_of : Design → State → List Step → List Step
 plain_of d s [] = []
 plain_of d s (a ∷ steps) = if begins_operation s a then plain_of d s steps else a ∷ plain_of d (next d s a) steps

@@ -59,7 +59,7 @@ module _ (t : ChoiceTable) (replies : List Reply) where
       → StandsBehind t replies judged text false
   nothing_stands {A} judged text has none = subst (λ b. IsBehindText A b t replies text false) (sym has) (none, refl)
 
--- the lists of a network are those of the same lists
+-- networks of equal lists have equal lists of choices
 pub shaped_moved : (kinds of_kinds : List Kind) (joins of_joins : List Join) (ways : ℕ) (choices : List ℕ) (marks : List Bool) → kinds ≡ of_kinds
     → joins ≡ of_joins → IsShaped (choosing_of of_kinds of_joins ways choices marks) → IsShaped (choosing_of kinds joins ways choices marks)
 shaped_moved kinds of_kinds joins of_joins ways choices marks one two shaped =

@@ -3,7 +3,6 @@
 #![tactic(auto)]
 
 pub mod answer;
-mod breadth;
 pub mod cause_sentence;
 pub mod causes;
 mod going;

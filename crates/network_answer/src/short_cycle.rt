@@ -10,7 +10,6 @@ ghost use Rattle.network_adaptive.specs.Edges.{pair_edge};
 ghost use Rattle.network_adaptive.specs.Flags.{AreDown, HasWaits};
 ghost use Rattle.network_answer.specs.Shorter.{IsCycleOf};
 
-use crate::breadth::shorter_circle;
 use network_adaptive::Dependency;
 use network_adaptive::cycle::dependencies_of;
 use network_adaptive::edges::{pair_edges, with_replies};
@@ -21,6 +20,7 @@ use network_judge::links::links_of;
 use network_judge::walk::trace_all;
 use network_judge::{Join, Kind, Link, Reply, Verdict, judge};
 use rising::Edge;
+use rising::breadth::shorter_circle;
 use rising::chains::{Chains, chains_of};
 use std::alloc::{AllocError, Allocator};
 

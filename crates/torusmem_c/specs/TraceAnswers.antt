@@ -32,7 +32,7 @@ pub record SaysFirst (c : Code) (line : ℕ) (first : List ℕ) (s : TraceSaid) 
   pub named : s.line ≡ line
   pub text : BeginsWithLine first s.text.items
 
--- the same of a first line that there may be
+-- there is a first line, and a code is told of a line with a text that begins with it
 abbrev pub SaysSome : Code → ℕ → Option (List ℕ) → TraceSaid → Type 0
 SaysSome c line words s = (first : List ℕ) × (words ≡ Some first) × SaysFirst c line first s
 

@@ -1,9 +1,10 @@
-//! Searches in breadth for circles of a graph: a guess, and the check of what was guessed.
+//! Breadth-first searches for circles of a graph: a guess, and the check of what was guessed.
 
 ghost use Rattle.std.specs.Prelude.{◌≡◌, ◌<◌, true, length, IfOk, IfSome};
 ghost use Rattle.rising.specs.Search.{StepsOn, IsCircuit};
 
-use rising::{Graph, Look};
+use crate::graph::Graph;
+use crate::search::Look;
 use std::alloc::{AllocError, Allocator};
 
 /// How many nodes the searches for one circle go on from, at most.
@@ -90,7 +91,7 @@ fn way_to<A: Allocator + Copy>(
 }
 
 /// The nodes of a circle through a node, each with the column in which it leads on, of fewer than so many:
-/// a guess, from a search in breadth that goes on from so many nodes at most, and takes them off; and
+/// a guess, from a breadth-first search that goes on from so many nodes at most, and takes them off; and
 /// one for each 64 nodes of the graph, for whose flags it asks.
 ///
 /// Errors: out of memory.
@@ -180,11 +181,11 @@ fn circle_through<A: Allocator + Copy, G: Graph>(
     Ok(None)
 }
 
-/// A circle of fewer nodes than so many, if a search in breadth from one of these finds one: a guess, the
+/// A circle of fewer nodes than so many, if a breadth-first search from one of these finds one: a guess, the
 /// shortest that the searches find.
 ///
 /// Errors: out of memory.
-pub(crate) fn shorter_circle<A: Allocator + Copy, G: Graph>(
+pub fn shorter_circle<A: Allocator + Copy, G: Graph>(
     alloc: A,
     graph: &G,
     starts: &[usize],

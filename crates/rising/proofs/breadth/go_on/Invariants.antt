@@ -1,5 +1,5 @@
 use Rattle.std.proofs.Common.{◌≡◌, ◌-◌, ◌<◌, ◌≤◌, true}
-use Rattle.network_answer.proofs.breadth.go_on.Given as goal
+use Rattle.rising.proofs.breadth.go_on.Given as goal
 
 -- the node leads on in the column, if it is one
 abbrev pub invariant-edges : goal.invariant-edges

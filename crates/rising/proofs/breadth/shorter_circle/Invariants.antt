@@ -1,7 +1,7 @@
 use Rattle.std.proofs.Common.{◌<◌, ◌≤◌, length}
 use Rattle.std.specs.Prelude.{IfSome}
 use Rattle.rising.specs.Search.{IsCircuit}
-use Rattle.network_answer.proofs.breadth.shorter_circle.Given as goal
+use Rattle.rising.proofs.breadth.shorter_circle.Given as goal
 
 -- what is found is a circle, of fewer nodes than so many
 abbrev pub invariant-loop-k : goal.invariant-loop-k

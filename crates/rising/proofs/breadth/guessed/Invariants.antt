@@ -1,5 +1,5 @@
 use Rattle.std.proofs.Common.{◌≡◌, length}
-use Rattle.network_answer.proofs.breadth.guessed.Given as goal
+use Rattle.rising.proofs.breadth.guessed.Given as goal
 
 -- a flag for each node
 abbrev pub invariant-loop-place : goal.invariant-loop-place

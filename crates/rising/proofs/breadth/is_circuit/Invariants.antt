@@ -1,6 +1,6 @@
 use Rattle.std.proofs.Common.{◌+◌, ◌<◌, ℕ}
 use Rattle.rising.specs.Search.{path_look, StepsOn}
-use Rattle.network_answer.proofs.breadth.is_circuit.Given as goal
+use Rattle.rising.proofs.breadth.is_circuit.Given as goal
 
 -- those so far lead on
 abbrev pub invariant-loop-k : goal.invariant-loop-k
