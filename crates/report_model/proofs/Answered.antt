@@ -6,8 +6,8 @@ use Rattle.report_check.specs.Good.{AreGood}
 use Rattle.model_answer.specs.declared.answer.Answer.{Answer}
 use Rattle.model_answer.specs.declared.answer.NoAnswer.{NoAnswer}
 use Rattle.model_answer.specs.declared.answer.Options.{Options}
-use Rattle.model_records.specs.declared.entry.LineEntry.{LineEntry}
-use Rattle.model_records.specs.Answers.{IsAnswerToLines, IsNoAnswerToLines}
+use Rattle.report_model.specs.declared.entry.LineEntry.{LineEntry}
+use Rattle.report_model.specs.LogAnswers.{IsAnswerToLines, IsNoAnswerToLines}
 use Rattle.report_model.specs.declared.answer.NoReportAnswer.{NoReportAnswer}
 use Rattle.report_model.specs.declared.answer.NoReportAnswer.TheVariants.{Bad, NoOrder, Unjudged, Memory}
 use Rattle.report_model.specs.Answers.{HasNoRunAnswer, IsAnswerToReport, IsAnswerToRun, IsNoAnswerToReport, IsNoAnswerToRun}

@@ -2,7 +2,7 @@
 use Rattle.std.proofs.Common.{◌≡◌, ◌∙◌, ◌++◌, List, Vec, map, ap}
 use Rattle.std.specs.Prelude.{IfOk, Result, Ok, Err}
 use Rattle.std.specs.List.{flat_map}
-use Rattle.model_records.specs.declared.entry.LineEntry.{LineEntry}
+use Rattle.report_model.specs.declared.entry.LineEntry.{LineEntry}
 use Rattle.report_model.specs.declared.row.ProgramStep.{ProgramStep}
 use Rattle.report_model.specs.declared.row.ReportRow.{ReportRow}
 use Rattle.report_model.specs.Entries.{entries_of, entries_with, made_entry, services}

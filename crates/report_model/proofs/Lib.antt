@@ -1,3 +1,4 @@
+pub mod Taken
 pub mod Entered
 pub mod Found
 pub mod Kept

@@ -10,7 +10,7 @@ use Rattle.report_check.specs.Good.{AreGood, FirstBad}
 use Rattle.model_answer.specs.declared.answer.Answer.{Answer}
 use Rattle.model_answer.specs.declared.answer.NoAnswer.{NoAnswer}
 use Rattle.model_answer.specs.declared.answer.Options.{Options}
-use Rattle.model_records.specs.Answers.{IsAnswerToLines, IsNoAnswerToLines}
+use Rattle.report_model.specs.LogAnswers.{IsAnswerToLines, IsNoAnswerToLines}
 use Rattle.report_model.specs.declared.answer.NoReportAnswer.{NoReportAnswer}
 use Rattle.report_model.specs.declared.answer.NoReportAnswer.TheVariants.{Bad, NoOrder, Unjudged}
 use Rattle.report_model.specs.declared.answer.NoReportAnswer.TheVariants.{Memory}

@@ -3,10 +3,10 @@ use Rattle.std.specs.Prelude.{List, [], ◌∷◌, ◌++◌, map, if◌then◌el
 use Rattle.std.specs.List.{flat_map}
 use Rattle.memory_models.specs.Trace.{is_load}
 use Rattle.model_text.specs.Kinds.{kind_of_op}
-use Rattle.model_records.specs.declared.entry.LineEntry.{LineEntry}
-use Rattle.model_records.specs.declared.entry.LogEntry.{LogEntry}
-use Rattle.model_records.specs.declared.entry.LogEntry.TheVariants as entry
-use Rattle.model_records.specs.declared.entry.Named.{Named}
+use Rattle.report_model.specs.declared.entry.LineEntry.{LineEntry}
+use Rattle.report_model.specs.declared.entry.LogEntry.{LogEntry}
+use Rattle.report_model.specs.declared.entry.LogEntry.TheVariants as entry
+use Rattle.report_model.specs.declared.entry.Named.{Named}
 use Rattle.report_model.specs.declared.row.ProgramStep.{ProgramStep}
 use Rattle.report_model.specs.declared.row.ReportRow.{ReportRow}
 use Rattle.report_model.specs.Indexes.{name_issued, operation_step}

@@ -2,7 +2,7 @@
 -- project's own format).
 use Rattle.std.specs.Prelude.{ℕ, ◌==◌, List, map, take, length, count_by, slice_index_or, Some, None}
 use Rattle.std.specs.List.{range_with_len}
-use Rattle.model_records.specs.declared.entry.Named.{Named}
+use Rattle.report_model.specs.declared.entry.Named.{Named}
 use Rattle.model_text.specs.Traces.{place_below}
 use Rattle.report_model.specs.declared.row.ProgramStep.{ProgramStep}
 use Rattle.report_model.specs.declared.row.ReportRow.{ReportRow}

@@ -1,3 +1,6 @@
+pub mod LogEntries
+pub mod Records
+pub mod LogAnswers
 pub mod Run
 pub mod Rows
 pub mod Indexes

@@ -6,8 +6,8 @@ use Rattle.report_lines.specs.declared.line.ReportLine.{ReportLine}
 use Rattle.report_lines.specs.declared.line.ReportLine.TheVariants.{Header, Shape, Init, Entry}
 use Rattle.report_lines.specs.declared.line.ReportLine.TheVariants.{Answer, Word, Order}
 use Rattle.report_lines.specs.declared.line.ReportLine.TheVariants.{End}
-use Rattle.model_records.specs.declared.entry.LineEntry.{LineEntry}
-use Rattle.model_records.specs.declared.entry.LogEntry.TheVariants as entry
+use Rattle.report_model.specs.declared.entry.LineEntry.{LineEntry}
+use Rattle.report_model.specs.declared.entry.LogEntry.TheVariants as entry
 use Rattle.report_model.specs.declared.run.RunLines.{RunLines}
 use Rattle.report_model.specs.declared.run.ServedLine.{ServedLine}
 

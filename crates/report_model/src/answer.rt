@@ -6,10 +6,10 @@ ghost use Rattle.report_model.specs.Answers.{IsNoAnswerToRun, lacks_order};
 ghost use Rattle.report_model.specs.Run.{run_seen};
 
 use crate::entries::entries_of;
+use crate::log_answer::answer_to_lines;
 use crate::run::RunLines;
 use crate::running::read_run;
 use model_answer::{Answer, NoAnswer, Options};
-use model_records::answer_to_lines;
 use report_check::{CheckFault, check_report};
 use std::alloc::Allocator;
 

@@ -8,12 +8,12 @@ ghost use Rattle.report_model.specs.Indexes.{operation_step};
 ghost use Rattle.report_model.specs.Rows.{rows_of};
 ghost use Rattle.report_model.specs.Run.{run_seen};
 
+use crate::entry::{LineEntry, LogEntry, Named};
 use crate::indexes::{issues_of_steps, name_issued, names_of};
 use crate::made::{event_limit, made_of};
 use crate::row::{ProgramStep, ReportRow, operation_step, row_at, step_at};
 use crate::rows::rows_of;
 use crate::run::RunLines;
-use model_records::{LineEntry, LogEntry, Named};
 use model_text::placing::places_in;
 use packet::Op;
 use std::alloc::{AllocError, Allocator};

@@ -8,13 +8,13 @@ ghost use Rattle.report_model.specs.Run.{run_seen};
 
 use crate::answer::{NoReportAnswer, NoTextsAnswer, lacks_order};
 use crate::entries::entries_with;
+use crate::log_answer::answer_to_lines;
 use crate::made::made_of;
 use crate::program::{MEMORY, programs_of};
 use crate::rows::rows_of;
 use crate::run::RunLines;
 use crate::running::read_run;
 use model_answer::{Answer, Options};
-use model_records::answer_to_lines;
 use report_check::{CheckFault, check_report};
 use report_lines::Radices;
 use script::{MachineText, Scripts};

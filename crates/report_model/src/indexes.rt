@@ -8,8 +8,8 @@ ghost use Rattle.report_model.specs.declared.row.ProgramStep.{ProgramStep};
 ghost use Rattle.report_model.specs.Indexes.{issues_of_steps, name_issued, names_of};
 ghost use Rattle.report_model.specs.Rows.{event_limit};
 
+use crate::entry::Named;
 use crate::row::{ProgramStep, step_at};
-use model_records::Named;
 use model_text::placing::place_of;
 use std::alloc::{AllocError, Allocator};
 use std::collections::BTreeMap;

@@ -3,7 +3,7 @@
 ghost use Rattle.std.specs.Prelude.{◌≡◌, ◌+◌, ◌<◌, ◌^◌, OnOk};
 ghost use Rattle.report_model.specs.Run.{nothing_run, run_after, run_seen};
 
-use model_records::{LineEntry, LogEntry};
+use crate::entry::{LineEntry, LogEntry};
 use report_lines::{EntryLine, OrderLine, Radices, ReportLine};
 use std::alloc::{AllocError, Allocator, Global};
 

@@ -8,8 +8,8 @@ use Rattle.model_answer.specs.declared.answer.NoAnswer.{NoAnswer}
 use Rattle.model_answer.specs.declared.answer.NoAnswer.TheVariants.{Refused, Wrong, Memory}
 use Rattle.model_answer.specs.declared.answer.Options.{Options}
 use Rattle.model_answer.specs.declared.judged.Obeys.{Obeys}
-use Rattle.model_records.specs.declared.record.LogRecord.{LogRecord}
-use Rattle.model_records.specs.Answers.{IsAnswerToRecords, IsNoAnswerToRecords}
+use Rattle.report_model.specs.declared.record.LogRecord.{LogRecord}
+use Rattle.report_model.specs.LogAnswers.{IsAnswerToRecords, IsNoAnswerToRecords}
 use Rattle.torusmem_c.specs.declared.models.ModelsRecord.{ModelsRecord}
 use Rattle.torusmem_c.specs.declared.outcome.Code.{Code}
 use Rattle.torusmem_c.specs.declared.outcome.Code.TheVariants as code

@@ -8,8 +8,8 @@ ghost use Rattle.torusmem_c.specs.Models.{wrong_record};
 use crate::outcome::{Code, Outcome, fault_outcome, no_memory};
 use crate::room::put_code;
 use model_answer::{NoAnswer, Obeys, Options};
-use model_records::{LogRecord, answer_to_records};
 use model_text::WrongReply;
+use report_model::{LogRecord, answer_to_records};
 use script::LineFault;
 use std::alloc::Global;
 

@@ -1,7 +1,7 @@
 use Rattle.std.proofs.Common.{◌≡◌, ◌≤◌, ◌++◌, ◌∙◌, List, length, sym, ap, arith}
 use Rattle.std.specs.List.{flat_map}
 use Rattle.std.proofs.lemmas.List.{take_all}
-use Rattle.model_records.specs.declared.entry.Named.{Named}
+use Rattle.report_model.specs.declared.entry.Named.{Named}
 use Rattle.report_model.specs.declared.row.ReportRow.{ReportRow}
 use Rattle.report_model.specs.Entries.{service_entries, services}
 use Rattle.report_model.specs.Indexes.{name_issued}

@@ -1,7 +1,7 @@
 -- The answer's text is what goes into the buffer.
 use Rattle.std.proofs.Common.{inl, ℕ, List, length, ◌∙◌, ap, subst, Global}
 use Rattle.model_answer.specs.declared.answer.Options.{Options}
-use Rattle.model_records.specs.Answers.{IsAnswerToRecords}
+use Rattle.report_model.specs.LogAnswers.{IsAnswerToRecords}
 use Rattle.torusmem_c.specs.declared.outcome.Code.{Code}
 use Rattle.torusmem_c.specs.declared.outcome.Code.TheVariants as code
 use Rattle.torusmem_c.specs.Models.{models_record}
