@@ -11,7 +11,10 @@ plain model of the machine in Python, which goes through all states, so NOTHING 
 
 With --places each address of the scripts is put at each tile in turn, as the script's words may lie anywhere: a table has a line
 for each placement, with its outcomes by their numbers. With --fences it says of each fence, by its line in the script, whether it
-is superfluous there: without it the outcomes are the same. Else it is needed, for the outcomes that come without it.
+is superfluous there: without it alone the outcomes are the same. Else it is needed, for the outcomes that come without it.
+
+--at 1,0 looks at one placement alone: each address by its tile. With --svg it draws up to four placements, on a ring of at most four
+tiles: the ways of the requests, and in bold the outcomes that not all of them have.
 
 With --litmus it reads tests as litmus7 has them, of X86 or RISCV: stores, loads, atomics, full fences, and `exists`. Thread k runs
 at tile k of a ring of four tiles (more for more threads), of depth 2 and four tags, or of the machine of --machine. It prints at
@@ -29,9 +32,11 @@ from typing import Dict, List, Sequence, Tuple
 
 from torusmem_tools import command
 from torusmem_tools.command import Refusal, WrongWords
+from torusmem_tools.draw import placement_picture
 from torusmem_tools.model import campaign_cases, litmus_machine, outcome_places, replay
 from torusmem_tools.model.outcome_places import Found, Place
 from torusmem_tools.model.outcome_states import Outcome
+from torusmem_tools.model.torus import Shape
 from torusmem_tools.texts import litmus
 from torusmem_tools.texts.columns import aligned
 
@@ -46,6 +51,8 @@ def words() -> command.Parser:
     parser.add_argument("texts", metavar="TEXT", nargs="+", help="the machine and the scripts; with --litmus tests; - is standard input")
     parser.add_argument("--run", metavar="K", type=command.whole(0, 10**7), help="print the steps of a run to outcome K")
     parser.add_argument("--places", action="store_true", help="a table of all placements of the addresses")
+    parser.add_argument("--at", metavar="TILES", action="append", type=tiles_of, help="with --places: this placement alone, as 1,0; may stand several times")
+    parser.add_argument("--svg", action="store_true", help="with --at: a picture of these placements")
     parser.add_argument("--fences", action="store_true", help="with --places: which fences are superfluous")
     parser.add_argument("--litmus", action="store_true", help="a table of litmus tests, beside what memory models allow")
     parser.add_argument("--machine", metavar="MACHINE", help="with --litmus: the text of a machine, in place of a ring")
@@ -54,11 +61,19 @@ def words() -> command.Parser:
     return parser
 
 
+def tiles_of(word: str) -> Place:
+    """The reader of a placement, as 1,0."""
+    return tuple(command.whole(0, 63)(it) for it in word.split(","))
+
+
 def refuse_words(given: argparse.Namespace) -> None:
     """Refuses words that are of no use together."""
     of_no_use = [
         ("--places", given.places and given.litmus, "with --litmus"),
         ("--fences", given.fences and not given.places, "without --places"),
+        ("--at", given.at is not None and not given.places, "without --places"),
+        ("--svg", given.svg and not given.at, "without --at"),
+        ("--svg", given.svg and given.fences, "with --fences"),
         ("--machine", given.machine is not None and not given.litmus, "without --litmus"),
         ("--runs", given.runs is not None and not given.litmus and not given.fences, "without --fences or --litmus"),
         ("--run", given.run is not None and (given.places or given.litmus), "with --places or --litmus"),
@@ -167,17 +182,47 @@ def of(numbers: Dict[Outcome, int], outcomes: Sequence[Outcome] | Dict[Outcome, 
     return " ".join(map(str, sorted(numbers[it] for it in outcomes))) + ("" if found.search.is_exact else " ..")
 
 
+def chosen(case: campaign_cases.Case, given: argparse.Namespace) -> List[Place]:
+    """The placements that are looked at."""
+    count = len(outcome_places.addresses(case))
+    for place in given.at or []:
+        if len(place) != count or max(place) >= case.tiles():
+            raise WrongWords(f"--at {','.join(map(str, place))}: the scripts have {count} addresses, and the tiles are below {case.tiles()}")
+    if not given.at and case.tiles() ** count > MOST_PLACES:
+        raise Refusal(f"there are {case.tiles() ** count} placements, and at most {MOST_PLACES} are gone through")
+    return given.at or list(outcome_places.places(case))
+
+
 def placed(case: campaign_cases.Case, lines: List[int], given: argparse.Namespace) -> str:
-    """The table of all placements."""
-    count = case.tiles() ** len(outcome_places.addresses(case))
-    if count > MOST_PLACES:
-        raise Refusal(f"there are {count} placements, and at most {MOST_PLACES} are gone through")
+    """The table of placements, or the picture."""
     table = Table(case, lines, given.states)
-    for place in outcome_places.places(case):
+    for place in chosen(case, given):
         table.look(place, outcome_places.fences(case) if given.fences else [])
     if given.runs:
         table.write(given.runs)
+    if given.svg:
+        return picture(case, table)
     return ended([NOTE, *table.text()], table.is_exact)
+
+
+def picture(case: campaign_cases.Case, table: Table) -> str:
+    """The picture of some placements."""
+    shape = Shape(case.radices, case.datelines or [it - 1 for it in case.radices])
+    if shape.dims > 1 or shape.tiles > placement_picture.MOST_TILES or len(table.rows) > 4 or not table.is_exact:
+        raise Refusal("a picture has up to four placements, of known outcomes, on a ring of at most four tiles")
+    names = outcome_places.addresses(case)
+    common = set.intersection(*(set(found.outcomes) for _, found, _ in table.rows))
+    requests = sorted({(p, int(text.split()[1])) for p, text in case.lines if text != "fence"})
+    panels = []
+    for place, found, _ in table.rows:
+        words = {tile: [a for a, home in zip(names, place) if home == tile] for tile in place}
+        outcomes = sorted(found.outcomes, key=Outcome.text)
+        scripts = [f"P{p}: " + "; ".join(text for at, text in case.lines if at == p) for p in sorted({it for it, _ in case.lines})]
+        said = [*scripts, "", f"{len(outcomes)} outcomes:", *(f"  {it.text().partition(' ;')[0]}" for it in outcomes)]
+        bold = [False] * (len(scripts) + 2) + [it not in common for it in outcomes]
+        heading = ", ".join(f"word {a} at tile {home}" for a, home in zip(names, place))
+        panels.append(placement_picture.Panel(heading, words, requests, said, bold))
+    return placement_picture.draw_placements(shape, panels, "placements of the words of a script")
 
 
 def tests(given: argparse.Namespace) -> str:
