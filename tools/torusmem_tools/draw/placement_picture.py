@@ -125,7 +125,7 @@ class Drawing:
             made += self.request(number)
         top = HEAD + HIGH + (46 if self.shape.tiles > 2 else 24)
         for k, (said, bold) in enumerate(zip(self.panel.lines, self.panel.bold)):
-            made.append(svg_text.text(self.left, top + LINE_HIGH * k, said, 11, font_family=svg_text.MONO, font_weight="bold" if bold else None))
+            made += [] if not said else [svg_text.text(self.left, top + LINE_HIGH * k, said, 11, font_family=svg_text.MONO, font_weight="bold" if bold else None)]
         return made
 
 
