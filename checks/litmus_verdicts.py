@@ -12,14 +12,15 @@ load, as x86 does.
 """
 from __future__ import annotations
 
+import contextlib
 import glob
 import os
-from typing import Dict, Iterator, List, Set, Tuple
+from typing import Dict, Iterator, List, Optional, Set, Tuple
 
 from rows import PROGRAM, ROOT, asked
 
 from torusmem_tools import command
-from torusmem_tools.model import litmus_machine, litmus_models, outcome_places
+from torusmem_tools.model import campaign_cases, litmus_machine, litmus_models, outcome_places
 from torusmem_tools.model.memory_models import MODELS, verdicts
 from torusmem_tools.model.outcome_states import Outcome
 from torusmem_tools.texts import litmus, report
@@ -90,7 +91,7 @@ def outcomes(test: Litmus) -> Dict[str, Set[Outcome]]:
         rows: List[Tuple[object, ...]] = []
         for p, thread in enumerate(test.threads):
             made = [it for it in thread.operations if it.kind != "fence"]
-            rows += [tuple("ok" if it.kind == "store" else replies[p, it.number] for it in made)] if thread.operations else []
+            rows += [tuple("ok" if it.kind == "store" else replies[p, it.number] for it in made)] if made else []
         outcome = Outcome(tuple(rows), tuple((a, word) for a, word in enumerate(words) if word))
         for model, obeys in verdicts(log).items():
             found[model] |= {outcome} if obeys else set()
@@ -130,21 +131,28 @@ def on_machine(test: Litmus, allowed: Dict[str, Set[Outcome]]) -> Iterator[str]:
                 yield f"with {tags} tags at {place} {len(made)} outcomes, and {model} has {len(allowed[model])}"
 
 
-def replayed(test: Litmus) -> Iterator[str]:
+def outcome_of(found: report.Report) -> Outcome:
+    """The outcome that a report shows."""
+    replies: Dict[int, List[Tuple[int, object]]] = {}
+    for it in found.entries:
+        replies.setdefault(it.source, []).append((it.index or 0, "ok" if it.reply is None else it.reply))
+    rows = tuple(tuple(reply for _, reply in sorted(replies[p], key=lambda one: one[0])) for p in sorted(replies))
+    return Outcome(rows, tuple(sorted(found.closing.items())))
+
+
+def replayed(case: campaign_cases.Case, steps: List[str]) -> Optional[Outcome]:
+    """What the report of some steps shows; nothing where a script isn't finished."""
+    texts = (case.machine_text(), case.script_text(), "".join(f"{it}\n" for it in steps))
+    with contextlib.ExitStack() as files:
+        said = asked("steps", *(files.enter_context(command.temporary_file(it.encode())) for it in texts))
+    return None if said.status else outcome_of(report.parse_report(said.out.encode(), "the report"))
+
+
+def runs(test: Litmus) -> Iterator[str]:
     """What is wrong with the runs that show what a test asks for: `torusmem steps` must show the same words and replies."""
     for it in litmus_machine.shown(test, litmus_machine.ring(test), 100000):
-        if it.outcome:
-            texts = (it.found.case.machine_text(), it.found.case.script_text(), "".join(f"{step}\n" for step in it.found.run(it.outcome)))
-            with command.temporary_file(texts[0].encode()) as machine, command.temporary_file(texts[1].encode()) as script:
-                with command.temporary_file(texts[2].encode()) as steps:
-                    said = asked("steps", machine, script, steps)
-            found = report.parse_report(said.out.encode(), "the report")
-            rows: Dict[int, List[Tuple[int, object]]] = {}
-            for entry in found.entries:
-                rows.setdefault(entry.source, []).append((entry.index or 0, "ok" if entry.reply is None else entry.reply))
-            replies = tuple(tuple(reply for _, reply in sorted(rows[p], key=lambda one: one[0])) for p in sorted(rows))
-            if said.status or (replies, tuple(sorted(found.closing.items()))) != it.found.outcomes[it.outcome]:
-                yield f"the run at {it.place} shows {replies}"
+        if it.outcome and replayed(it.found.case, it.found.run(it.outcome)) != it.found.outcomes[it.outcome]:
+            yield f"the run at {it.place} shows something else"
 
 
 def rows() -> Iterator[Row]:
@@ -159,4 +167,4 @@ def rows() -> Iterator[Row]:
         yield f"{name}: on the machine", "; ".join(on_machine(test, ends))
         if PROGRAM:
             yield f"{name}: by replies", "; ".join(by_program(test, ends))
-            yield f"{name}: its runs", "; ".join(replayed(test))
+            yield f"{name}: its runs", "; ".join(runs(test))

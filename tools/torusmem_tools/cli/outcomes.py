@@ -27,13 +27,14 @@ more than N states (--states), its outcomes may be more than are known, and the 
 from __future__ import annotations
 
 import argparse
+import itertools
 import os
 from typing import Dict, List, Sequence, Tuple
 
 from torusmem_tools import command
 from torusmem_tools.command import Refusal, WrongWords
 from torusmem_tools.draw import placement_picture
-from torusmem_tools.model import campaign_cases, litmus_machine, outcome_places, replay
+from torusmem_tools.model import campaign_cases, litmus_machine, litmus_models, outcome_places, replay
 from torusmem_tools.model.outcome_places import Found, Place
 from torusmem_tools.model.outcome_states import Outcome
 from torusmem_tools.model.torus import Shape
@@ -42,7 +43,7 @@ from torusmem_tools.texts.columns import aligned
 
 TOOL = "outcomes"
 NOTE = "# by a plain model of the machine: nothing of this is proved"
-MOST_PLACES = 4096
+MOST_PLACES, MOST_LOGS = 4096, 100000
 
 
 def words() -> command.Parser:
@@ -217,12 +218,24 @@ def picture(case: campaign_cases.Case, table: Table) -> str:
     for place, found, _ in table.rows:
         words = {tile: [a for a, home in zip(names, place) if home == tile] for tile in place}
         outcomes = sorted(found.outcomes, key=Outcome.text)
-        scripts = [f"P{p}: " + "; ".join(text for at, text in case.lines if at == p) for p in sorted({it for it, _ in case.lines})]
+        scripts = [f"P{p}, {look}: " + "; ".join(text for at, text in case.lines if at == p)
+                   for p, look in zip(sorted({it for it, _ in requests}), itertools.cycle(placement_picture.LOOKS))]
         said = [*scripts, "", f"{len(outcomes)} outcomes:", *(f"  {it.text().partition(' ;')[0]}" for it in outcomes)]
         bold = [False] * (len(scripts) + 2) + [it not in common for it in outcomes]
         heading = ", ".join(f"word {a} at tile {home}" for a, home in zip(names, place))
         panels.append(placement_picture.Panel(heading, words, requests, said, bold))
     return placement_picture.draw_placements(shape, panels, "placements of the words of a script")
+
+
+def refuse_large(test: litmus.Litmus, case: campaign_cases.Case, name: str) -> None:
+    """Refuses a test that the machine has no room for, or that would take too long."""
+    tiles = min(case.tiles(), 64 if case.radices[1:] else 8)
+    if len(test.threads) > tiles:
+        raise Refusal(f"{name}: {len(test.threads)} threads, and {tiles} tiles")
+    if case.tiles() ** len(test.openings) > MOST_PLACES:
+        raise Refusal(f"{name}: more than {MOST_PLACES} placements of its words")
+    if litmus_models.most_logs(test.operations(), len(test.openings)) > MOST_LOGS:
+        raise Refusal(f"{name}: its loads may read too many stores: there are more than {MOST_LOGS} ways")
 
 
 def tests(given: argparse.Namespace) -> str:
@@ -234,10 +247,7 @@ def tests(given: argparse.Namespace) -> str:
     for name in given.texts:
         test = litmus.read(command.contents(name), name)
         case = machine or litmus_machine.ring(test)
-        if len(test.threads) > case.tiles():
-            raise Refusal(f"{name}: {len(test.threads)} threads, and {case.tiles()} tiles")
-        if case.tiles() ** len(test.openings) > MOST_PLACES:
-            raise Refusal(f"{name}: more than {MOST_PLACES} placements of its words")
+        refuse_large(test, case, name)
         allowed = litmus_machine.allowed(test)
         shown = litmus_machine.shown(test, case, given.states)
         seen, open_ = [it for it in shown if it.outcome], sum(it.is_open() for it in shown)

@@ -14,7 +14,8 @@ LINE_HIGH, LANE = 17, 6
 # Where a tile's agents are, from the middle of its upper edge, half of their sizes, and where their names stand.
 PLACES = {"P": (-34, 34), "B": (34, 34), "R": (0, 85)}
 SIZES = {"P": (16, 11, 4), "B": (16, 11, 4), "R": (52, 22, 18)}
-DASHES = (None, "7 3", "2 3")
+# The ways of each processor's requests: the dashes, and what they are called.
+DASHES, LOOKS = (None, "7 3", "2 3"), ("full", "dashed", "dotted")
 MOST_TILES = 4
 
 

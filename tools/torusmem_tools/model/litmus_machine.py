@@ -43,7 +43,7 @@ def values(test: Litmus, outcome: Outcome) -> Values:
     rows = iter(outcome.replies)
     for p, thread in enumerate(test.threads):
         asked = [it for it in thread.operations if it.kind != "fence"]
-        if thread.operations:
+        if asked:
             replies.update({(p, it.number): 0 if reply == "ok" else reply for it, reply in zip(asked, next(rows))})
     words, used = dict(outcome.words), {it.word for it in test.operations() if it.kind != "fence"}
     openings = test.openings.values()

@@ -2,6 +2,7 @@
 from __future__ import annotations
 
 import itertools
+import math
 from typing import Callable, Dict, Iterator, List, Optional, Tuple
 
 from torusmem_tools.model.memory_models import MODELS, Log, verdicts
@@ -23,6 +24,13 @@ def orders(operations: List[Operation], word: int) -> Iterator[List[int]]:
             numbers[it.processor] = it.number
         else:
             yield list(order)
+
+
+def most_logs(operations: List[Operation], words: int) -> int:
+    """How many logs the operations have, at most."""
+    writes = [sum(it.is_write() and it.word == word for it in operations) for word in range(words)]
+    of_loads = math.prod(writes[it.word] + 1 for it in operations if it.kind == "load")
+    return of_loads * math.prod(map(math.factorial, writes))
 
 
 def logs(operations: List[Operation], openings: List[int]) -> Iterator[Log]:

@@ -8,25 +8,20 @@ from __future__ import annotations
 
 import re
 from dataclasses import dataclass, field
-from typing import Callable, Dict, List, NamedTuple, Tuple, Union
+from typing import Callable, Dict, List, Tuple, Union
 
 from torusmem_tools.command import Refusal
 from torusmem_tools.model.operations import MASK, Operation
 from torusmem_tools.texts import litmus_code
 from torusmem_tools.texts.litmus_code import BadLine, Thread
 
+# A condition has at most so many words.
+MOST_TOKENS = 200
 # A register of a thread.
 Register = Tuple[int, str]
 COMMENT = re.compile(r"\(\*.*?\*\)", re.S)
 SETTING = re.compile(r"(?:[\w*]+\s+)*?(?:(\d+):)?\[?(\w+)\]?\s*=\s*(\w+)")
 TOKEN = re.compile(r"\s*(/\\|\\/|~|\bnot\b|\(|\)|(?:\d+:)?\[?\w+\]?\s*=\s*\w+)")
-
-
-class Holds(NamedTuple):
-    """A part of a condition: a register or a word, which holds a number."""
-
-    of: Union[Register, str]
-    number: int
 
 
 # A condition of what registers and words hold in the end.
@@ -105,13 +100,9 @@ class Reader:
         return registers
 
     def number(self, word: str) -> int:
-        try:
-            found = int(word, 0)
-        except ValueError:
-            raise self.refused(word, "no number") from None
-        if not 0 <= found <= MASK:
-            raise self.refused(word, "a word holds numbers from 0 to 2^64 - 1")
-        return found
+        if not litmus_code.NUMBER.fullmatch(word) or not 0 <= int(word, 0) <= MASK:
+            raise self.refused(word, "no number from 0 to 2^64 - 1")
+        return int(word, 0)
 
     def code(self, made: Litmus, dialect: litmus_code.Dialect, registers: Dict[Register, str], text: str, line: int) -> None:
         """Takes the columns of the threads."""
@@ -134,7 +125,7 @@ class Reader:
                 except BadLine as why:
                     raise self.refused(cell, str(why)) from None
         for thread in made.threads:
-            thread.end(made.openings)
+            thread.end()
 
     def final(self, made: Litmus, text: str, line: int) -> None:
         """Takes the condition."""
@@ -146,6 +137,8 @@ class Reader:
         rest = text[found.end() :]
         self.line += rest[: len(rest) - len(rest.lstrip())].count("\n")
         tokens = self.tokens(rest)
+        if len(tokens) > MOST_TOKENS:
+            raise self.refused("the condition", f"it has more than {MOST_TOKENS} parts")
         made.condition = self.either(made, tokens)
         if tokens:
             raise self.refused(tokens[0], "nothing more stands behind a condition")

@@ -12,6 +12,7 @@ class BadLine(Exception):
     """An instruction that no script can say: why."""
 
 
+NUMBER = re.compile(r"-?(?:0|[1-9][0-9]*|0x[0-9a-fA-F]+)")
 BRANCHES = re.compile(r"(?:J[A-Z]+|LOOP\w*|CMP\w*|TEST\w*|CALL|RET|B(?:EQ|NE|LT|GE|LTU|GEU|EQZ|NEZ|LEZ|GEZ|LTZ|GTZ)|J|JAL|JALR)\b|\w+:", re.I)
 A_BRANCH = "a branch, and a script of the machine has none"
 AN_ADDRESS = "an address that is reckoned, and a script of the machine names its words"
@@ -56,22 +57,21 @@ class Thread:
     def opened_number(self, name: str) -> int:
         """The number with which a register opens: 0 if nothing says one."""
         word = self.opened.get(name, "0")
-        try:
-            return int(word, 0) & MASK
-        except ValueError:
-            raise BadLine(f"{name.lower()} holds the address of {word}, and this wants a number") from None
+        if not NUMBER.fullmatch(word):
+            raise BadLine(f"{name.lower()} holds the address of {word}, and this wants a number")
+        return int(word, 0) & MASK
 
     def address(self, register: str) -> str:
         """The word whose address a register holds."""
         word = self.opened.get(register.upper(), "")
-        if not word or word.lstrip("-").isdigit():
+        if not word or NUMBER.fullmatch(word):
             raise BadLine(AN_ADDRESS)
         return word
 
-    def end(self, openings: Dict[str, int]) -> None:
+    def end(self) -> None:
         """Lets each register that is never set hold its opening number."""
         for register, word in self.opened.items():
-            if word not in openings and register not in self.registers:
+            if NUMBER.fullmatch(word) and register not in self.registers:
                 self.registers[register] = self.opened_number(register)
 
 
@@ -91,14 +91,16 @@ def place(text: str) -> str:
     return found[1] if found else ""
 
 
+def constant(text: str) -> int:
+    """The number that a text spells; a negative one from 2^64 down."""
+    if not NUMBER.fullmatch(text):
+        raise BadLine(f"{text} is no number")
+    return int(text, 0) & MASK
+
+
 def number_of(thread: Thread, text: str) -> int:
     """The number of an x86 operand: `$1`, or that of a register."""
-    if text.startswith("$"):
-        try:
-            return int(text[1:], 0) & MASK
-        except ValueError:
-            raise BadLine(f"{text} is no number") from None
-    return thread.value(text)
+    return constant(text[1:]) if text.startswith("$") else thread.value(text)
 
 
 def x86(thread: Thread, text: str, openings: Dict[str, int]) -> None:
@@ -176,9 +178,9 @@ def riscv(thread: Thread, text: str, openings: Dict[str, int]) -> None:
         else:
             thread.add("store", word, (number_in(thread, operands[0]),), openings)
     elif name in ("li", "mv") and len(operands) == 2:
-        thread.set(operands[0], int(operands[1], 0) & MASK if name == "li" else number_in(thread, operands[1]))
+        thread.set(operands[0], constant(operands[1]) if name == "li" else number_in(thread, operands[1]))
     elif name in ("ori", "addi") and len(operands) == 3 and operands[1] in ("x0", "zero"):
-        thread.set(operands[0], int(operands[2], 0) & MASK)
+        thread.set(operands[0], constant(operands[2]))
     else:
         atomic(thread, name, operands, openings)
 
