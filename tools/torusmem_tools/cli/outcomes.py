@@ -35,6 +35,7 @@ from torusmem_tools import command
 from torusmem_tools.command import Refusal, WrongWords
 from torusmem_tools.draw import placement_picture
 from torusmem_tools.model import campaign_cases, litmus_machine, litmus_models, outcome_places, replay
+from torusmem_tools.model.outcome_list import NOTE
 from torusmem_tools.model.outcome_places import Found, Place
 from torusmem_tools.model.outcome_states import Outcome
 from torusmem_tools.model.torus import Shape
@@ -42,7 +43,6 @@ from torusmem_tools.texts import litmus
 from torusmem_tools.texts.columns import aligned
 
 TOOL = "outcomes"
-NOTE = "# by a plain model of the machine: nothing of this is proved"
 MOST_PLACES, MOST_LOGS = 4096, 100000
 
 
@@ -129,7 +129,7 @@ def listed(found: Found, run: int | None, states: int) -> str:
         return ended([NOTE, *found.run(outcomes[run]), "# finished"], True)
     lines = [NOTE, *(f"outcome {k} : {it.text()}" for k, it in enumerate(outcomes))]
     is_exact = found.search.is_exact
-    last = f"exact, {len(found.search.before)} states"
+    last = f"exact, {found.search.states} states"
     return ended([*lines, last if is_exact else f"undecided, {states} states: {len(outcomes)} outcomes are known, there may be others"], is_exact)
 
 

@@ -6,7 +6,7 @@ from dataclasses import dataclass
 from typing import Dict, Iterator, List, Tuple
 
 from torusmem_tools.model import campaign_cases
-from torusmem_tools.model.outcome_search import Search
+from torusmem_tools.model.outcome_list import Outcomes, outcomes_of
 from torusmem_tools.model.outcome_states import Outcome
 
 # The tile of each address, in their order.
@@ -46,10 +46,10 @@ def without(case: campaign_cases.Case, line: int) -> campaign_cases.Case:
 
 @dataclass
 class Found:
-    """The outcomes of a script as it is placed, with the addresses that it has in its text; and the search for them."""
+    """The outcomes of a script as it is placed, with the addresses that it has in its text; and what was found of the placed one."""
 
     case: campaign_cases.Case
-    search: Search
+    search: Outcomes
     outcomes: Dict[Outcome, Outcome]
 
     def run(self, outcome: Outcome) -> List[str]:
@@ -59,16 +59,16 @@ class Found:
 
 def as_it_is(case: campaign_cases.Case, most: int) -> Found:
     """All outcomes of a script, by a search of so many states at most."""
-    search = Search(case, most)
-    return Found(case, search, {it: it for it in search.ends})
+    search = outcomes_of(case, most)
+    return Found(case, search, {it: it for it in search.known})
 
 
 def found(case: campaign_cases.Case, place: Place, most: int) -> Found:
     """All outcomes of a placed script, by a search of so many states at most."""
     made, names = placed(case, place), addresses(case)
-    search = Search(made, most)
+    search = outcomes_of(made, most)
     outcomes = {}
-    for it in search.ends:
+    for it in search.known:
         words = sorted((names[a // case.tiles()], value) for a, value in it.words)
         outcomes[Outcome(it.replies, tuple(words))] = it
     return Found(made, search, outcomes)
