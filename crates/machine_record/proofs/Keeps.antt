@@ -16,7 +16,7 @@ use Rattle.machine_asked.proofs.Waiting.{on_after}
 use Rattle.machine_record.specs.declared.action.Action.{Action}
 use Rattle.machine_record.specs.declared.action.Action.TheVariants.{Move, Rounds, ClockedRounds, FairRounds}
 use Rattle.machine_record.specs.declared.row.LineRow.{LineRow}
-use Rattle.machine_record.specs.Action.{is_narrow, turn_behind, turned_recorded}
+use Rattle.machine_record.specs.Action.{is_narrow, one_turned, turn_behind, turns_told}
 use Rattle.machine_record.specs.Recording.{Recording, Room}
 use Rattle.machine_record.specs.Machine.{HasLineNumber, KeepsAction, KeepsRow, with_action, with_row}
 use Rattle.machine_record.specs.MachineInside.{RecordMakes}
@@ -63,10 +63,10 @@ keeps_round old new room after v w h state spins guard kept =
 -- a clocked round, which is kept by its turn
 pub keeps_clocked : (old new : Option Recording) (room after : Room) (v w : Asked) (turn : ℕ) → 1 ≤ dims_of v.core.shape → dims_of v.core.shape ≤ 3
     → RecordMakes old v → w.core ≡ core_after v.core (clocked_round v.core turn) → w.spins ≡ v.spins → w.guard ≡ v.guard
-    → KeepsAction (turned_recorded (turn % 1170) 1) old room new after → RecordMakes new w
+    → KeepsAction (one_turned turn) old room new after → RecordMakes new w
 keeps_clocked old new room after v w turn low high h state spins guard kept =
-    keeps_action old new room after v w (turned_recorded (turn % 1170) 1) h
-    (λ rows. ap Some (clocked_is v w turn (turn_behind (turn % 1170) 0) (same_input turn (dims_of v.core.shape) low high) state spins guard)) kept
+    keeps_action old new room after v w (one_turned turn) h
+    (λ rows. ap Some (clocked_is v w turn (turn_behind (turn % turns_told) 0) (same_input turn (dims_of v.core.shape) low high) state spins guard)) kept
 
 -- clocked rounds
 pub keeps_clocked_rounds : (old new : Option Recording) (room after : Room) (v w : Asked) (k : ℕ) → RecordMakes old v → w.core ≡ core_after v.core (clocked_rounds v.core k)

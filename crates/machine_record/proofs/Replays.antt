@@ -29,7 +29,7 @@ use Rattle.machine_asked.specs.Asked.{Asked, asked_in, fair_made, fair_rounds_ma
 use Rattle.machine_record.specs.declared.action.Action.{Action}
 use Rattle.machine_record.specs.declared.action.Action.TheVariants.{Move, Rounds, Line, Clocked, ClockedRounds, FairRounds, Turned}
 use Rattle.machine_record.specs.declared.row.LineRow.{LineRow}
-use Rattle.machine_record.specs.Action.{action_number, action_of, is_narrow, turn_behind}
+use Rattle.machine_record.specs.Action.{action_number, action_of, is_narrow, turn_behind, turns_told}
 use Rattle.machine_record.specs.Row.{line_of_row, row_of_line}
 use Rattle.machine_record.specs.Recording.{Recording}
 use Rattle.machine_record.specs.Machine.{with_row}
@@ -204,8 +204,8 @@ clocked_is v w turn k same state spins guard =
     ∙ sym state in
     λ i. record { core = core i; spins = sym spins i; guard = sym guard i }
 
--- turns up to 1169 begin at each input of a router that turns begin at
-pub same_input : (turn dims : ℕ) → 1 ≤ dims → dims ≤ 3 → (turn % 1170 + 0) % 1170 % port_count dims ≡ turn % port_count dims
+-- a turn that is told begins at the input at which the whole one does
+pub same_input : (turn dims : ℕ) → 1 ≤ dims → dims ≤ 3 → turn_behind (turn % turns_told) 0 % port_count dims ≡ turn % port_count dims
 same_input turn zero low high = absurd (omega (arith, low))
 same_input turn (suc zero) low high = omega arith
 same_input turn (suc (suc zero)) low high = omega arith

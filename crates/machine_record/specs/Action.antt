@@ -94,10 +94,17 @@ abbrev pub fair_joined : ℕ → Action → Option Action
 fair_joined count (FairRounds more) = named_rounds FairRounds (count + more)
 fair_joined count next = None
 
--- the turn of the round behind so many clocked rounds in a row: turns go up to 1169, a multiple of the 10, 18
--- or 26 inputs of a router less 1, and 0 is behind it
+-- how many turns are told apart: a multiple of the 10, 18 or 26 inputs of a router
+abbrev pub turns_told : ℕ
+turns_told = 1170
+
+-- a clocked round of a turn
+abbrev pub one_turned : ℕ → Action
+one_turned turn = turned_recorded (turn % turns_told) 1
+
+-- the turn of the round behind so many clocked rounds in a row
 abbrev pub turn_behind : ℕ → ℕ → ℕ
-turn_behind first count = (first + count) % 1170
+turn_behind first count = (first + count) % turns_told
 
 -- so many clocked rounds in a row, as far as a number names them
 abbrev pub turned_on : ℕ → ℕ → Option Action

@@ -192,7 +192,9 @@ fn turned_joined(turns: Turns, next: Action) -> Option<Action>
     ensures { result ≡ turned_joined turns next }
 {
     match next {
-        Action::Turned(more) if u64::from(more.first) == turn_behind(turns) => turned_on(turns, more.count),
+        Action::Turned(more) if u64::from(more.first) == turn_behind(turns) => turned_on(
+            turns, more.count,
+        ),
         _ => None,
     }
 }

@@ -1,6 +1,6 @@
 //! Clocked and fair rounds of a machine that keeps a record.
 
-ghost use Rattle.std.specs.Prelude.{◌≡◌, ◌%◌, ◌+◌, ◌≤◌, ◌++◌, false, List, length};
+ghost use Rattle.std.specs.Prelude.{◌≡◌, ◌+◌, ◌≤◌, ◌++◌, false, List, length};
 ghost use Rattle.torus.specs.declared.step.Step.{Step};
 ghost use Rattle.machine_parts.specs.Core.{Load, run_of, step};
 ghost use Rattle.machine_parts.specs.Machine.{IsAfter, MakesMove, RunsOn, all_finished, built_to, core_after};
@@ -11,7 +11,7 @@ ghost use Rattle.machine_core.specs.Clocked.{NeedsClocked, clocked_round, clocke
 ghost use Rattle.fair_rounds.specs.Guard.{holds};
 ghost use Rattle.machine_asked.specs.Asked.{AreFewestFair, asked_attempts, fair_made};
 ghost use Rattle.machine_asked.specs.Asked.{fair_rounds_made, fair_rounds_of};
-ghost use Rattle.machine_record.specs.Action.{turned_recorded};
+ghost use Rattle.machine_record.specs.Action.{one_turned};
 ghost use Rattle.machine_record.specs.Machine.{KeepsRecord};
 
 use crate::Action;
@@ -34,9 +34,9 @@ impl<A: Allocator> RecordedMachine<A> {
             (clocked_round self.old.asked.core turn) }
         ensures spins { self.new.asked.spins ≡ self.old.asked.spins }
         ensures guard { self.new.asked.guard ≡ self.old.asked.guard }
-        ensures kept { KeepsRecord
-            (turned_recorded (turn % 1170) 1) self.old self.new }
+        ensures kept { KeepsRecord (one_turned turn) self.old self.new }
     {
+        // By its 1 to 3 dimensions a router has 10, 18 or 26 inputs.
         let _dims = self.machine.machine().torus().dims();
         self.machine.clocked_round(turn);
         keep_clocked(&mut self.kept, turn);

@@ -1,8 +1,8 @@
 //! What is kept of what is done to a machine: nothing, or a record.
 
-ghost use Rattle.std.specs.Prelude.{◌≡◌, ◌⊎◌, ◌<◌, ◌≤◌, ◌%◌, true, false, OnErr, OnOk, None, Some, length, vec_capacity, vec_len};
+ghost use Rattle.std.specs.Prelude.{◌≡◌, ◌⊎◌, ◌<◌, ◌≤◌, true, false, OnErr, OnOk, None, Some, length, vec_capacity, vec_len};
 ghost use Rattle.std.specs.Prelude.{option_and_then};
-ghost use Rattle.machine_record.specs.Action.{action_of, is_narrow, joined, joined_last, turned_recorded};
+ghost use Rattle.machine_record.specs.Action.{action_of, is_narrow, joined, joined_last, one_turned};
 ghost use Rattle.machine_record.specs.Recorded.{recording_of, room_of};
 ghost use Rattle.machine_record.specs.Machine.{HasNoLessRoom, with_action, with_row};
 ghost use Rattle.machine_record.specs.MachineInside.{KeepsRowWithin, KeepsWithin};
@@ -22,8 +22,8 @@ fn joined_by(number: u32, next: Action) -> Option<Action>
     ensures { result ≡ option_and_then (λ last. joined last next) (action_of number) }
 {
     match next {
-        Action::Rounds(_) | Action::FairRounds(_) | Action::Turned(_) => Action::of_number(number)?.joined(next),
-        _ => None,
+        Action::Move(_) | Action::Line(_) | Action::Clocked(_) | Action::ClockedRounds(_) => None,
+        _ => Action::of_number(number)?.joined(next),
     }
 }
 
@@ -90,7 +90,7 @@ pub(crate) fn keep_rounds<A: Allocator>(kept: &mut Option<Record<A>>, count: u64
 
 /// Keeps a clocked round of a turn. The record ends where memory is refused.
 pub(crate) fn keep_clocked<A: Allocator>(kept: &mut Option<Record<A>>, turn: u64)
-    ensures { KeepsWithin (turned_recorded (turn % 1170) 1) kept.old kept.new }
+    ensures { KeepsWithin (one_turned turn) kept.old kept.new }
 {
     keep(
         kept,
