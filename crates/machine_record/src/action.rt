@@ -165,11 +165,11 @@ fn fair_joined(count: u32, next: Action) -> Option<Action>
     }
 }
 
-/// The turn of the round behind some clocked rounds.
-fn turn_behind(turns: Turns) -> u64
-    ensures { result ≡ turn_behind turns.first turns.count }
+/// The turn of the round behind so many clocked rounds, of which the first has a turn.
+pub(crate) fn turn_behind(first: u32, count: u32) -> u64
+    ensures { result ≡ turn_behind first count }
 {
-    (u64::from(turns.first) + u64::from(turns.count)) % u64::from(TURNS)
+    (u64::from(first) + u64::from(count)) % u64::from(TURNS)
 }
 
 /// Some clocked rounds and more of them behind, where a record has a number for them.
@@ -192,9 +192,8 @@ fn turned_joined(turns: Turns, next: Action) -> Option<Action>
     ensures { result ≡ turned_joined turns next }
 {
     match next {
-        Action::Turned(more) if u64::from(more.first) == turn_behind(turns) => turned_on(
-            turns, more.count,
-        ),
+        Action::Turned(more) if u64::from(more.first) == turn_behind(turns.first, turns.count) =>
+            turned_on(turns, more.count),
         _ => None,
     }
 }

@@ -6,7 +6,7 @@ ghost use Rattle.machine_record.specs.Replay.{acted, acted_by, clocked_rounds_ma
 ghost use Rattle.machine_record.specs.Replay.{rounds_made, row_handed, turned_made};
 ghost use Rattle.machine_record.specs.Replayed.{ComesInTurn, Replays};
 
-use crate::action::{TURNS, Turns};
+use crate::action::{Turns, turn_behind};
 use crate::{Action, LineRow};
 use machine_asked::AskedMachine;
 use std::alloc::{AllocError, Allocator};
@@ -53,9 +53,8 @@ fn make_fair<A: Allocator>(machine: &mut AskedMachine<A>, count: u32)
 fn make_turned<A: Allocator>(machine: &mut AskedMachine<A>, turns: Turns)
     ensures { machine.new ≡ turned_made machine.old turns.first turns.count }
 {
-    let first = u64::from(turns.first);
     for made in 0..turns.count {
-        machine.clocked_round((first + u64::from(made)) % u64::from(TURNS));
+        machine.clocked_round(turn_behind(turns.first, made));
     }
 }
 
