@@ -86,14 +86,23 @@ static void rows(const char *what, question ask, uint32_t processors, const uint
   torusmem_free(&m);
 }
 
+/* Makes the next round: a plain one, or a clocked one of the turn of the rounds so far. */
+static torusmem_outcome plain(torusmem_machine *m, uint32_t made) {
+  (void)made;
+  return torusmem_round(m);
+}
+
+static torusmem_outcome clocked(torusmem_machine *m, uint32_t made) {
+  return torusmem_clocked_round(m, made);
+}
+
 /* The bytes of a record after so many idle rounds, a call for each, and how long it takes to make the machine again. */
-static void records(void) {
-  static const uint32_t counts[] = { 0, 1000, 100000, 1000000 };
+static void records(const char *what, torusmem_outcome (*round)(torusmem_machine *, uint32_t), const uint32_t *counts, int length) {
   torusmem_machine m = TORUSMEM_MACHINE_INIT, fresh = TORUSMEM_MACHINE_INIT;
   uint32_t made = 0;
   value_of(torusmem_open_recorded(&m, &shape, NULL, 0));
-  for (int i = 0; i < 4; i++) {
-    for (; made < counts[i]; made++) value_of(torusmem_round(&m));
+  for (int i = 0; i < length; i++) {
+    for (; made < counts[i]; made++) value_of(round(&m, made));
     torusmem_outcome said = torusmem_save(&m, NULL, 0);
     if (said.code != TORUSMEM_SHORT) stop("a record takes no bytes");
     uint8_t *bytes = malloc(said.value);
@@ -101,7 +110,7 @@ static void records(void) {
     value_of(torusmem_save(&m, bytes, said.value));
     double began = now();
     value_of(torusmem_restore(&fresh, bytes, said.value));
-    printf("| a record after %" PRIu32 " idle rounds | %" PRIu64 " bytes, restored in %.2f ms |\n", made, said.value,
+    printf("| a record after %" PRIu32 " idle %s | %" PRIu64 " bytes, restored in %.2f ms |\n", made, what, said.value,
            (now() - began) / 1e3);
     torusmem_free(&fresh);
     free(bytes);
@@ -111,12 +120,14 @@ static void records(void) {
 
 int main(void) {
   static const uint32_t of_all[] = { 128, 2048, 8192 }, of_one[] = { 64, 512, 4096 };
+  static const uint32_t of_rounds[] = { 0, 1000, 100000, 1000000 };
   printf("| what | figure |\n| --- | --- |\n");
   rows("`torusmem_order` for the last row", ask_order, 16, of_all, 3);
   rows("`torusmem_events` for the last event", ask_events, 16, of_all, 3);
   rows("`torusmem_events_from` for the last event, over the last 64 rows", ask_events_from, 16, of_all, 3);
   rows("`torusmem_answer_of` the last operation of a processor", ask_answer_of, 1, of_one, 3);
   rows("`torusmem_answer_at` the last answer of a processor", ask_answer_at, 1, of_one, 3);
-  records();
+  records("rounds", plain, of_rounds, 4);
+  records("clocked rounds", clocked, of_rounds, 4);
   return 0;
 }

@@ -219,11 +219,12 @@ torusmem_outcome torusmem_reopen(torusmem_machine *m, torusmem_machine *fresh) T
 
 /* RECORDS. A machine that keeps a record can be saved as bytes at any time, and made again of them (docs/FORMATS.md, "Record
    of a machine"). The record has the texts that were loaded, or a machine text of the numbers; each move, each call of
-   torusmem_clocked_round or torusmem_finish_clocked and each line that came later, in 4 bytes, as other rounds in a row and fair
-   ones together; and 32 bytes more of such a line. So it doesn't grow while a host makes fair rounds and asks nothing. The
-   state alone is the record of the machine that torusmem_reopen opens: at most 118 bytes, and 32 for each word that isn't 0. Where memory for the record is refused, or it would have
-   268435456 lines, or a call makes as many rounds, it ends: nothing is left of it, torusmem_save answers NO_RECORD, and the machine goes on. No call fails
-   for that. */
+   torusmem_finish_clocked and each line that came later, in 4 bytes; and 32 bytes more of such a line. Rounds in a row take 4
+   bytes together, as fair ones do, and up to 131071 clocked ones of which each has the turn behind that of the one before. So it
+   hardly grows while a host makes such rounds and asks nothing. The state alone is the record of the machine that torusmem_reopen
+   opens: at most 118 bytes, and 32 for each word that isn't 0. Where memory for the record is refused, or it would have
+   268435456 lines, or a call makes as many rounds, it ends: nothing is left of it, torusmem_save answers NO_RECORD, and the
+   machine goes on. No call fails for that. */
 
 /* Does what torusmem_load does, and answers as it does; and the machine keeps a record from then on. */
 torusmem_outcome torusmem_load_recorded(torusmem_machine *m, const uint8_t *machine, size_t machine_length,

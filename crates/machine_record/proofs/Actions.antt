@@ -5,8 +5,8 @@ use Rattle.std.proofs.lemmas.Bool.{ltb-true}
 use Rattle.torus.specs.declared.step.Choice.{Choice}
 use Rattle.torus.specs.declared.step.Choice.TheVariants.{Send, Take, TakeFrom, Put, Credit, CreditOf, Serve, Done, Look}
 use Rattle.machine_record.specs.declared.action.Action.{Action}
-use Rattle.machine_record.specs.declared.action.Action.TheVariants.{Move, Rounds, Line, Clocked, ClockedRounds, FairRounds}
-use Rattle.machine_record.specs.Action.{action_coded, action_number, action_of, choice_number, is_narrow, move_recorded, port_of}
+use Rattle.machine_record.specs.declared.action.Action.TheVariants.{Move, Rounds, Line, Clocked, ClockedRounds, FairRounds, Turned}
+use Rattle.machine_record.specs.Action.{action_coded, action_number, action_of, choice_number, is_narrow, move_recorded, port_of, turned_recorded}
 
 -- a kind, and the rest
 of_parts : (rest kind : ℕ) → kind < 16 → action_of (rest * 16 + kind) ≡ action_coded kind rest
@@ -54,3 +54,7 @@ number_back (Line number) narrow = of_parts number 10 (omega arith)
 number_back (Clocked turn) narrow = of_parts turn 11 (omega arith)
 number_back (ClockedRounds count) narrow = of_parts count 12 (omega arith)
 number_back (FairRounds count) narrow = of_parts count 13 (omega arith)
+number_back (Turned turns) narrow =
+    let low : turns.first < 2048 = ltb-true _ _ (first_of_both _ _ narrow) in
+    of_parts (turns.count * 2048 + turns.first) 14 (omega arith)
+    ∙ (λ i. Some (turned_recorded (mod-mul-add turns.count 2048 turns.first low i) (div-mul-add turns.count 2048 turns.first low i)))

@@ -1,6 +1,7 @@
 -- Actions that are joined to the last of a record: what they do together.
-use Rattle.std.proofs.Common.{◌≡◌, ℕ, zero, suc, ◌+◌, ◌-◌, Bool, true, false, List, [], ◌∷◌, ◌++◌, length, Option, Some, None, Result, Ok, Err}
+use Rattle.std.proofs.Common.{◌≡◌, ℕ, zero, suc, ◌+◌, ◌-◌, ◌%◌, ◌==◌, Bool, true, false, List, [], ◌∷◌, ◌++◌, length, Option, Some, None, Result, Ok, Err}
 use Rattle.std.proofs.Common.{refl, sym, ◌∙◌, ap, subst, arith, append_assoc}
+use Rattle.std.proofs.lemmas.Bool.{eqb-true}
 use Rattle.std.specs.Prelude.{if◌then◌else◌, option_and_then, slice_get, slice_set}
 use Rattle.std.specs.Str.Lines.{lines}
 use Rattle.torus.specs.Shape.{Shape}
@@ -13,12 +14,14 @@ use Rattle.machine_core.specs.Rounds.{rounds_of}
 use Rattle.machine_core.proofs.Rounds.{core_append, same_shape}
 use Rattle.machine_asked.specs.Asked.{Asked, asked_in, fair_made, fair_rounds_made}
 use Rattle.machine_record.specs.declared.action.Action.{Action}
-use Rattle.machine_record.specs.declared.action.Action.TheVariants.{Move, Rounds, Line, Clocked, ClockedRounds, FairRounds}
+use Rattle.machine_record.specs.declared.action.Action.TheVariants.{Move, Rounds, Line, Clocked, ClockedRounds, FairRounds, Turned}
+use Rattle.machine_record.specs.declared.action.Turns.{Turns}
 use Rattle.machine_record.specs.declared.row.LineRow.{LineRow}
 use Rattle.machine_record.specs.Action.{action_number, action_of, actions_put, fair_joined, is_narrow, joined, joined_last, rounds_joined}
+use Rattle.machine_record.specs.Action.{turn_behind, turned_joined, turned_on, turned_recorded}
 use Rattle.machine_record.specs.Recording.{Recording}
 use Rattle.machine_record.specs.Machine.{with_action}
-use Rattle.machine_record.specs.Replay.{acted, acted_by, loaded, made_by, replayed, replayed_from, rounds_made}
+use Rattle.machine_record.specs.Replay.{acted, acted_by, clocked_made, loaded, made_by, replayed, replayed_from, rounds_made, turned_made}
 use Rattle.machine_record.proofs.Replays.{acts, both_from, replayed_push}
 
 -- which actions are never joined to another
@@ -30,6 +33,7 @@ joins_no_move (Some (Line k)) s = refl
 joins_no_move (Some (Clocked k)) s = refl
 joins_no_move (Some (ClockedRounds k)) s = refl
 joins_no_move (Some (FairRounds k)) s = refl
+joins_no_move (Some (Turned t)) s = refl
 
 pub joins_no_line : (o : Option Action) (n : ℕ) → option_and_then (λ last. joined last (Line n)) o ≡ None
 joins_no_line None n = refl
@@ -39,6 +43,7 @@ joins_no_line (Some (Line k)) n = refl
 joins_no_line (Some (Clocked k)) n = refl
 joins_no_line (Some (ClockedRounds k)) n = refl
 joins_no_line (Some (FairRounds k)) n = refl
+joins_no_line (Some (Turned t)) n = refl
 
 pub joins_no_clocked : (o : Option Action) (n : ℕ) → (option_and_then (λ last. joined last (Clocked n)) o ≡ None)
     × (option_and_then (λ last. joined last (ClockedRounds n)) o ≡ None)
@@ -49,6 +54,7 @@ joins_no_clocked (Some (Line k)) n = (refl, refl)
 joins_no_clocked (Some (Clocked k)) n = (refl, refl)
 joins_no_clocked (Some (ClockedRounds k)) n = (refl, refl)
 joins_no_clocked (Some (FairRounds k)) n = (refl, refl)
+joins_no_clocked (Some (Turned t)) n = (refl, refl)
 
 -- so many rounds, and more behind them
 rounds_and_more : (s : Shape) (m n : ℕ) → rounds_of s m ++ rounds_of s n ≡ rounds_of s (m + n)
@@ -70,6 +76,16 @@ fair_rounds_more v m zero = ap (fair_rounds_made v) (let none : m ≡ m + 0 = om
 fair_rounds_more v m (suc n) =
     let next : suc (m + n) ≡ m + suc n = omega arith in
     ap fair_made (fair_rounds_more v m n) ∙ ap (fair_rounds_made v) next
+
+-- a turn goes on from a turn
+turn_on : (first m n : ℕ) → turn_behind (turn_behind first m) n ≡ turn_behind first (m + n)
+turn_on first m n = omega arith
+
+turned_more : (v : Asked) (first m n : ℕ) → turned_made (turned_made v first m) (turn_behind first m) n ≡ turned_made v first (m + n)
+turned_more v first m zero = ap (turned_made v first) (let none : m ≡ m + 0 = omega arith in none)
+turned_more v first m (suc n) =
+    let next : suc (m + n) ≡ m + suc n = omega arith in
+    (λ i. clocked_made (turned_more v first m n i) (turn_on first m n i)) ∙ ap (turned_made v first) next
 
 -- two actions that are joined do what they do one after the other
 record Joins (v u : Asked) (both : Action) : Type 0 where
@@ -94,6 +110,7 @@ rounds_then v u count (Line k) both h did = absurd (cc)
 rounds_then v u count (Clocked k) both h did = absurd (cc)
 rounds_then v u count (ClockedRounds k) both h did = absurd (cc)
 rounds_then v u count (FairRounds k) both h did = absurd (cc)
+rounds_then v u count (Turned t) both h did = absurd (cc)
 
 fair_then : (v u : Asked) (count : ℕ) (next both : Action) → fair_joined count next ≡ Some both
     → ((rows : List LineRow) → acted rows (fair_rounds_made v count) next ≡ Some u) → Joins v u both
@@ -105,6 +122,29 @@ fair_then v u count (Line k) both h did = absurd (cc)
 fair_then v u count (Clocked k) both h did = absurd (cc)
 fair_then v u count (ClockedRounds k) both h did = absurd (cc)
 fair_then v u count (Rounds k) both h did = absurd (cc)
+fair_then v u count (Turned t) both h did = absurd (cc)
+
+-- clocked rounds in a row, and more whose turns go on
+turns_then : (v u : Asked) (turns more : Turns) (both : Action) (b : Bool) → (more.first == turn_behind turns.first turns.count) ≡ b
+    → (if b then turned_on turns.first (turns.count + more.count) else None) ≡ Some both
+    → ((rows : List LineRow) → acted rows (turned_made v turns.first turns.count) (Turned more) ≡ Some u) → Joins v u both
+turns_then v u turns more both false goes h did = absurd (cc)
+turns_then v u turns more both true goes h did =
+    let count : ℕ = turns.count + more.count in
+    let same : more.first ≡ turn_behind turns.first turns.count = eqb-true _ _ goes in
+    named v u (turned_recorded turns.first count) both (is_narrow (turned_recorded turns.first count)) refl h
+    (λ rows. ap Some (sym (turned_more v turns.first turns.count more.count))
+    ∙ (ap (λ (k : ℕ). Some (turned_made (turned_made v turns.first turns.count) k more.count)) (sym same) ∙ did rows))
+
+turned_then : (v u : Asked) (turns : Turns) (next both : Action) → turned_joined turns next ≡ Some both
+    → ((rows : List LineRow) → acted rows (turned_made v turns.first turns.count) next ≡ Some u) → Joins v u both
+turned_then v u turns (Turned more) both h did = turns_then v u turns more both (more.first == turn_behind turns.first turns.count) refl h did
+turned_then v u turns (Move s) both h did = absurd (cc)
+turned_then v u turns (Rounds k) both h did = absurd (cc)
+turned_then v u turns (Line k) both h did = absurd (cc)
+turned_then v u turns (Clocked k) both h did = absurd (cc)
+turned_then v u turns (ClockedRounds k) both h did = absurd (cc)
+turned_then v u turns (FairRounds k) both h did = absurd (cc)
 
 both_act : (rows : List LineRow) (v w u : Asked) (first next both : Action) → acted rows v first ≡ Some w → joined first next ≡ Some both
     → ((more : List LineRow) → acted more w next ≡ Some u) → Joins v u both
@@ -114,6 +154,9 @@ both_act rows v w u (Rounds count) next both came h did =
 both_act rows v w u (FairRounds count) next both came h did =
     let same : w ≡ fair_rounds_made v count = cc in
     fair_then v u count next both h (λ more. ap (λ (x : Asked). acted more x next) (sym same) ∙ did more)
+both_act rows v w u (Turned turns) next both came h did =
+    let same : w ≡ turned_made v turns.first turns.count = cc in
+    turned_then v u turns next both h (λ more. ap (λ (x : Asked). acted more x next) (sym same) ∙ did more)
 both_act rows v w u (Move s) next both came h did = absurd (cc)
 both_act rows v w u (Line k) next both came h did = absurd (cc)
 both_act rows v w u (Clocked k) next both came h did = absurd (cc)

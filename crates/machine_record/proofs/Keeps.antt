@@ -1,11 +1,10 @@
 -- What is kept makes the machine, after each call.
-use Rattle.std.proofs.Common.{◌≡◌, inl, inr, ℕ, ◌%◌, true, List, Option, Some, None, refl, sym, ◌∙◌, ap, subst}
+use Rattle.std.proofs.Common.{◌≡◌, inl, inr, ℕ, ◌≤◌, ◌%◌, true, List, Option, Some, None, refl, sym, ◌∙◌, ap, subst}
 use Rattle.std.specs.Prelude.{option_map}
 use Rattle.std.proofs.lemmas.List.{append-nil}
 use Rattle.torus.specs.Shape.{dims_of}
 use Rattle.torus.specs.declared.step.Step.{Step}
 use Rattle.torus.specs.declared.step.Stepped.TheVariants.{Moved, Idle}
-use Rattle.channel_number.specs.Ports.{port_count}
 use Rattle.script_lines.specs.declared.line.Line.{Line as ScriptLine}
 use Rattle.machine_parts.specs.Core.{round}
 use Rattle.machine_parts.specs.Handed.{handed, refused}
@@ -15,15 +14,15 @@ use Rattle.machine_core.specs.Clocked.{clocked_round, clocked_rounds}
 use Rattle.machine_asked.specs.Asked.{Asked, fair_rounds_made, spins_with}
 use Rattle.machine_asked.proofs.Waiting.{on_after}
 use Rattle.machine_record.specs.declared.action.Action.{Action}
-use Rattle.machine_record.specs.declared.action.Action.TheVariants.{Move, Rounds, Clocked, ClockedRounds, FairRounds}
+use Rattle.machine_record.specs.declared.action.Action.TheVariants.{Move, Rounds, ClockedRounds, FairRounds}
 use Rattle.machine_record.specs.declared.row.LineRow.{LineRow}
-use Rattle.machine_record.specs.Action.{is_narrow}
+use Rattle.machine_record.specs.Action.{is_narrow, one_turned, turn_behind, turns_told}
 use Rattle.machine_record.specs.Recording.{Recording, Room}
 use Rattle.machine_record.specs.Machine.{HasLineNumber, KeepsAction, KeepsRow, with_action, with_row}
 use Rattle.machine_record.specs.MachineInside.{RecordMakes}
 use Rattle.machine_record.specs.Replay.{acted, rounds_made, with_line}
 use Rattle.machine_record.proofs.Joins.{made_action}
-use Rattle.machine_record.proofs.Replays.{clocked_is, clocked_rounds_are, idle_is, made_line, moved_is, rounds_is}
+use Rattle.machine_record.proofs.Replays.{clocked_is, clocked_rounds_are, idle_is, made_line, moved_is, rounds_is, same_input}
 
 -- an action more
 makes_action : (k : Option Recording) (v w : Asked) (a : Action) → is_narrow a ≡ true → RecordMakes k v → ((rows : List LineRow) → acted rows v a ≡ Some w)
@@ -61,11 +60,13 @@ pub keeps_round : (old new : Option Recording) (room after : Room) (v w : Asked)
 keeps_round old new room after v w h state spins guard kept =
     keeps_rounds old new room after v w 1 h (state ∙ ap (core_after v.core) (sym (append-nil (round v.core.shape)))) spins guard kept
 
--- a clocked round, which is kept by the input at which its puts begin
-pub keeps_clocked : (old new : Option Recording) (room after : Room) (v w : Asked) (turn k : ℕ) → k ≡ turn % port_count (dims_of v.core.shape) → RecordMakes old v
-    → w.core ≡ core_after v.core (clocked_round v.core turn) → w.spins ≡ v.spins → w.guard ≡ v.guard → KeepsAction (Clocked k) old room new after → RecordMakes new w
-keeps_clocked old new room after v w turn k is h state spins guard kept =
-    keeps_action old new room after v w (Clocked k) h (λ rows. ap Some (clocked_is v w turn k is state spins guard)) kept
+-- a clocked round, which is kept by its turn
+pub keeps_clocked : (old new : Option Recording) (room after : Room) (v w : Asked) (turn : ℕ) → 1 ≤ dims_of v.core.shape → dims_of v.core.shape ≤ 3
+    → RecordMakes old v → w.core ≡ core_after v.core (clocked_round v.core turn) → w.spins ≡ v.spins → w.guard ≡ v.guard
+    → KeepsAction (one_turned turn) old room new after → RecordMakes new w
+keeps_clocked old new room after v w turn low high h state spins guard kept =
+    keeps_action old new room after v w (one_turned turn) h
+    (λ rows. ap Some (clocked_is v w turn (turn_behind (turn % turns_told) 0) (same_input turn (dims_of v.core.shape) low high) state spins guard)) kept
 
 -- clocked rounds
 pub keeps_clocked_rounds : (old new : Option Recording) (room after : Room) (v w : Asked) (k : ℕ) → RecordMakes old v → w.core ≡ core_after v.core (clocked_rounds v.core k)

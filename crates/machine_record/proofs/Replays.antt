@@ -3,7 +3,6 @@ use Rattle.std.proofs.Common.{◌≡◌, ℕ, zero, suc, ◌+◌, ◌%◌, ◌<�
 use Rattle.std.specs.Prelude.{if◌then◌else◌, filter, is_some, option_and_then}
 use Rattle.std.specs.List.{flat_map, range_with_len}
 use Rattle.std.specs.Str.Lines.{lines}
-use Rattle.std.proofs.Math.Nat.{mod-mod}
 use Rattle.std.proofs.lemmas.Bool.{leb-true, lt-ltb}
 use Rattle.std.proofs.lemmas.List.{take_more}
 use Rattle.std.proofs.lemmas.Option.{slice_get_within, get_or_from_slice_get}
@@ -28,13 +27,13 @@ use Rattle.machine_core.proofs.Finishing.{rounds_push}
 use Rattle.machine_core.proofs.Rounds.{core_append, same_shape}
 use Rattle.machine_asked.specs.Asked.{Asked, asked_in, fair_made, fair_rounds_made}
 use Rattle.machine_record.specs.declared.action.Action.{Action}
-use Rattle.machine_record.specs.declared.action.Action.TheVariants.{Move, Rounds, Line, Clocked, ClockedRounds, FairRounds}
+use Rattle.machine_record.specs.declared.action.Action.TheVariants.{Move, Rounds, Line, Clocked, ClockedRounds, FairRounds, Turned}
 use Rattle.machine_record.specs.declared.row.LineRow.{LineRow}
-use Rattle.machine_record.specs.Action.{action_number, action_of, is_narrow}
+use Rattle.machine_record.specs.Action.{action_number, action_of, is_narrow, turn_behind, turns_told}
 use Rattle.machine_record.specs.Row.{line_of_row, row_of_line}
 use Rattle.machine_record.specs.Recording.{Recording}
 use Rattle.machine_record.specs.Machine.{with_row}
-use Rattle.machine_record.specs.Replay.{acted, acted_by, clocked_made, clocked_rounds_made, if_moved, if_taken, loaded, made_by, machine_moved, replayed, replayed_from, rounds_made, row_handed, with_line}
+use Rattle.machine_record.specs.Replay.{acted, acted_by, clocked_made, clocked_rounds_made, if_moved, if_taken, loaded, made_by, machine_moved, replayed, replayed_from, rounds_made, row_handed, turned_made, with_line}
 use Rattle.machine_record.specs.Replayed.{ComesInTurn}
 use Rattle.machine_record.proofs.Actions.{number_back}
 use Rattle.machine_record.specs.Widths.{HasFewLoads}
@@ -77,6 +76,7 @@ acted_grown rows more v (Line k) w h = row_there rows more v k w (slice_get rows
 acted_grown rows more v (Clocked k) w h = h
 acted_grown rows more v (ClockedRounds k) w h = h
 acted_grown rows more v (FairRounds k) w h = h
+acted_grown rows more v (Turned turns) w h = h
 
 acted_by_grown : (rows more : List LineRow) (v : Asked) (o : Option Action) (w : Asked) → option_and_then (acted rows v) o ≡ Some w
     → option_and_then (acted (rows ++ more) v) o ≡ Some w
@@ -194,16 +194,32 @@ round_more start now next k so_far is spins guard =
     let seen : next.guard ≡ start.guard = guard ∙ ap (λ (x : Asked). x.guard) so_far in
     λ i. record { core = core i; spins = flags i; guard = seen i }
 
--- a clocked round, of a turn or of the input at which its puts begin
-pub clocked_is : (v w : Asked) (turn k : ℕ) → k ≡ turn % port_count (dims_of v.core.shape) → w.core ≡ core_after v.core (clocked_round v.core turn)
-    → w.spins ≡ v.spins → w.guard ≡ v.guard → clocked_made v k ≡ w
-clocked_is v w turn k is state spins guard =
+-- a clocked round of one turn is that of another, where the puts begin at the same input
+pub clocked_is : (v w : Asked) (turn k : ℕ) → k % port_count (dims_of v.core.shape) ≡ turn % port_count (dims_of v.core.shape)
+    → w.core ≡ core_after v.core (clocked_round v.core turn) → w.spins ≡ v.spins → w.guard ≡ v.guard → clocked_made v k ≡ w
+clocked_is v w turn k same state spins guard =
     let ports : ℕ = port_count (dims_of v.core.shape) in
-    let same : k % ports ≡ turn % ports = ap (λ (n : ℕ). n % ports) is ∙ mod-mod turn ports in
     let core : core_after v.core (clocked_round v.core k) ≡ w.core =
     ap (λ (n : ℕ). core_after v.core (filter (λ a. is_some (step (built_to v.core) v.core.state a)) (flat_map (turned_at ports n) (range_with_len 0 (tiles_of v.core.shape))))) same
     ∙ sym state in
     λ i. record { core = core i; spins = sym spins i; guard = sym guard i }
+
+-- a turn that is told begins at the input at which the whole one does
+pub same_input : (turn dims : ℕ) → 1 ≤ dims → dims ≤ 3 → turn_behind (turn % turns_told) 0 % port_count dims ≡ turn % port_count dims
+same_input turn zero low high = absurd (omega (arith, low))
+same_input turn (suc zero) low high = omega arith
+same_input turn (suc (suc zero)) low high = omega arith
+same_input turn (suc (suc (suc zero))) low high = omega arith
+same_input turn (suc (suc (suc (suc n)))) low high = absurd (omega (arith, high))
+
+-- a clocked round more of those in a row
+pub turned_next : (start now next : Asked) (first k turn : ℕ) → now ≡ turned_made start first k → turn ≡ turn_behind first k
+    → next.core ≡ core_after now.core (clocked_round now.core turn) → next.spins ≡ now.spins → next.guard ≡ now.guard
+    → next ≡ turned_made start first (k + 1)
+turned_next start now next first k turn so_far goes is spins guard =
+    let more : suc k ≡ k + 1 = omega arith in
+    let made : next ≡ clocked_made now turn = λ i. record { core = is i; spins = spins i; guard = guard i } in
+    made ∙ ((λ i. clocked_made (so_far i) (goes i)) ∙ ap (turned_made start first) more)
 
 -- clocked rounds
 pub clocked_rounds_are : (v w : Asked) (k : ℕ) → w.core ≡ core_after v.core (clocked_rounds v.core k) → w.spins ≡ v.spins → w.guard ≡ v.guard → clocked_rounds_made v k ≡ w

@@ -5,7 +5,8 @@ use Rattle.torus.specs.declared.step.Step.{Step}
 use Rattle.torus.specs.declared.step.Choice.{Choice}
 use Rattle.torus.specs.declared.step.Choice.TheVariants.{Send, Take, TakeFrom, Put, Credit, CreditOf, Serve, Done, Look}
 use Rattle.machine_record.specs.declared.action.Action.{Action}
-use Rattle.machine_record.specs.declared.action.Action.TheVariants.{Move, Rounds, Line, Clocked, ClockedRounds, FairRounds}
+use Rattle.machine_record.specs.declared.action.Action.TheVariants.{Move, Rounds, Line, Clocked, ClockedRounds, FairRounds, Turned}
+use Rattle.machine_record.specs.declared.action.Turns.{Turns}
 
 -- the number of a choice
 abbrev pub choice_number : Choice → ℕ
@@ -36,7 +37,8 @@ abbrev pub choice_coded : ℕ → ℕ → Option Choice
 choice_coded number port = slice_get (choices_coded port) number
 
 -- the number of an action: its lowest four bits are its kind, that is the choice of an attempt, 9 for
--- rounds, 10 for a line, 11 for a clocked round, 12 for clocked rounds and 13 for fair rounds
+-- rounds, 10 for a line, 11 for a clocked round, 12 for clocked rounds, 13 for fair rounds and 14 for
+-- clocked rounds in a row from a turn on
 abbrev pub action_number : Action → ℕ
 action_number (Move s) = (s.agent * 4096 + port_of s.choice) * 16 + choice_number s.choice
 action_number (Rounds count) = count * 16 + 9
@@ -44,6 +46,7 @@ action_number (Line number) = number * 16 + 10
 action_number (Clocked turn) = turn * 16 + 11
 action_number (ClockedRounds count) = count * 16 + 12
 action_number (FairRounds count) = count * 16 + 13
+action_number (Turned turns) = (turns.count * 2048 + turns.first) * 16 + 14
 
 -- it has 32 bits
 abbrev pub is_narrow : Action → Bool
@@ -53,10 +56,15 @@ is_narrow (Line number) = nat_lt number 268435456
 is_narrow (Clocked turn) = nat_lt turn 268435456
 is_narrow (ClockedRounds count) = nat_lt count 268435456
 is_narrow (FairRounds count) = nat_lt count 268435456
+is_narrow (Turned turns) = nat_lt turns.first 2048 && nat_lt turns.count 131072
 
 -- an attempt by an agent
 abbrev pub move_recorded : ℕ → Choice → Action
 move_recorded agent choice = Move (record { agent = agent; choice = choice })
+
+-- clocked rounds in a row, the first of a turn
+abbrev pub turned_recorded : ℕ → ℕ → Action
+turned_recorded first count = Turned (record { first = first; count = count })
 
 -- the action of a kind
 abbrev pub action_coded : ℕ → ℕ → Option Action
@@ -66,7 +74,8 @@ action_coded kind rest =
     else (if kind == 11 then Some (Clocked rest)
     else (if kind == 12 then Some (ClockedRounds rest)
     else (if kind == 13 then Some (FairRounds rest)
-    else option_map (move_recorded (rest / 4096)) (choice_coded kind (rest % 4096))))))
+    else (if kind == 14 then Some (turned_recorded (rest % 2048) (rest / 2048))
+    else option_map (move_recorded (rest / 4096)) (choice_coded kind (rest % 4096)))))))
 
 -- the action that has a number
 abbrev pub action_of : ℕ → Option Action
@@ -85,11 +94,35 @@ abbrev pub fair_joined : ℕ → Action → Option Action
 fair_joined count (FairRounds more) = named_rounds FairRounds (count + more)
 fair_joined count next = None
 
+-- how many turns are told apart: a multiple of the 10, 18 or 26 inputs of a router
+abbrev pub turns_told : ℕ
+turns_told = 1170
+
+-- a clocked round of a turn
+abbrev pub one_turned : ℕ → Action
+one_turned turn = turned_recorded (turn % turns_told) 1
+
+-- the turn of the round behind so many clocked rounds in a row
+abbrev pub turn_behind : ℕ → ℕ → ℕ
+turn_behind first count = (first + count) % turns_told
+
+-- so many clocked rounds in a row, as far as a number names them
+abbrev pub turned_on : ℕ → ℕ → Option Action
+turned_on first count = if is_narrow (turned_recorded first count) then Some (turned_recorded first count) else None
+
+-- what clocked rounds in a row and an action behind them are together: more of them, whose turns go on
+abbrev pub turned_joined : Turns → Action → Option Action
+turned_joined turns (Turned more) =
+    if more.first == turn_behind turns.first turns.count then turned_on turns.first (turns.count + more.count)
+    else None
+turned_joined turns next = None
+
 -- the one action that does what two do, one after the other: rounds of one kind, as far as a number names
 -- them
 abbrev pub joined : Action → Action → Option Action
 joined (Rounds count) next = rounds_joined count next
 joined (FairRounds count) next = fair_joined count next
+joined (Turned turns) next = turned_joined turns next
 joined first next = None
 
 -- that of the last of some actions, by their numbers, and of one behind it

@@ -1,5 +1,5 @@
 -- The machine that a record makes.
-use Rattle.std.specs.Prelude.{ℕ, List, [], ◌∷◌, Option, Some, None, Result, Ok, Err, map}
+use Rattle.std.specs.Prelude.{ℕ, zero, suc, List, [], ◌∷◌, Option, Some, None, Result, Ok, Err, map}
 use Rattle.std.specs.Prelude.{option_and_then, slice_get}
 use Rattle.std.specs.Str.Lines.{lines}
 use Rattle.torus.specs.declared.fault.Fault.{Fault}
@@ -17,9 +17,9 @@ use Rattle.machine_core.specs.Clocked.{clocked_round, clocked_rounds}
 use Rattle.fair_rounds.specs.Guard.{usual_guard}
 use Rattle.machine_asked.specs.Asked.{Asked, asked_in, fair_rounds_made, has_spin, spins_with}
 use Rattle.machine_record.specs.declared.action.Action.{Action}
-use Rattle.machine_record.specs.declared.action.Action.TheVariants.{Move, Rounds, Line, Clocked, ClockedRounds, FairRounds}
+use Rattle.machine_record.specs.declared.action.Action.TheVariants.{Move, Rounds, Line, Clocked, ClockedRounds, FairRounds, Turned}
 use Rattle.machine_record.specs.declared.row.LineRow.{LineRow}
-use Rattle.machine_record.specs.Action.{action_of}
+use Rattle.machine_record.specs.Action.{action_of, turn_behind}
 use Rattle.machine_record.specs.Row.{line_of_row}
 use Rattle.machine_record.specs.Recording.{Recording}
 
@@ -53,6 +53,11 @@ clocked_made v turn = asked_in v (core_after v.core (clocked_round v.core turn))
 abbrev pub clocked_rounds_made : Asked → ℕ → Asked
 clocked_rounds_made v count = asked_in v (core_after v.core (clocked_rounds v.core count))
 
+-- the machine after so many clocked rounds in a row, the first of a turn
+abbrev pub turned_made : Asked → ℕ → ℕ → Asked
+turned_made v first zero = v
+turned_made v first (suc k) = clocked_made (turned_made v first k) (turn_behind first k)
+
 -- the machine whose processor p is handed a line, whatever the line
 abbrev pub with_line : Asked → ℕ → ScriptLine → Asked
 with_line v p line =
@@ -77,6 +82,7 @@ acted rows v (Line number) = option_and_then (row_handed v) (slice_get rows numb
 acted rows v (Clocked turn) = Some (clocked_made v turn)
 acted rows v (ClockedRounds count) = Some (clocked_rounds_made v count)
 acted rows v (FairRounds count) = Some (fair_rounds_made v count)
+acted rows v (Turned turns) = Some (turned_made v turns.first turns.count)
 
 -- the machine after the action of a number
 abbrev pub acted_by : List LineRow → Asked → ℕ → Option Asked

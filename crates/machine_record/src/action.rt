@@ -1,11 +1,22 @@
 //! What is done to a machine, and the number that a record has of it.
 
-ghost use Rattle.std.specs.Prelude.{◌≡◌, ◌/◌, ◌%◌, true, option_map};
+ghost use Rattle.std.specs.Prelude.{◌≡◌, ◌+◌, ◌/◌, ◌%◌, true, option_map};
 ghost use Rattle.machine_record.specs.Action.{action_coded, action_number, action_of, choice_coded, choice_number};
 ghost use Rattle.machine_record.specs.Action.{fair_joined, is_narrow, joined, move_recorded, named_rounds, port_of};
-ghost use Rattle.machine_record.specs.Action.{rounds_joined};
+ghost use Rattle.machine_record.specs.Action.{rounds_joined, turn_behind, turned_joined, turned_on, turned_recorded};
 
 use torus::{Choice, Step};
+
+/// How many turns of clocked rounds there are: a multiple of the 10, 18 or 26 inputs of a router.
+pub(crate) const TURNS: u32 = 1170;
+
+/// Clocked rounds in a row: the turn of the first, and how many there are. Each has the turn behind that of the
+/// one before it, and 0 is behind 1169.
+#[derive(Clone, Copy)]
+pub struct Turns {
+    pub first: u32,
+    pub count: u32,
+}
 
 /// What is done to a machine.
 #[derive(Clone, Copy)]
@@ -22,6 +33,8 @@ pub enum Action {
     ClockedRounds(u32),
     /// So many fair rounds.
     FairRounds(u32),
+    /// Clocked rounds in a row, from a turn on.
+    Turned(Turns),
 }
 
 /// The number of a choice, 0 to 8.
@@ -84,8 +97,18 @@ fn move_coded(number: u32, rest: u32) -> Option<Action>
     }
 }
 
+/// The clocked rounds in a row of a number: the first turn in its lowest eleven bits, and how many above.
+fn turned_coded(rest: u32) -> Action
+    ensures { result ≡ turned_recorded (rest % 2048) (rest / 2048) }
+{
+    Action::Turned(Turns {
+        first: rest % 2048,
+        count: rest / 2048,
+    })
+}
+
 /// The action of a kind: 0 to 8 a choice, 9 rounds, 10 a line, 11 a clocked round, 12 clocked rounds,
-/// 13 fair rounds.
+/// 13 fair rounds, 14 clocked rounds in a row from a turn on.
 fn action_coded(kind: u32, rest: u32) -> Option<Action>
     ensures { result ≡ action_coded kind rest }
 {
@@ -95,6 +118,7 @@ fn action_coded(kind: u32, rest: u32) -> Option<Action>
         11 => Some(Action::Clocked(rest)),
         12 => Some(Action::ClockedRounds(rest)),
         13 => Some(Action::FairRounds(rest)),
+        14 => Some(turned_coded(rest)),
         _ => move_coded(kind, rest),
     }
 }
@@ -141,21 +165,56 @@ fn fair_joined(count: u32, next: Action) -> Option<Action>
     }
 }
 
+/// The turn of the round behind so many clocked rounds, of which the first has a turn.
+pub(crate) fn turn_behind(first: u32, count: u32) -> u64
+    ensures { result ≡ turn_behind first count }
+{
+    (u64::from(first) + u64::from(count)) % u64::from(TURNS)
+}
+
+/// Some clocked rounds and more of them behind, where a record has a number for them.
+fn turned_on(turns: Turns, more: u32) -> Option<Action>
+    ensures { result ≡ turned_on turns.first (turns.count + more) }
+{
+    let count = u64::from(turns.count) + u64::from(more);
+    if turns.first < 2048 && count < 131072 {
+        Some(Action::Turned(Turns {
+            first: turns.first,
+            count: count as u32,
+        }))
+    } else {
+        None
+    }
+}
+
+/// What some clocked rounds and an action behind them are together.
+fn turned_joined(turns: Turns, next: Action) -> Option<Action>
+    ensures { result ≡ turned_joined turns next }
+{
+    match next {
+        Action::Turned(more) if u64::from(more.first) == turn_behind(turns.first, turns.count) =>
+            turned_on(turns, more.count),
+        _ => None,
+    }
+}
+
 impl Action {
-    /// The one action that does what this one and the next do, one after the other: rounds of one kind, fewer
-    /// than 2^28 in all. `None` exactly where there is none.
+    /// The one action that does what this one and the next do, one after the other: rounds of one kind, as far
+    /// as a number names them, and clocked rounds whose turns go on. `None` exactly where there is none.
     pub fn joined(self, next: Action) -> Option<Action>
         ensures { result ≡ joined self next }
     {
         match self {
             Action::Rounds(count) => rounds_joined(count, next),
             Action::FairRounds(count) => fair_joined(count, next),
+            Action::Turned(turns) => turned_joined(turns, next),
             _ => None,
         }
     }
 
     /// Whether a record has a number for it: an agent is below 65536, an input or output below 4096, and
-    /// rounds, lines and turns below 2^28.
+    /// rounds, lines and turns below 2^28; of clocked rounds in a row the first turn below 2048, and 131071 at
+    /// most.
     pub fn is_narrow(self) -> bool
         ensures { result ≡ is_narrow self }
     {
@@ -166,6 +225,7 @@ impl Action {
             Action::Clocked(turn) => turn < 268435456,
             Action::ClockedRounds(count) => count < 268435456,
             Action::FairRounds(count) => count < 268435456,
+            Action::Turned(turns) => turns.first < 2048 && turns.count < 131072,
         }
     }
 
@@ -183,6 +243,7 @@ impl Action {
             Action::Clocked(turn) => turn * 16 + 11,
             Action::ClockedRounds(count) => count * 16 + 12,
             Action::FairRounds(count) => count * 16 + 13,
+            Action::Turned(turns) => (turns.count * 2048 + turns.first) * 16 + 14,
         }
     }
 

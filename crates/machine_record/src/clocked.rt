@@ -1,9 +1,7 @@
 //! Clocked and fair rounds of a machine that keeps a record.
 
-ghost use Rattle.std.specs.Prelude.{◌≡◌, ◌%◌, ◌+◌, ◌≤◌, ◌++◌, false, List, length};
-ghost use Rattle.torus.specs.Shape.{dims_of};
+ghost use Rattle.std.specs.Prelude.{◌≡◌, ◌+◌, ◌≤◌, ◌++◌, false, List, length};
 ghost use Rattle.torus.specs.declared.step.Step.{Step};
-ghost use Rattle.channel_number.specs.Ports.{port_count};
 ghost use Rattle.machine_parts.specs.Core.{Load, run_of, step};
 ghost use Rattle.machine_parts.specs.Machine.{IsAfter, MakesMove, RunsOn, all_finished, built_to, core_after};
 ghost use Rattle.machine_parts.specs.ProgressMoves.{moves_left};
@@ -13,6 +11,7 @@ ghost use Rattle.machine_core.specs.Clocked.{NeedsClocked, clocked_round, clocke
 ghost use Rattle.fair_rounds.specs.Guard.{holds};
 ghost use Rattle.machine_asked.specs.Asked.{AreFewestFair, asked_attempts, fair_made};
 ghost use Rattle.machine_asked.specs.Asked.{fair_rounds_made, fair_rounds_of};
+ghost use Rattle.machine_record.specs.Action.{one_turned};
 ghost use Rattle.machine_record.specs.Machine.{KeepsRecord};
 
 use crate::Action;
@@ -21,8 +20,8 @@ use crate::recorded::RecordedMachine;
 use std::alloc::Allocator;
 
 impl<A: Allocator> RecordedMachine<A> {
-    /// Makes one clocked round, as `Machine::clocked_round` does, and keeps it by the input at which its puts
-    /// begin.
+    /// Makes one clocked round, as `Machine::clocked_round` does, and keeps it: with those before it, whose turns
+    /// it goes on with, as one action.
     pub fn clocked_round(&mut self, turn: u64)
         ensures state { self.new.asked.core
             ≡ core_after self.old.asked.core (clocked_round self.old.asked.core turn) }
@@ -35,13 +34,12 @@ impl<A: Allocator> RecordedMachine<A> {
             (clocked_round self.old.asked.core turn) }
         ensures spins { self.new.asked.spins ≡ self.old.asked.spins }
         ensures guard { self.new.asked.guard ≡ self.old.asked.guard }
-        ensures kept { KeepsRecord
-            (Action.Clocked (turn % port_count (dims_of self.old.asked.core.shape)))
-            self.old self.new }
+        ensures kept { KeepsRecord (one_turned turn) self.old self.new }
     {
-        let ports = 8 * self.machine.machine().torus().dims() + 2;
+        // By its 1 to 3 dimensions a router has 10, 18 or 26 inputs.
+        let _dims = self.machine.machine().torus().dims();
         self.machine.clocked_round(turn);
-        keep_clocked(&mut self.kept, turn % ports as u64);
+        keep_clocked(&mut self.kept, turn);
     }
 
     /// Makes clocked rounds, with the turns from 0 on, until every script is finished, and answers how many, as

@@ -2,11 +2,12 @@
 
 ghost use Rattle.std.specs.Prelude.{◌≡◌, ◌⊎◌, ◌<◌, ◌≤◌, true, false, OnErr, OnOk, None, Some, length, vec_capacity, vec_len};
 ghost use Rattle.std.specs.Prelude.{option_and_then};
-ghost use Rattle.machine_record.specs.Action.{action_of, is_narrow, joined, joined_last};
+ghost use Rattle.machine_record.specs.Action.{action_of, is_narrow, joined, joined_last, one_turned};
 ghost use Rattle.machine_record.specs.Recorded.{recording_of, room_of};
 ghost use Rattle.machine_record.specs.Machine.{HasNoLessRoom, with_action, with_row};
 ghost use Rattle.machine_record.specs.MachineInside.{KeepsRowWithin, KeepsWithin};
 
+use crate::action::{TURNS, Turns};
 use crate::{Action, LineRow, Record};
 use script::Line;
 use std::alloc::{AllocError, Allocator};
@@ -21,8 +22,8 @@ fn joined_by(number: u32, next: Action) -> Option<Action>
     ensures { result ≡ option_and_then (λ last. joined last next) (action_of number) }
 {
     match next {
-        Action::Rounds(_) | Action::FairRounds(_) => Action::of_number(number)?.joined(next),
-        _ => None,
+        Action::Move(_) | Action::Line(_) | Action::Clocked(_) | Action::ClockedRounds(_) => None,
+        _ => Action::of_number(number)?.joined(next),
     }
 }
 
@@ -87,16 +88,17 @@ pub(crate) fn keep_rounds<A: Allocator>(kept: &mut Option<Record<A>>, count: u64
     }
 }
 
-/// Keeps a clocked round of a turn. The record ends where no number names it, or memory is refused.
-#[tactic(auto, using(crate::proofs::Kept::ends_wide))]
+/// Keeps a clocked round of a turn. The record ends where memory is refused.
 pub(crate) fn keep_clocked<A: Allocator>(kept: &mut Option<Record<A>>, turn: u64)
-    ensures { KeepsWithin (Action.Clocked turn) kept.old kept.new }
+    ensures { KeepsWithin (one_turned turn) kept.old kept.new }
 {
-    if turn < MOST {
-        keep(kept, Action::Clocked(turn as u32));
-    } else {
-        *kept = None;
-    }
+    keep(
+        kept,
+        Action::Turned(Turns {
+            first: (turn % u64::from(TURNS)) as u32,
+            count: 1,
+        }),
+    );
 }
 
 /// Keeps clocked rounds, with the turns from 0 on. The record ends where no number names them, or memory is

@@ -16,7 +16,7 @@ mod replay;
 pub mod restoring;
 pub mod row;
 
-pub use action::Action;
+pub use action::{Action, Turns};
 pub use bytes::bytes_of;
 pub use machine_asked::{AskedMachine, Machine};
 pub use reading::{Unread, record_of};

@@ -3,9 +3,10 @@
 ghost use Rattle.std.specs.Prelude.{◌≡◌, IfOk};
 ghost use Rattle.machine_asked.specs.Asked.{fair_rounds_made};
 ghost use Rattle.machine_record.specs.Replay.{acted, acted_by, clocked_rounds_made, machine_moved};
-ghost use Rattle.machine_record.specs.Replay.{rounds_made, row_handed};
+ghost use Rattle.machine_record.specs.Replay.{rounds_made, row_handed, turned_made};
 ghost use Rattle.machine_record.specs.Replayed.{ComesInTurn, Replays};
 
+use crate::action::{Turns, turn_behind};
 use crate::{Action, LineRow};
 use machine_asked::AskedMachine;
 use std::alloc::{AllocError, Allocator};
@@ -45,6 +46,15 @@ fn make_fair<A: Allocator>(machine: &mut AskedMachine<A>, count: u32)
 {
     for made in 0..count {
         machine.fair_round();
+    }
+}
+
+/// Makes clocked rounds in a row, each of the turn behind that of the one before it.
+fn make_turned<A: Allocator>(machine: &mut AskedMachine<A>, turns: Turns)
+    ensures { machine.new ≡ turned_made machine.old turns.first turns.count }
+{
+    for made in 0..turns.count {
+        machine.clocked_round(turn_behind(turns.first, made));
     }
 }
 
@@ -94,6 +104,10 @@ fn act<A: Allocator>(
         }
         Action::FairRounds(count) => {
             make_fair(machine, count);
+            Ok(true)
+        }
+        Action::Turned(turns) => {
+            make_turned(machine, turns);
             Ok(true)
         }
     }

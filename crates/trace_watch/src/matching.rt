@@ -47,7 +47,7 @@ fn may_still_be(taken: &[u64], effect: Effect, call: Call) -> bool
     ensures yes { result ≡ true → MayStillBe taken.now effect call }
     ensures no { result ≡ false → MayStillBe taken.now effect call → ⊥ }
 {
-    !is_taken(taken, call.id) && may_be(effect, call)
+    may_be(effect, call) && !is_taken(taken, call.id)
 }
 
 /// Of some operations but for those of these numbers the newest one that an effect may be of.
