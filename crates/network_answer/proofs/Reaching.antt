@@ -1,0 +1,219 @@
+-- Where packets come in a network whose routers choose, how many pairs they go between, and over how many hops.
+use Rattle.std.proofs.Common.{◌≡◌, inl, inr, ⊎_elim, ℕ, zero, suc, ◌+◌, ◌*◌, ◌<◌, ◌≤◌, ◌&&◌, ◌||◌, Bool, true, false, Some, None, List, [], length, refl, sym, ◌∙◌, ap, subst, arith}
+use Rattle.std.specs.Prelude.{if◌then◌else◌, slice_get, Option, IfSome}
+use Rattle.std.proofs.lemmas.Bool.{cases_lt, cases_Bool, and_parts, and_from, or_cases, or_left, or_right}
+use Rattle.network_judge.specs.declared.table.Kind.{Kind}
+use Rattle.network_judge.specs.declared.table.Kind.TheVariants.{Injection, Hop, Ejection}
+use Rattle.network_judge.specs.declared.table.Join.{Join}
+use Rattle.network_judge.specs.declared.table.Reply.{Reply}
+use Rattle.network_judge.specs.Table.{table_of, kind_of, joins_of, is_sender, is_receiver}
+use Rattle.network_judge.specs.TableNet.{Flits}
+use Rattle.network_judge.specs.Marks.{is_marked_at}
+use Rattle.network_adaptive.specs.Choices.{Comes, HasEscapes}
+use Rattle.network_adaptive.specs.Choosing.{ChoiceTable, choosing_of, table, network, IsShaped}
+use Rattle.network_adaptive.specs.Spread.{Path, Stop, Go}
+use Rattle.network_adaptive.specs.Flags.{AreDown, AreComes, ComesTo}
+use Rattle.network_adaptive.specs.Shape.{IsJudgedNet}
+use Rattle.network_adaptive.specs.Travel.{IsTravel, step_to}
+use Rattle.network_adaptive.specs.declared.accepting.JudgedNet.{JudgedNet}
+use Rattle.network_adaptive.specs.declared.accepting.JudgedNet.TheVariants.{WrongPair, WrongChoice, Judged}
+use Rattle.network_adaptive.specs.declared.verdict.Verdict.{Verdict}
+use Rattle.network_adaptive.specs.declared.verdict.Verdict.TheVariants.{Rising, NoEscape, Cycle}
+use Rattle.network_adaptive.proofs.Flags.{up_inside}
+use Rattle.network_adaptive.proofs.Spreading.{path_up}
+use Rattle.network_adaptive.proofs.Bridge.{step_goes, to_comes, comes_to, is_adaptive}
+use Rattle.network_answer.specs.Totals.{count_below, pairs_to, IsCountOf, OfNone, OneMore, NotThis, IsHopReached, HasChosenTotals}
+use Rattle.network_answer.specs.declared.totals.Totals.{Totals}
+use Rattle.network_answer.specs.Reached.{AreEitherUp, AreReached, is_between, is_hop_up}
+use Rattle.network_answer.specs.Routing.{can_go_on, judged_travel, IsLastText}
+use Rattle.network_answer.specs.Answer.{totals_line}
+use Rattle.network_answer.proofs.Counting.{count_same, count_none}
+
+-- so many numbers pass a test
+pub count_is : (p : ℕ → Bool) (n : ℕ) → IsCountOf (λ x. p x ≡ true) n (count_below p n)
+count_is p zero = OfNone
+count_is p (suc n) = elim (cases_Bool (p n)) [
+  | inl yes ↦
+      let more : count_below p n + (if p n then 1 else 0) ≡ count_below p n + 1 = ap (λ (b : Bool). count_below p n + (if b then 1 else 0)) yes in
+      let up : count_below p n + (if p n then 1 else 0) ≡ suc (count_below p n) = omega arith in
+      subst (λ c. IsCountOf (λ x. p x ≡ true) (suc n) c) (sym up) (OneMore n (count_below p n) (count_is p n) yes)
+  | inr no ↦
+      let more : count_below p n + (if p n then 1 else 0) ≡ count_below p n + 0 = ap (λ (b : Bool). count_below p n + (if b then 1 else 0)) no in
+      let same : count_below p n + (if p n then 1 else 0) ≡ count_below p n = omega arith in
+      subst (λ c. IsCountOf (λ x. p x ≡ true) (suc n) c) (sym same)
+      (NotThis n (count_below p n) (count_is p n) (λ yes. let bad : true ≡ false = sym yes ∙ no in cc))
+]
+
+-- as many have another property, where one holds with the other
+pub count_alike : (P Q : ℕ → Type 0) → ((x : ℕ) → P x → Q x) → ((x : ℕ) → Q x → P x) → (n c : ℕ) → IsCountOf P n c → IsCountOf Q n c
+count_alike P Q there back n c OfNone = OfNone
+count_alike P Q there back n c (OneMore m k so p) = OneMore m k (count_alike P Q there back m k so) (there m p)
+count_alike P Q there back n c (NotThis m k so no) = NotThis m k (count_alike P Q there back m k so) (λ q. no (back m q))
+
+hop_kind : (k : Option Kind) → is_between k ≡ true → k ≡ Some Hop
+hop_kind None e = cc
+hop_kind (Some Injection) e = cc
+hop_kind (Some Hop) e = refl
+hop_kind (Some Ejection) e = cc
+
+module _ (kinds : List Kind) (joins : List Join) (step : ℕ → ℕ → ℕ → Bool) where
+  module _ (senders : (i j : ℕ) → joins_of (table_of [] joins []) i j ≡ true → slice_get kinds i ≡ Some Injection)
+      (outputs : (j x y : ℕ) → ComesTo joins (step j) j x → step j x y ≡ true → is_sender (slice_get kinds y) ≡ false) where
+    -- packets come to an injection channel only where they begin in it
+    begins : (j i x : ℕ) → joins_of (table_of [] joins []) i j ≡ true → Path (step j) i x → is_sender (slice_get kinds x) ≡ true → i ≡ x
+    begins j i x joined Stop sends = refl
+    begins j i x joined (Go y z p e) sends =
+        absurd (let never : is_sender (slice_get kinds z) ≡ false = outputs j y z (i, joined, p) e in let bad : true ≡ false = sym sends ∙ never in cc)
+
+    -- the injection channels that they come to are those of the pairs
+    seen_joined : (j x : ℕ) (seen : List Bool) → AreComes kinds joins (step j) j seen
+        → (is_sender (slice_get kinds x) && is_marked_at seen x) ≡ joins_of (table_of [] joins []) x j
+    seen_joined j x seen are = elim (cases_Bool (joins_of (table_of [] joins []) x j)) [
+      | inl there ↦ and_from (is_sender (slice_get kinds x)) (is_marked_at seen x) (ap is_sender (senders x j there)) (are.begin x there) ∙ sym there
+      | inr gone ↦ elim (cases_Bool (is_sender (slice_get kinds x) && is_marked_at seen x)) [
+        | inl both ↦
+            let parts = and_parts (is_sender (slice_get kinds x)) (is_marked_at seen x) both in
+            let come = are.only x parts.1 in
+            let same = begins j come.0 x come.1 come.2 parts.0 in
+            let there : joins_of (table_of [] joins []) x j ≡ true = subst (λ z. joins_of (table_of [] joins []) z j ≡ true) same come.1 in
+            absurd (let bad : true ≡ false = sym there ∙ gone in cc)
+        | inr neither ↦ neither ∙ sym gone
+      ]
+    ]
+
+    -- so many pairs go to an ejection channel
+    pub seen_count : (j m : ℕ) (seen : List Bool) → AreComes kinds joins (step j) j seen
+        → m ≡ count_below (λ x. is_sender (slice_get kinds x) && is_marked_at seen (x * 1 + 0)) (length kinds) → m ≡ pairs_to joins (length kinds) j
+    seen_count j m seen are is =
+        is
+        ∙ count_same (λ x. is_sender (slice_get kinds x) && is_marked_at seen (x * 1 + 0)) (λ x. joins_of (table_of [] joins []) x j) (length kinds)
+        (λ x. ap (λ z. is_sender (slice_get kinds x) && is_marked_at seen z) (let one : x * 1 + 0 ≡ x = omega arith in one) ∙ seen_joined j x seen are)
+
+  module _ (receivers : (i j : ℕ) → joins_of (table_of [] joins []) i j ≡ true → slice_get kinds j ≡ Some Ejection) where
+    not_joined : (i j : ℕ) → is_receiver (slice_get kinds j) ≡ false → joins_of (table_of [] joins []) i j ≡ false
+    not_joined i j other = elim (cases_Bool (joins_of (table_of [] joins []) i j)) [
+      | inl there ↦ absurd (let bad : true ≡ false = sym (ap is_receiver (receivers i j there)) ∙ other in cc)
+      | inr gone ↦ gone
+    ]
+
+    -- none goes to another channel
+    pub none_to : (j n : ℕ) → is_receiver (slice_get kinds j) ≡ false → pairs_to joins n j ≡ 0
+    none_to j n other = count_none (λ i. joins_of (table_of [] joins []) i j) n (λ i. not_joined i j other)
+
+    -- no packets come to any channel on the way to it
+    pub reached_skip : (j m : ℕ) (flags : List Bool) → m ≡ j + 1 → is_receiver (slice_get kinds j) ≡ false → AreReached kinds joins step j flags
+        → AreReached kinds joins step m flags
+    reached_skip j m flags e other r = record {
+      size = r.size;
+      only = λ x up. (let w = r.only x up in let low = w.1 in (w.0, omega arith, w.2));
+      all = λ i x low come. elim (cases_lt i j) [
+        | inl less ↦ r.all i x less come
+        | inr high ↦
+            let same : i ≡ j = omega arith in
+            let joined : joins_of (table_of [] joins []) come.0 j ≡ true = subst (λ z. joins_of (table_of [] joins []) come.0 z ≡ true) same come.1 in
+            absurd (let bad : true ≡ false = sym joined ∙ not_joined come.0 j other in cc)
+      ];
+    }
+
+  -- no packets are looked at
+  pub reached_none : (flags : List Bool) → AreDown flags → length flags ≡ length kinds → AreReached kinds joins step 0 flags
+  reached_none flags down size = record {
+    size = size;
+    only = λ x up. absurd (let bad : true ≡ false = sym up ∙ down x in cc);
+    all = λ j x low come. absurd (omega arith);
+  }
+
+  -- those of one channel more
+  pub reached_more : (j m : ℕ) (flags seen all : List Bool) → m ≡ j + 1 → AreReached kinds joins step j flags
+      → AreComes kinds joins (step j) j seen → AreEitherUp flags seen all → AreReached kinds joins step m all
+  reached_more j m flags seen all e r are either = record {
+    size = either.size ∙ r.size;
+    only = λ x up.
+        (let size = either.size in
+        let inside = up_inside all x up in
+        ⊎_elim
+        (λ (old : is_marked_at flags x ≡ true). let w = r.only x old in let low = w.1 in (w.0, omega arith, w.2))
+        (λ (new : is_marked_at seen x ≡ true). (j, omega arith, are.only x new))
+        (or_cases (is_marked_at flags x) (is_marked_at seen x) (sym (either.each x (omega arith)) ∙ up)));
+    all = λ i x low come. elim (cases_lt i j) [
+      | inl less ↦
+          let old = r.all i x less come in
+          either.each x (up_inside flags x old) ∙ or_left (is_marked_at flags x) (is_marked_at seen x) old
+      | inr high ↦
+          let same : i ≡ j = omega arith in
+          let here : ComesTo joins (step j) j x = subst (λ z. ComesTo joins (step z) z x) same come in
+          let new = path_up (step j) seen here.0 x are.closed (are.begin here.0 here.1) here.2 in
+          let size = are.size in
+          let all_of = r.size in
+          let inside = up_inside seen x new in
+          either.each x (omega arith) ∙ or_right (is_marked_at flags x) (is_marked_at seen x) new
+    ];
+  }
+
+module _ (t : ChoiceTable) (none : List Bool) (down : AreDown none) (shaped : IsShaped t) where
+  -- no choice leads to an injection channel
+  pub no_senders : (depth : ℕ) (flits : Flits) (j x y : ℕ) → ComesTo t.joins (step_to t.kinds t.choices t.ways none j) j x
+      → step_to t.kinds t.choices t.ways none j x y ≡ true → is_sender (slice_get t.kinds y) ≡ false
+  no_senders depth flits j x y come step =
+      (is_adaptive t none down depth flits shaped).outputs j x y (to_comes t none down depth flits j x come) (step_goes t none down depth flits j x y step)
+
+  -- packets come to so many hops
+  pub hops_reached : (flags : List Bool) (count : ℕ) → AreReached t.kinds t.joins (step_to t.kinds t.choices t.ways none) (length t.kinds) flags
+      → count ≡ count_below (is_hop_up t.kinds flags) (length t.kinds) → (depth : ℕ) (flits : Flits) → IsCountOf (IsHopReached t depth flits) (length t.kinds) count
+  hops_reached flags count r is depth flits =
+      subst (λ c. IsCountOf (IsHopReached t depth flits) (length t.kinds) c) (sym is)
+      (count_alike (λ x. is_hop_up t.kinds flags x ≡ true) (IsHopReached t depth flits) there back (length t.kinds)
+      (count_below (is_hop_up t.kinds flags) (length t.kinds)) (count_is (is_hop_up t.kinds flags) (length t.kinds)))
+    where
+      there : (x : ℕ) → is_hop_up t.kinds flags x ≡ true → IsHopReached t depth flits x
+      there x up =
+          let parts = and_parts (is_between (slice_get t.kinds x)) (is_marked_at flags x) up in
+          let w = r.only x parts.1 in
+          (hop_kind (slice_get t.kinds x) parts.0, (w.0, to_comes t none down depth flits w.0 x w.2))
+
+      back : (x : ℕ) → IsHopReached t depth flits x → is_hop_up t.kinds flags x ≡ true
+      back x hop =
+          let j : ℕ = hop.1.0 in
+          let come = comes_to t none down depth flits j x hop.1.1 in
+          and_from (is_between (slice_get t.kinds x)) (is_marked_at flags x) (ap is_between hop.0)
+          (r.all j x ((is_adaptive t none down depth flits shaped).ends come.0 j come.1) come)
+
+module _ (t : ChoiceTable) (replies : List Reply) where
+  -- the lists of a network in which packets can go on are those of a network
+  pub on_shaped : {A : Type 0} (judged : JudgedNet A) → can_go_on judged ≡ true → IsJudgedNet t replies judged → IsShaped t
+  on_shaped (WrongPair r) on is = cc
+  on_shaped (WrongChoice c) on is = cc
+  on_shaped (Judged v) on is = is.0
+
+  -- and it has escapes
+  pub on_escapes : {A : Type 0} (judged : JudgedNet A) → can_go_on judged ≡ true → IsJudgedNet t replies judged
+      → (depth : ℕ) (flits : Flits) → HasEscapes (network t depth flits)
+  on_escapes (WrongPair r) on is = cc
+  on_escapes (WrongChoice c) on is = cc
+  on_escapes (Judged (Rising numbers travel)) on is = λ depth flits. (is.1 depth flits).0
+  on_escapes (Judged (NoEscape f)) on is = cc
+  on_escapes (Judged (Cycle edges)) on is = λ depth flits. (is.1 depth flits).0
+
+  -- how far packets go is known
+  pub on_travel : {A : Type 0} (judged : JudgedNet A) → IsJudgedNet t replies judged
+      → IfSome (judged_travel judged) (λ travel. (depth : ℕ) (flits : Flits) → IsTravel (network t depth flits) travel)
+  on_travel (WrongPair r) is = tt
+  on_travel (WrongChoice c) is = tt
+  on_travel (Judged (Rising numbers travel)) is = λ depth flits. (is.1 depth flits).3
+  on_travel (Judged (NoEscape f)) is = tt
+  on_travel (Judged (Cycle edges)) is = tt
+
+-- totals of lists are those of the same lists
+pub totals_moved : (kinds of_kinds : List Kind) (joins of_joins : List Join) (ways : ℕ) (choices : List ℕ) (marks : List Bool) (s : Totals) → kinds ≡ of_kinds
+    → joins ≡ of_joins → HasChosenTotals (choosing_of kinds joins ways choices marks) s → HasChosenTotals (choosing_of of_kinds of_joins ways choices marks) s
+totals_moved kinds of_kinds joins of_joins ways choices marks s one two holds =
+    subst (λ k. HasChosenTotals (choosing_of k of_joins ways choices marks) s) one
+    (subst (λ j. HasChosenTotals (choosing_of kinds j ways choices marks) s) two holds)
+
+-- the line stands last where packets can go on, and else nothing
+pub last_put : (on : Bool) (t : ChoiceTable) (totals : Totals) (text : List ℕ) → on ≡ true → HasChosenTotals t totals → text ≡ totals_line totals
+    → IsLastText on t text
+last_put on t totals text is holds told = subst (λ b. IsLastText b t text) (sym is) (record { totals = totals; holds = holds; is = told })
+
+pub last_none : (on : Bool) (t : ChoiceTable) (text : List ℕ) → on ≡ false → text ≡ [] → IsLastText on t text
+last_none on t text is told = subst (λ b. IsLastText b t text) (sym is) told
