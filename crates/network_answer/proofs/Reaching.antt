@@ -2,6 +2,8 @@
 use Rattle.std.proofs.Common.{◌≡◌, inl, inr, ⊎_elim, ℕ, zero, suc, ◌+◌, ◌*◌, ◌<◌, ◌≤◌, ◌&&◌, ◌||◌, Bool, true, false, Some, None, List, [], ◌++◌, length, append_assoc, refl, sym, ◌∙◌, ap, subst, arith}
 use Rattle.std.specs.Prelude.{if◌then◌else◌, slice_get, Option, IfSome}
 use Rattle.std.proofs.lemmas.Bool.{cases_lt, cases_Bool, and_parts, and_from, or_cases, or_left, or_right}
+use Rattle.std.proofs.lemmas.Nat.{mul-le}
+use Rattle.std.proofs.Math.Nat.{le-mul_of_pos_right, mul_comm, suc-mul}
 use Rattle.network_judge.specs.declared.table.Kind.{Kind}
 use Rattle.network_judge.specs.declared.table.Kind.TheVariants.{Injection, Hop, Ejection}
 use Rattle.network_judge.specs.declared.table.Join.{Join}
@@ -51,6 +53,21 @@ pub count_alike : (P Q : ℕ → Type 0) → ((x : ℕ) → P x → Q x) → ((x
 count_alike P Q there back n c OfNone = OfNone
 count_alike P Q there back n c (OneMore m k so p) = OneMore m k (count_alike P Q there back m k so) (there m p)
 count_alike P Q there back n c (NotThis m k so no) = NotThis m k (count_alike P Q there back m k so) (λ q. no (back m q))
+
+-- the pairs to one ejection channel more are no more than there are choices
+pub count_fits : (c e n w count m len : ℕ) → count ≤ c * n → m ≤ n → c < e → 0 < w → e * (n * w) ≤ len → count + m ≤ len
+count_fits c e n w count m len low one less some room =
+    let next : suc c * n ≡ c * n + n = suc-mul c n in
+    let up : suc c * n ≤ e * (n * w) = mul-le (suc c) n e (n * w) (omega arith) (le-mul_of_pos_right n some) in
+    omega arith
+
+-- nor are all pairs that there could be
+pub all_fit : (a e n w len : ℕ) → a ≤ n → 0 < w → e * (n * w) ≤ len → a * e ≤ len
+all_fit a e n w len low some room =
+    let wide : n ≤ n * w = le-mul_of_pos_right n some in
+    let up : e * a ≤ e * (n * w) = mul-le e a e (n * w) (omega arith) (omega arith) in
+    let turned : a * e ≡ e * a = mul_comm a e in
+    omega arith
 
 hop_kind : (k : Option Kind) → is_between k ≡ true → k ≡ Some Hop
 hop_kind None e = cc
