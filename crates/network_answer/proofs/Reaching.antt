@@ -1,6 +1,6 @@
 -- Where packets come in a network whose routers choose, how many pairs they go between, and over how many hops.
 use Rattle.std.proofs.Common.{◌≡◌, inl, inr, ⊎_elim, ℕ, zero, suc, ◌+◌, ◌*◌, ◌<◌, ◌≤◌, ◌&&◌, ◌||◌, Bool, true, false, Some, None, List, [], ◌++◌, length, append_assoc, refl, sym, ◌∙◌, ap, subst, arith}
-use Rattle.std.specs.Prelude.{if◌then◌else◌, slice_get, Option, IfSome}
+use Rattle.std.specs.Prelude.{if◌then◌else◌, slice_get, Option, IfSome, Result, Ok, Err, IfOk}
 use Rattle.std.proofs.lemmas.Bool.{cases_lt, cases_Bool, and_parts, and_from, or_cases, or_left, or_right}
 use Rattle.std.proofs.lemmas.Nat.{mul-le}
 use Rattle.std.proofs.Math.Nat.{le-mul_of_pos_right, mul_comm, suc-mul}
@@ -17,6 +17,7 @@ use Rattle.network_adaptive.specs.Spread.{Path, Stop, Go}
 use Rattle.network_adaptive.specs.Flags.{AreDown, AreComes, ComesTo}
 use Rattle.network_adaptive.specs.Shape.{IsJudgedNet}
 use Rattle.network_adaptive.specs.Travel.{IsTravel, step_to}
+use Rattle.network_adaptive.specs.declared.verdict.Travel.{Travel}
 use Rattle.network_adaptive.specs.declared.accepting.JudgedNet.{JudgedNet}
 use Rattle.network_adaptive.specs.declared.accepting.JudgedNet.TheVariants.{WrongPair, WrongChoice, Judged}
 use Rattle.network_adaptive.specs.declared.verdict.Verdict.{Verdict}
@@ -32,6 +33,15 @@ use Rattle.network_answer.specs.Answer.{totals_line}
 use Rattle.network_text.specs.declared.reading.Reading as reading
 use Rattle.network_answer.proofs.Counting.{count_same, count_none}
 use Rattle.network_answer.proofs.Sized.{three_parts}
+
+-- a format of flits
+pub any_flits : Flits
+any_flits = record { is_head = λ f. true; is_tail = λ f. true; told = λ f. 0 }
+
+-- what follows of how far packets go, where that is found
+pub if_travel : {E : Type 0} {P Q : Travel → Type 0} (r : Result Travel E) → ((x : Travel) → P x → Q x) → IfOk r P → IfOk r Q
+if_travel (Ok x) f p = f x p
+if_travel (Err e) f p = p
 
 -- so many numbers pass a test
 pub count_is : (p : ℕ → Bool) (n : ℕ) → IsCountOf (λ x. p x ≡ true) n (count_below p n)
