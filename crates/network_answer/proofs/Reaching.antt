@@ -3,7 +3,7 @@ use Rattle.std.proofs.Common.{◌≡◌, inl, inr, ⊎_elim, ℕ, zero, suc, ◌
 use Rattle.std.specs.Prelude.{if◌then◌else◌, slice_get, Option, IfSome, Result, Ok, Err, IfOk}
 use Rattle.std.proofs.lemmas.Bool.{cases_lt, cases_Bool, and_parts, and_from, or_cases, or_left, or_right}
 use Rattle.std.proofs.lemmas.Nat.{mul-le}
-use Rattle.std.proofs.Math.Nat.{le-mul_of_pos_right, mul_comm, suc-mul}
+use Rattle.std.proofs.Math.Nat.{le-mul_of_pos_right, mul_comm}
 use Rattle.network_judge.specs.declared.table.Kind.{Kind}
 use Rattle.network_judge.specs.declared.table.Kind.TheVariants.{Injection, Hop, Ejection}
 use Rattle.network_judge.specs.declared.table.Join.{Join}
@@ -47,31 +47,24 @@ if_travel (Err e) f p = p
 pub count_is : (p : ℕ → Bool) (n : ℕ) → IsCountOf (λ x. p x ≡ true) n (count_below p n)
 count_is p zero = OfNone
 count_is p (suc n) = elim (cases_Bool (p n)) [
-  | inl yes ↦
-      let more : count_below p n + (if p n then 1 else 0) ≡ count_below p n + 1 = ap (λ (b : Bool). count_below p n + (if b then 1 else 0)) yes in
-      let up : count_below p n + (if p n then 1 else 0) ≡ suc (count_below p n) = omega arith in
-      subst (λ c. IsCountOf (λ x. p x ≡ true) (suc n) c) (sym up) (OneMore n (count_below p n) (count_is p n) yes)
-  | inr no ↦
-      let more : count_below p n + (if p n then 1 else 0) ≡ count_below p n + 0 = ap (λ (b : Bool). count_below p n + (if b then 1 else 0)) no in
+  | inl up_here ↦
+      let more : count_below p n + (if p n then 1 else 0) ≡ count_below p n + 1 = ap (λ (b : Bool). count_below p n + (if b then 1 else 0)) up_here in
+      let next : count_below p n + (if p n then 1 else 0) ≡ suc (count_below p n) = omega arith in
+      subst (λ c. IsCountOf (λ x. p x ≡ true) (suc n) c) (sym next) (OneMore n (count_below p n) (count_is p n) up_here)
+  | inr not_here ↦
+      let more : count_below p n + (if p n then 1 else 0) ≡ count_below p n + 0 = ap (λ (b : Bool). count_below p n + (if b then 1 else 0)) not_here in
       let same : count_below p n + (if p n then 1 else 0) ≡ count_below p n = omega arith in
       subst (λ c. IsCountOf (λ x. p x ≡ true) (suc n) c) (sym same)
-      (NotThis n (count_below p n) (count_is p n) (λ yes. let bad : true ≡ false = sym yes ∙ no in cc))
+      (NotThis n (count_below p n) (count_is p n) (λ is_up. let bad : true ≡ false = sym is_up ∙ not_here in cc))
 ]
 
 -- as many have another property, where one holds with the other
 pub count_alike : (P Q : ℕ → Type 0) → ((x : ℕ) → P x → Q x) → ((x : ℕ) → Q x → P x) → (n c : ℕ) → IsCountOf P n c → IsCountOf Q n c
 count_alike P Q there back n c OfNone = OfNone
 count_alike P Q there back n c (OneMore m k so p) = OneMore m k (count_alike P Q there back m k so) (there m p)
-count_alike P Q there back n c (NotThis m k so no) = NotThis m k (count_alike P Q there back m k so) (λ q. no (back m q))
+count_alike P Q there back n c (NotThis m k so isnt) = NotThis m k (count_alike P Q there back m k so) (λ q. isnt (back m q))
 
--- the pairs to one ejection channel more are no more than there are choices
-pub count_fits : (c e n w count m len : ℕ) → count ≤ c * n → m ≤ n → c < e → 0 < w → e * (n * w) ≤ len → count + m ≤ len
-count_fits c e n w count m len low one less some room =
-    let next : suc c * n ≡ c * n + n = suc-mul c n in
-    let up : suc c * n ≤ e * (n * w) = mul-le (suc c) n e (n * w) (omega arith) (le-mul_of_pos_right n some) in
-    omega arith
-
--- nor are all pairs that there could be
+-- all pairs that there could be are no more than there are choices
 pub all_fit : (a e n w len : ℕ) → a ≤ n → 0 < w → e * (n * w) ≤ len → a * e ≤ len
 all_fit a e n w len low some room =
     let wide : n ≤ n * w = le-mul_of_pos_right n some in
