@@ -1,5 +1,5 @@
 -- Where packets come in a network whose routers choose, how many pairs they go between, and over how many hops.
-use Rattle.std.proofs.Common.{◌≡◌, inl, inr, ⊎_elim, ℕ, zero, suc, ◌+◌, ◌*◌, ◌<◌, ◌≤◌, ◌&&◌, ◌||◌, Bool, true, false, Some, None, List, [], ◌++◌, length, append_assoc, refl, sym, ◌∙◌, ap, subst, arith}
+use Rattle.std.proofs.Common.{◌≡◌, inl, inr, ⊎_elim, ℕ, zero, suc, ◌+◌, ◌*◌, ◌<◌, ◌≤◌, ◌&&◌, Bool, true, false, Some, None, List, [], ◌++◌, length, append_assoc, refl, sym, ◌∙◌, ap, subst, arith}
 use Rattle.std.specs.Prelude.{if◌then◌else◌, slice_get, Option, IfSome, Result, Ok, Err, IfOk}
 use Rattle.std.proofs.lemmas.Bool.{cases_lt, cases_Bool, and_parts, and_from, or_cases, or_left, or_right}
 use Rattle.std.proofs.lemmas.Nat.{mul-le}
@@ -8,11 +8,11 @@ use Rattle.network_judge.specs.declared.table.Kind.{Kind}
 use Rattle.network_judge.specs.declared.table.Kind.TheVariants.{Injection, Hop, Ejection}
 use Rattle.network_judge.specs.declared.table.Join.{Join}
 use Rattle.network_judge.specs.declared.table.Reply.{Reply}
-use Rattle.network_judge.specs.Table.{table_of, kind_of, joins_of, is_sender, is_receiver}
+use Rattle.network_judge.specs.Table.{table_of, joins_of, is_sender, is_receiver}
 use Rattle.network_judge.specs.TableNet.{Flits}
 use Rattle.network_judge.specs.Marks.{is_marked_at}
-use Rattle.network_adaptive.specs.Choices.{Comes, HasEscapes}
-use Rattle.network_adaptive.specs.Choosing.{ChoiceTable, choosing_of, table, network, IsShaped}
+use Rattle.network_adaptive.specs.Choices.{HasEscapes}
+use Rattle.network_adaptive.specs.Choosing.{ChoiceTable, choosing_of, network, IsShaped}
 use Rattle.network_adaptive.specs.Spread.{Path, Stop, Go}
 use Rattle.network_adaptive.specs.Flags.{AreDown, AreComes, ComesTo}
 use Rattle.network_adaptive.specs.Shape.{IsJudgedNet}
@@ -20,7 +20,6 @@ use Rattle.network_adaptive.specs.Travel.{IsTravel, step_to}
 use Rattle.network_adaptive.specs.declared.verdict.Travel.{Travel}
 use Rattle.network_adaptive.specs.declared.accepting.JudgedNet.{JudgedNet}
 use Rattle.network_adaptive.specs.declared.accepting.JudgedNet.TheVariants.{WrongPair, WrongChoice, Judged}
-use Rattle.network_adaptive.specs.declared.verdict.Verdict.{Verdict}
 use Rattle.network_adaptive.specs.declared.verdict.Verdict.TheVariants.{Rising, NoEscape, Cycle}
 use Rattle.network_adaptive.proofs.Flags.{up_inside}
 use Rattle.network_adaptive.proofs.Spreading.{path_up}

@@ -1,4 +1,4 @@
-use Rattle.std.proofs.Common.{◌≡◌, ◌∙◌, ◌*◌, ◌≤◌, ℕ, List, Bool, length, sym, ap, subst, arith}
+use Rattle.std.proofs.Common.{◌≡◌, ◌∙◌, ◌*◌, ◌≤◌, List, Bool, length, sym, ap, subst, arith}
 use Rattle.std.specs.List.{count_by}
 use Rattle.std.proofs.lemmas.Option.{slice_get_within}
 use Rattle.rising.specs.declared.edge.Edge.{Edge}
@@ -11,8 +11,8 @@ use Rattle.network_adaptive.specs.Flags.{AreDown}
 use Rattle.network_adaptive.specs.Travel.{step_to}
 use Rattle.network_adaptive.proofs.Circles.{down_from}
 use Rattle.network_adaptive.proofs.Pairs.{pairs_within}
-use Rattle.network_answer.specs.Reached.{is_hop_up, AreReached}
-use Rattle.network_answer.specs.Totals.{injects, count_below}
+use Rattle.network_answer.specs.Reached.{AreReached}
+use Rattle.network_answer.specs.Totals.{injects}
 use Rattle.network_answer.proofs.Reaching.{all_fit, no_senders, hops_reached, any_flits}
 use Rattle.network_answer.proofs.reached.chosen_totals.Goals as goal
 

@@ -1,12 +1,11 @@
-use Rattle.std.proofs.Common.{◌≡◌, ◌∙◌, ◌+◌, ◌*◌, ◌<◌, ◌≤◌, ℕ, List, Bool, refl, sym, ap, length, true, false, arith, take, subst}
+use Rattle.std.proofs.Common.{◌≡◌, ◌∙◌, ◌+◌, ◌*◌, ◌≤◌, ℕ, List, Bool, refl, sym, ap, length, true, false, arith, take, subst}
 use Rattle.std.specs.List.{count_by}
-use Rattle.std.specs.Prelude.{slice_get, ◌&&◌}
-use Rattle.network_judge.specs.Table.{ejects, is_sender, is_receiver}
-use Rattle.network_judge.specs.Marks.{is_marked_at}
+use Rattle.std.specs.Prelude.{slice_get}
+use Rattle.network_judge.specs.Table.{ejects, is_receiver}
 use Rattle.network_adaptive.specs.Flags.{AreComes}
 use Rattle.network_adaptive.specs.Spread.{choice_step}
 use Rattle.network_adaptive.specs.Travel.{step_to}
-use Rattle.network_answer.specs.Totals.{count_below, pairs_to}
+use Rattle.network_answer.specs.Totals.{pairs_to}
 use Rattle.network_answer.specs.Reached.{AreEitherUp, AreReached}
 use Rattle.network_answer.proofs.Counting.{sum_more, receiver_kind, ends_more, ends_no_more, low_more}
 use Rattle.network_answer.proofs.Reaching.{seen_count, none_to, reached_more, reached_skip}
