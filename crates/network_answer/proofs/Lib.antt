@@ -6,3 +6,4 @@ mod Mapped
 mod OneFlit
 pub mod Sized
 mod Shorter
+mod Reaching

@@ -22,6 +22,8 @@ use Rattle.network_judge.specs.Verdicts.{IsVerdict}
 use Rattle.network_judge.specs.declared.fill.Fill.{Fill}
 use Rattle.network_judge.specs.Jams.{IsJam}
 use Rattle.network_judge.specs.Table.{Table}
+use Rattle.network_adaptive.specs.declared.verdict.Travel.{Travel}
+use Rattle.network_adaptive.specs.declared.verdict.Travel.TheVariants.{Bounded, Round as Unbounded}
 use Rattle.network_answer.specs.Totals.{HasTotals}
 use Rattle.network_answer.specs.Causes.{next_place, verdict_causes}
 use Rattle.network_answer.specs.declared.causes.Cause.TheVariants as cause
@@ -134,11 +136,16 @@ pub record IsJammedText {A : Type 0} (n : NetworkSpec) (v : Verdict A) (text : L
     pub follows : IsBehind n v behind
     pub is : text ≡ verdict_text v ++ behind
 
+-- how many channels packets go over at most, or that nothing bounds how many
+abbrev pub longest_words : Travel → List ℕ
+longest_words (Bounded most) = decimal most
+longest_words (Unbounded r) = codes "unbounded"
+
 -- the line on what packets go over
 abbrev pub totals_line : Totals → List ℕ
 totals_line s = pair_line (codes "pairs ") s.pairs (codes " of ") s.all_pairs (codes ", hops ")
     ++ (pair_line [] s.hops (codes " of ") s.all_hops (codes ", longest route ")
-    ++ (decimal s.longest ++ codes "\n"))
+    ++ (longest_words s.longest ++ codes "\n"))
 
 -- a text is that line of a table
 pub record TellsTotals (t : Table) (text : List ℕ) : Type 0 where

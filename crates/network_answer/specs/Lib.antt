@@ -5,3 +5,4 @@ pub mod Routing
 pub mod Causes
 pub mod Totals
 pub mod Shorter
+pub mod Reached

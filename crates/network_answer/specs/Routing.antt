@@ -11,7 +11,10 @@ use Rattle.network_answer.specs.declared.answer.Answer.{Answer}
 use Rattle.network_text.specs.Network.{Reading, taken_cell}
 use Rattle.network_answer.specs.Answer.{pair_line, number_line, no_route_line}
 use Rattle.network_text.specs.Lines.{first_lines}
-use Rattle.network_answer.specs.Answer.{SaysNoPair, TellsFixedRoutes}
+use Rattle.network_answer.specs.Answer.{SaysNoPair, TellsFixedRoutes, totals_line}
+use Rattle.network_answer.specs.Totals.{HasChosenTotals}
+use Rattle.network_answer.specs.declared.totals.Totals.{Totals}
+use Rattle.network_adaptive.specs.Choosing.{ChoiceTable}
 use Rattle.network_answer.specs.Causes.{choosing_causes}
 use Rattle.network_judge.specs.declared.table.Join.{Join}
 use Rattle.network_adaptive.specs.declared.accepting.JudgedNet.{JudgedNet}
@@ -111,8 +114,44 @@ has_circuit (Judged v) = is_circuit v
 abbrev pub may_text : Bool → Bool → List ℕ
 may_text circuit free = if circuit && not free then codes "may lock up\n" else []
 
--- what is judged of a network whose routers choose, what stands behind it, whether it never
--- deadlocks: its numbers rise, or all packets have one flit and such packets never deadlock; and why
+-- whether a verdict is of a network in which packets can go on by an escape wherever they come
+abbrev pub has_escapes : {A : Type 0} → Verdict A → Bool
+has_escapes (Rising numbers travel) = true
+has_escapes (NoEscape f) = false
+has_escapes (Cycle edges) = true
+
+-- whether they can in a network that is judged
+abbrev pub can_go_on : {A : Type 0} → JudgedNet A → Bool
+can_go_on (WrongPair p) = false
+can_go_on (WrongChoice c) = false
+can_go_on (Judged v) = has_escapes v
+
+-- how far packets can go, where a verdict says so
+abbrev pub known_travel : {A : Type 0} → Verdict A → Option Travel
+known_travel (Rising numbers travel) = Some travel
+known_travel (NoEscape f) = None
+known_travel (Cycle edges) = None
+
+-- and where what is judged says so
+abbrev pub judged_travel : {A : Type 0} → JudgedNet A → Option Travel
+judged_travel (WrongPair p) = None
+judged_travel (WrongChoice c) = None
+judged_travel (Judged v) = known_travel v
+
+-- a text is the line on what packets go over where routers choose
+pub record TellsChosenTotals (t : ChoiceTable) (text : List ℕ) : Type 0 where
+  pub totals : Totals
+  pub holds : HasChosenTotals t totals
+  pub is : text ≡ totals_line totals
+
+-- what stands last: that line where packets can go on, and else nothing
+abbrev pub IsLastText : Bool → ChoiceTable → List ℕ → Type 0
+IsLastText true t last = TellsChosenTotals t last
+IsLastText false t last = last ≡ []
+
+-- what is judged of a network whose routers choose, what stands behind it, what packets go over, whether
+-- it never deadlocks: its numbers rise, or all packets have one flit and such packets never deadlock; and
+-- why
 pub record TellsJudged {A : Type 0} (t : ChoosingText) (a : Answer A) : Type 0 where
   pub judged : JudgedNet A
   pub marks : List Bool
@@ -122,8 +161,10 @@ pub record TellsJudged {A : Type 0} (t : ChoosingText) (a : Answer A) : Type 0 w
   pub stands : StandsBehind (choice_table t marks) t.fixed.replies judged behind never
   pub free : Bool
   pub free_is : free ≡ (is_one_flit t.fixed.flits && never)
+  pub last : List ℕ
+  pub totals : IsLastText (can_go_on judged) (choice_table t marks) last
   pub text : a.text.items
-      ≡ judgement_text t.fixed judged ++ (may_text (has_circuit judged) free ++ behind)
+      ≡ judgement_text t.fixed judged ++ (may_text (has_circuit judged) free ++ (behind ++ last))
   pub rising : a.rising ≡ (judgement_rises judged || free)
   pub causes : a.causes.items ≡ choosing_causes t judged
   pub kinds : a.kinds.items ≡ t.fixed.table.kinds

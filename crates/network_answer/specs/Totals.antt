@@ -1,6 +1,6 @@
 -- How much of a network its packets go over: source-destination pairs, hops, and the longest route.
 use Rattle.std.specs.Prelude.{◌≡◌, ℕ, zero, suc, ◌+◌, ◌*◌, ◌<◌, Bool, true, false, if◌then◌else◌}
-use Rattle.std.specs.Prelude.{Some, List, []}
+use Rattle.std.specs.Prelude.{Some, List, [], length}
 use Rattle.std.specs.List.{count_by}
 use Rattle.wormhole.specs.Weight.{sum_below}
 use Rattle.network_judge.specs.declared.table.Kind.{Kind}
@@ -10,6 +10,12 @@ use Rattle.network_judge.specs.Table.{Table, table_of, channels_of, kind_of, joi
 use Rattle.network_judge.specs.Ways.{IsWay}
 use Rattle.network_judge.specs.Marks.{Passes}
 use Rattle.network_judge.specs.Verdicts.{AllArrive, join_at}
+use Rattle.network_judge.specs.TableNet.{Flits}
+use Rattle.network_adaptive.specs.Choices.{Comes, HasEscapes}
+use Rattle.network_adaptive.specs.Choosing.{ChoiceTable, network, table}
+use Rattle.network_adaptive.specs.Travel.{IsTravel}
+use Rattle.network_adaptive.specs.declared.verdict.Travel.{Travel}
+use Rattle.network_adaptive.specs.declared.verdict.Travel.TheVariants.{Bounded, Round}
 use Rattle.network_answer.specs.declared.totals.Totals.{Totals}
 
 -- of how many of the first n numbers this is true
@@ -66,6 +72,11 @@ pub record IsLongestRoute (t : Table) (most : ℕ) : Type 0 where
   pub all : (i j n : ℕ) → joins_of t i j ≡ true → IsWay t i j n → n < most
   pub some : 0 < most → IsRouteOver t most
 
+-- that many channels are the longest route of fixed routes, of which none goes round
+abbrev pub IsRouteBound : Table → Travel → Type 0
+IsRouteBound t (Bounded most) = IsLongestRoute t most
+IsRouteBound t (Round r) = ⊥
+
 -- between all ends that are joined there is a route: of the pairs of an injection and an ejection
 -- channel packets go between so many, over so many of the hops, and over so many channels at most, both
 -- ends counted
@@ -75,4 +86,21 @@ pub record HasTotals (t : Table) (s : Totals) : Type 0 where
   pub all_pairs : s.all_pairs ≡ count_by injects t.kinds * count_by ejects t.kinds
   pub hops : IsCountOf (IsHopUsed t) (channels_of t) s.hops
   pub all_hops : s.all_hops ≡ count_by is_hop t.kinds
-  pub longest : IsLongestRoute t s.longest
+  pub longest : IsRouteBound t s.longest
+
+-- packets come to hop x of a network whose routers choose
+abbrev pub IsHopReached : ChoiceTable → ℕ → Flits → ℕ → Type 0
+IsHopReached t depth flits x =
+    (kind_of (table t) x ≡ Some Hop) × ((j : ℕ) × Comes (network t depth flits) j x)
+
+-- wherever packets come they can go on by an escape: of the pairs of an injection and an ejection channel
+-- they go between so many, to so many of the hops, and over so many channels at most, both ends counted, or
+-- they can go round
+pub record HasChosenTotals (t : ChoiceTable) (s : Totals) : Type 0 where
+  pub go_on : (depth : ℕ) (flits : Flits) → HasEscapes (network t depth flits)
+  pub pairs : s.pairs ≡ pair_count t.joins (length t.kinds)
+  pub all_pairs : s.all_pairs ≡ count_by injects t.kinds * count_by ejects t.kinds
+  pub hops : (depth : ℕ) (flits : Flits)
+      → IsCountOf (IsHopReached t depth flits) (length t.kinds) s.hops
+  pub all_hops : s.all_hops ≡ count_by is_hop t.kinds
+  pub longest : (depth : ℕ) (flits : Flits) → IsTravel (network t depth flits) s.longest

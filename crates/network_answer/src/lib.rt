@@ -11,6 +11,7 @@ pub mod judgement;
 mod judging;
 mod lengths;
 pub mod one_flit;
+mod reached;
 pub mod routing;
 pub mod short_cycle;
 pub mod totals;

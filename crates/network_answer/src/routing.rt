@@ -10,6 +10,7 @@ ghost use Rattle.network_text.specs.Choosing.{text_or_why};
 
 use crate::answer::{Answer, answered, no_pair};
 use crate::causes::choosing_causes;
+use crate::going::last_text;
 use crate::judgement::{has_circuit, judgement_text, put_may};
 use crate::judging::{judgement_of, never_locks_up};
 use crate::one_flit::{behind_text, is_free};
@@ -52,6 +53,8 @@ fn answered_choosing<A: Allocator + Copy>(
     let circuit = has_circuit(&it.judged);
     put_may(&mut text, circuit, free)?;
     text.extend_from_slice(&behind.text)?;
+    let last = last_text(alloc, fixed, ways, &it.choices, &it.marks, &it.judged)?;
+    text.extend_from_slice(&last)?;
     let rising = never_locks_up(&it.judged, free);
     let causes = choosing_causes(alloc, fixed, &network.escapes, &it.judged)?;
     let kinds = Vec::from_slice(alloc, &fixed.kinds)?;

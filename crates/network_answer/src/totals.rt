@@ -1,4 +1,4 @@
-//! How much of a network of fixed routes its packets go over.
+//! How much of a network its packets go over, and of one of fixed routes how much that is.
 
 ghost use Rattle.std.specs.Prelude.{◌≡◌, ◌+◌, ◌*◌, ◌<◌, ◌≤◌, ◌^◌, ◌&&◌, ℕ, true, false, length};
 ghost use Rattle.std.specs.Prelude.{slice_get, take, IfOk, IfSome, IfNone};
@@ -13,6 +13,7 @@ ghost use Rattle.network_judge.specs.Graph.{flag_at};
 ghost use Rattle.network_answer.specs.Totals.{count_below, pair_count, injects, is_hop};
 ghost use Rattle.network_answer.specs.Totals.{IsHopUsed, IsCountOf, IsLongestRoute, HasTotals};
 
+use network_adaptive::Travel;
 use network_judge::columns::{columns_of, ends_of};
 use network_judge::spans::step_of;
 use network_judge::walk::{cell, is_receiver, kind_at, trace_all};
@@ -30,8 +31,8 @@ pub struct Totals {
     pub hops: usize,
     /// How many hops there are.
     pub all_hops: usize,
-    /// Over how many channels the longest route goes, both ends counted.
-    pub longest: usize,
+    /// Over how many channels packets go at most, both ends counted: as many as the longest route has.
+    pub longest: Travel,
 }
 
 /// Whether a kind is that of injection channels.
@@ -57,7 +58,7 @@ fn is_hop(kind: Kind) -> bool
 }
 
 /// How many injection channels there are.
-fn injection_count(kinds: &[Kind]) -> usize
+pub(crate) fn injection_count(kinds: &[Kind]) -> usize
     ensures value { result ≡ count_by injects kinds.now }
     ensures low { result ≤ length kinds.now }
 {
@@ -71,7 +72,7 @@ fn injection_count(kinds: &[Kind]) -> usize
 }
 
 /// How many hops there are.
-fn hop_count(kinds: &[Kind]) -> usize
+pub(crate) fn hop_count(kinds: &[Kind]) -> usize
     ensures { result ≡ count_by is_hop kinds.now }
 {
     let mut count = 0;
@@ -84,7 +85,7 @@ fn hop_count(kinds: &[Kind]) -> usize
 }
 
 /// How many injection channels are marked in a column.
-fn marked_senders(kinds: &[Kind], used: &[bool], width: usize, column: usize) -> usize
+pub(crate) fn marked_senders(kinds: &[Kind], used: &[bool], width: usize, column: usize) -> usize
     requires square { length used.now ≡ length kinds.now * width }
     requires column { column < width }
     ensures value { result ≡ count_below
@@ -256,6 +257,6 @@ pub fn totals_of<A: Allocator + Copy>(
         all_pairs: injection_count(kinds) * width,
         hops: hops_marked(kinds, joins, choices, width, &used),
         all_hops: hop_count(kinds),
-        longest: longest_route(kinds, joins, choices, &columns, width),
+        longest: Travel::Bounded(longest_route(kinds, joins, choices, &columns, width)),
     }))
 }

@@ -10,6 +10,7 @@ from torusmem_tools.model.dead_fillings import DeadSets, fills_read
 from torusmem_tools.model.dead_sets import LOCKS, NEVER, Fill, dead_lines, fault_of_dead_lines, fill_lines
 from torusmem_tools.model.deadlock import label_of
 from torusmem_tools.model.network import Network, number_of
+from torusmem_tools.model.network_totals import totals_line
 
 
 def turns_of(lines: List[List[str]], net: Network) -> Optional[List[Tuple[int, Edge, int]]]:
@@ -47,6 +48,8 @@ def found_in(net: Network, text: str, path: str) -> AdaptiveVerdict:
     plain walk can see."""
     walked, lines = duato_verdict(net), text.splitlines()
     kind = walked.kind
+    if kind in ("rising", "cycle") and lines[-1:] == [totals_line(net)]:
+        lines.pop()
     said = [it for it in lines if it in ("rising", "cycle", "no pair") or it.startswith(("no route ", "no choice ", "no escape "))]
     if said != [kind]:
         raise Refusal(f"{path}: the network's verdict is `{kind}`, and not `{' '.join(said)}`")
