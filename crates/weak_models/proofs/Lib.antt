@@ -11,3 +11,4 @@ pub mod ByPlace
 pub mod Equalities
 pub mod OnWord
 pub mod Bounded
+pub mod Judged

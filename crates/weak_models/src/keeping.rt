@@ -1,12 +1,13 @@
 //! Whether turns keep preserved program order: each operation and each dependency is looked at once,
 //! with bounds of the turns of the operations before it.
 
-ghost use Rattle.std.specs.Prelude.{◌≡◌, ◌+◌, ◌<◌, ℕ, true, length, slice_index};
+ghost use Rattle.std.specs.Prelude.{◌≡◌, ◌+◌, ◌<◌, ℕ, true, length, slice_index, Some};
 ghost use Rattle.memory_models.specs.Trace.{IsOwn, operation_at, uses_word};
 ghost use Rattle.weak_models.specs.Notes.{note_at};
 ghost use Rattle.weak_models.specs.Preserved.{read_at};
 ghost use Rattle.weak_models.specs.Bounds.{bounds_at, AreBehind, IsBehindSource, IsKeptAt, AreKept};
 ghost use Rattle.weak_models.specs.Bounds.{IsBehindInput, IsDependencyKept, AreDependenciesKept};
+ghost use Rattle.weak_models.specs.Bounds.{IsBelowWrites};
 
 use crate::bounds::{Bounds, are_behind, is_behind_bounds, is_below_writes};
 use crate::notes::{Dependency, DependencyKind, Note, note_of, reads};
