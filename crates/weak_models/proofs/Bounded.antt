@@ -1,5 +1,5 @@
 -- Turns that stand behind bounds that go on along programs keep preserved program order.
-use Rattle.std.proofs.Common.{◌≡◌, ◌⊎◌, inl, inr, ℕ, zero, suc, ◌+◌, ◌<◌, ◌≤◌, true, List, [], length, refl, sym, ◌∙◌, subst, arith}
+use Rattle.std.proofs.Common.{◌≡◌, ◌⊎◌, inl, inr, ℕ, zero, suc, ◌+◌, ◌<◌, ◌≤◌, true, List, [], length, refl, sym, ◌∙◌, ap, subst, arith}
 use Rattle.std.specs.Prelude.{slice_index, Some}
 use Rattle.std.proofs.lemmas.Bool.{cases_lt, cases_eq}
 use Rattle.memory_models.specs.declared.kinds.Kind.{Kind}
@@ -21,7 +21,7 @@ use Rattle.weak_models.specs.declared.verdict.PreservedRule.TheVariants as by
 use Rattle.weak_models.specs.Notes.{note_at, orders, dependency_at, DependsWithin}
 use Rattle.weak_models.specs.Preserved.{read_at, KeepsBy, IsPreserved, IsThroughStore, IsAtomicSource, IsFenced}
 use Rattle.weak_models.specs.Bounds.{bound_of, AreUnder, AreAtMost, IsBelowAll, IsBelowWrites, IsAhead, IsFenceAhead, AreBehind, bounds_at}
-use Rattle.weak_models.specs.Bounds.{IsKeptAt, AreKept, AreDependenciesKept, IsDependencyKept, IsBehindInput}
+use Rattle.weak_models.specs.Bounds.{IsKeptAt, AreKept, AreChained, AreDependenciesKept, IsDependencyKept, IsBehindInput}
 use Rattle.weak_models.proofs.OnWord.{same_word_store, different_reads}
 
 under_kind : (low high : ByKind) (k : Kind) → AreUnder low high → bound_of low k ≤ bound_of high k
@@ -72,11 +72,13 @@ climb f x (suc y) low step = elim (cases_eq x (suc y)) [
   | inr other ↦ (let inside : x ≤ y = omega (arith, low, other) in
       let rest = climb f x y inside (λ k a b. step k a (omega (arith, b))) in
       let last = step y inside (omega arith) in
-      omega (arith, rest, last))
+      let next : suc y ≡ y + 1 = omega arith in
+      let same = ap f next in
+      omega (arith, rest, last, same))
 ]
 
 module _ (words : ℕ) (notes : List Note) (dependencies : List Dependency) (ops : List Operation) (writes turns : List ℕ) (bounds : List Bounds)
-    (t : IsMemoryTrace words ops writes) (kept : AreKept notes ops writes turns bounds)
+    (t : IsMemoryTrace words ops writes) (kept : AreKept notes ops writes turns bounds) (chain : AreChained notes ops turns bounds)
     (depend : AreDependenciesKept dependencies ops turns bounds) where
   abbrev turn : ℕ → ℕ
   turn x = slice_index turns x
@@ -99,31 +101,31 @@ module _ (words : ℕ) (notes : List Note) (dependencies : List Dependency) (ops
   climbed : (f : Bounds → ℕ) → ((k : Kind) (note : Note) (n : ℕ) (old new : Bounds) → AreBehind k note n old new → f old ≤ f new)
       → (x m y : ℕ) → y < length ops → IsOwn ops x y → x ≤ m → m ≤ y → f (at m) ≤ f (at y)
   climbed f goes x m y high own low inside = climb (λ k. f (at k)) m y inside (λ k from to. (
-    let here = of_one x k y high own (omega (arith, low, from)) (omega (arith, to)) in
-    let next = of_one x (k + 1) y high own (omega (arith, low, from)) (omega (arith, to)) in
-    goes (kind k) (note_at notes k) (turn k) (at k) (at (k + 1)) (kept.chained k (omega (arith, to, high)) (here ∙ sym next))))
+      let here = of_one x k y high own (omega (arith, low, from)) (omega (arith, to)) in
+      let next = of_one x (k + 1) y high own (omega (arith, low, from)) (omega (arith, to)) in
+      goes (kind k) (note_at notes k) (turn k) (at k) (at (k + 1)) (chain k (omega (arith, to, high)) (omega (arith, to, high)) (here ∙ sym next))))
 
   ahead_climbs : (k : Kind) (x m y : ℕ) → y < length ops → IsOwn ops x y → x ≤ m → m ≤ y → bound_of (at m).ahead k ≤ bound_of (at y).ahead k
-  ahead_climbs k = climbed (λ b. bound_of b.ahead k) (λ j note n old new a. under_kind old.ahead new.ahead k a.ahead)
+  ahead_climbs k = climbed (λ b. bound_of b.ahead k) (λ j note n old new a. under_kind old.ahead new.ahead k a.on.ahead)
 
   seen_climbs : (k : Kind) (x m y : ℕ) → y < length ops → IsOwn ops x y → x ≤ m → m ≤ y → bound_of (at m).seen k ≤ bound_of (at y).seen k
-  seen_climbs k = climbed (λ b. bound_of b.seen k) (λ j note n old new a. under_kind old.seen new.seen k a.seen)
+  seen_climbs k = climbed (λ b. bound_of b.seen k) (λ j note n old new a. under_kind old.seen new.seen k a.on.seen)
 
   rcsc_climbs : (x m y : ℕ) → y < length ops → IsOwn ops x y → x ≤ m → m ≤ y → (at m).rcsc ≤ (at y).rcsc
-  rcsc_climbs = climbed (λ b. b.rcsc) (λ j note n old new a. a.rcsc)
+  rcsc_climbs = climbed (λ b. b.rcsc) (λ j note n old new a. a.on.rcsc)
 
   -- the bounds behind an operation of a program that isn't the last
   behind : (x m y : ℕ) → y < length ops → IsOwn ops x y → x ≤ m → m < y → AreBehind (kind m) (note_at notes m) (turn m) (at m) (at (m + 1))
   behind x m y high own low inside =
       let here = of_one x m y high own low (omega (arith, inside)) in
       let next = of_one x (m + 1) y high own (omega (arith, low)) (omega (arith, inside)) in
-      kept.chained m (omega (arith, inside, high)) (here ∙ sym next)
+      chain m (omega (arith, inside, high)) (omega (arith, inside, high)) (here ∙ sym next)
 
   -- what stands below a bound ahead, from some place on, has a lower turn
   below_ahead : (x m y : ℕ) → y < length ops → IsOwn ops x y → uses_word (kind y) ≡ true → x ≤ m → m ≤ y → turn x < bound_of (at m).ahead (kind y) → turn x < turn y
   below_ahead x m y high own uses low inside less =
       let climbs = ahead_climbs (kind y) x m y high own low inside in
-      let last = (kept.each y high uses).behind.ahead in
+      let last = (kept y high uses).behind.ahead in
       omega (arith, less, climbs, last)
 
   seen_before : (x m y : ℕ) → y < length ops → IsOwn ops x y → uses_word (kind x) ≡ true → x < m → m ≤ y → turn x < bound_of (at m).seen (kind x)
@@ -154,7 +156,7 @@ module _ (words : ℕ) (notes : List Note) (dependencies : List Dependency) (ops
   released x y high own first second is =
       let before = own.before in
       let seen = seen_before x y y high own first before (omega arith) in
-      let last = most_kind (at y).seen (turn y) (kind x) ((kept.each y high second).behind.release is) in
+      let last = most_kind (at y).seen (turn y) (kind x) ((kept y high second).behind.release is) in
       omega (arith, seen, last)
 
   both_rcsc : (x y : ℕ) → y < length ops → IsOwn ops x y → uses_word (kind y) ≡ true → KeepsBy notes dependencies ops writes x y by.BothRcsc → turn x < turn y
@@ -162,7 +164,7 @@ module _ (words : ℕ) (notes : List Note) (dependencies : List Dependency) (ops
       let before = own.before in
       let step = (behind x x y high own (omega arith) before).annotated k.0 in
       let climbs = rcsc_climbs x (x + 1) y high own (omega arith) (omega (arith, before)) in
-      let last = (kept.each y high second).behind.rcsc k.1 in
+      let last = (kept y high second).behind.rcsc k.1 in
       omega (arith, step, climbs, last)
 
   -- a dependency of a range on an operation, and what is kept of it
@@ -205,7 +207,7 @@ module _ (words : ℕ) (notes : List Note) (dependencies : List Dependency) (ops
       let to = k.before in
       let below = through x m low (omega (arith, to, high)) k.depends in
       let m_own : IsOwn ops m y = record { processor = of_one x m y high own (omega (arith, from)) (omega (arith, to)); before = to } in
-      let last = ((kept.each y high second).source m_own).through k.load in
+      let last = ((kept y high second).source m_own).through k.load in
       omega (arith, below, last)
 
   branch : (x y : ℕ) → x < length ops → y < length ops → IsOwn ops x y → uses_word (kind y) ≡ true → is_write (kind y) ≡ true
@@ -237,7 +239,7 @@ module _ (words : ℕ) (notes : List Note) (dependencies : List Dependency) (ops
     where
       from : (z : ℕ) → z ≡ x → IsOwn ops x y → IsAtomicSource notes ops writes x y → turn x < turn y
       from z e own k = subst (λ v. turn v < turn y) k.source
-          (((kept.each y high second).source (subst (λ v. IsOwn ops v y) (sym k.source) own)).atomic
+          (((kept y high second).source (subst (λ v. IsOwn ops v y) (sym k.source) own)).atomic
           (subst (λ v. IsAtomicSource notes ops writes v y) (sym k.source) k))
 
   module _ (first : ℕ → ℕ) (c : IsMemoryOrder coherent ops writes first) (o : IsMemoryOrder [] ops writes turn) where
@@ -251,7 +253,7 @@ module _ (words : ℕ) (notes : List Note) (dependencies : List Dependency) (ops
     by_rule x y by.Acquire low high own from to k = acquired x y high own to k
     by_rule x y by.Release low high own from to k = released x y high own from to k
     by_rule x y by.BothRcsc low high own from to k = both_rcsc x y high own to k
-    by_rule x y by.Paired low high own from to k = (kept.each y high to).pair x k own.before
+    by_rule x y by.Paired low high own from to k = (kept y high to).pair x k own.before
     by_rule x y by.AddressDependency low high own from to k = address x y low high k
     by_rule x y by.DataDependency low high own from to k = value x y low high k
     by_rule x y by.ControlDependency low high own from to k = branch x y low high own to k.store k.depends

@@ -171,7 +171,7 @@ pub is_rvwmo : (words : ℕ) (notes : List Note) (dependencies : List Dependency
 is_rvwmo words notes dependencies ops writes arcs edges number t are more program up apart =
     let rise = more number up in
     rvwmo_of words notes dependencies ops writes arcs number t (words_order words ops writes are.first number t are.words (are.more number rise) apart) are.pairs rise
-        (program number up)
+    (program number up)
 
 -- no order explains the trace
 pub no_rvwmo : (words : ℕ) (notes : List Note) (dependencies : List Dependency) (ops : List Operation) (writes : List ℕ) (edges : List Edge)
@@ -202,7 +202,9 @@ no_order_around words notes dependencies ops writes steps t are a turn o =
         let before = reach k (omega (arith, low)) in
         let joined = ap turn (a.joined k (omega (arith, low))) in
         let next = goes (suc k) low in
-        omega (arith, before, joined, next)
+        let one : suc k ≡ k + 1 = omega arith in
+        let same = ap (λ z. turn (reasoned_at steps z).from) one in
+        omega (arith, before, joined, next, same)
 
 -- a cycle's steps lead around
 pub around : (notes : List Note) (dependencies : List Dependency) (ops : List Operation) (writes : List ℕ) (edges : List Edge) (cycle : List ℕ)

@@ -13,7 +13,7 @@ use Rattle.weak_models.specs.declared.notes.DependencyKind.TheVariants.{Address,
 use Rattle.weak_models.specs.declared.notes.FenceOrder.{FenceOrder}
 use Rattle.weak_models.specs.declared.notes.Note.{Note}
 use Rattle.weak_models.specs.Notes.{note_at, reads, orders, is_rcsc, dependency_at}
-use Rattle.weak_models.specs.Preserved.{read_at, IsAtomicSource, IsPreserved}
+use Rattle.weak_models.specs.Preserved.{read_at, IsAtomicSource}
 
 -- the bound for a kind; of a fence none
 abbrev pub bound_of : ByKind → Kind → ℕ
@@ -57,11 +57,15 @@ pub record IsFenceAhead (fence : FenceOrder) (seen ahead : ByKind) : Type 0 wher
   pub store : IsAhead fence Store seen.store ahead
   pub atomic : IsAhead fence Atomic seen.atomic ahead
 
--- bounds go on behind an operation of this kind, note and turn
-pub record AreBehind (kind : Kind) (note : Note) (turn : ℕ) (old new : Bounds) : Type 0 where
+-- no bound falls
+pub record GoOn (old new : Bounds) : Type 0 where
   pub seen : AreUnder old.seen new.seen
   pub ahead : AreUnder old.ahead new.ahead
   pub rcsc : old.rcsc ≤ new.rcsc
+
+-- bounds go on behind an operation of this kind, note and turn
+pub record AreBehind (kind : Kind) (note : Note) (turn : ℕ) (old new : Bounds) : Type 0 where
+  pub on : GoOn old new
   pub sees : uses_word kind ≡ true → turn < bound_of new.seen kind
   pub fence : kind ≡ Fence → IsFenceAhead note.fence old.seen new.ahead
   pub acquire : note.acquire ≡ true → IsBelowAll turn new.ahead
@@ -103,16 +107,23 @@ pub record IsKeptAt (notes : List Note) (ops : List Operation) (writes turns : L
     pub source : IsOwn ops (read_at ops writes y) y
         → IsBehindSource notes ops writes turns bounds y
 
--- it holds of each; and bounds go on from each to the next one of its program
-pub record AreKept (notes : List Note) (ops : List Operation) (writes turns : List ℕ)
-    (bounds : List Bounds) : Type 0
-  where
-    pub each : (y : ℕ) → y < length ops → uses_word (operation_at ops y).kind ≡ true
-        → IsKeptAt notes ops writes turns bounds y
-    pub chained : (y : ℕ) → y + 1 < length ops
-        → (operation_at ops y).processor ≡ (operation_at ops (y + 1)).processor
-        → AreBehind (operation_at ops y).kind (note_at notes y) (slice_index turns y)
-        (bounds_at bounds y) (bounds_at bounds (y + 1))
+-- it holds of each
+abbrev pub AreKept : List Note → List Operation → List ℕ → List ℕ → List Bounds → Type 0
+AreKept notes ops writes turns bounds =
+    (y : ℕ) → y < length ops → uses_word (operation_at ops y).kind ≡ true
+    → IsKeptAt notes ops writes turns bounds y
+
+-- bounds go on from an operation to the next one of its program
+abbrev pub IsChainedAt : List Note → List Operation → List ℕ → List Bounds → ℕ → Type 0
+IsChainedAt notes ops turns bounds y =
+    y + 1 < length ops → (operation_at ops y).processor ≡ (operation_at ops (y + 1)).processor
+    → AreBehind (operation_at ops y).kind (note_at notes y) (slice_index turns y)
+    (bounds_at bounds y) (bounds_at bounds (y + 1))
+
+-- they do from each
+abbrev pub AreChained : List Note → List Operation → List ℕ → List Bounds → Type 0
+AreChained notes ops turns bounds =
+    (y : ℕ) → y < length ops → IsChainedAt notes ops turns bounds y
 
 -- an operation comes behind one that it depends on by its address or data, and so do those that read
 -- what it wrote
@@ -142,9 +153,3 @@ AreDependenciesKept dependencies ops turns bounds =
     (k : ℕ) → k < length dependencies → (dependency_at dependencies k).on < length ops
     → (dependency_at dependencies k).operation < length ops
     → IsDependencyKept ops turns bounds (dependency_at dependencies k)
-
--- turns keep what the rules keep that look at more than one word
-abbrev pub KeepsPreserved : List Note → List Dependency → List Operation → List ℕ → List ℕ → Type 0
-KeepsPreserved notes dependencies ops writes turns =
-    (x y : ℕ) → y < length ops → IsPreserved notes dependencies ops writes x y
-    → slice_index turns x < slice_index turns y

@@ -3,7 +3,10 @@
 
 ghost use Rattle.std.specs.Prelude.{◌≡◌, ◌<◌, ◌≤◌, true};
 ghost use Rattle.weak_models.specs.Bounds.{bound_of, AreUnder, AreAtMost, IsBelowAll, IsBelowWrites};
-ghost use Rattle.weak_models.specs.Bounds.{IsAhead, IsFenceAhead, AreBehind, IsBehindBounds};
+ghost use Rattle.weak_models.specs.Bounds.{IsAhead, IsFenceAhead, GoOn, AreBehind, IsBehindBounds};
+ghost use Rattle.weak_models.specs.Notes.{is_rcsc};
+ghost use Rattle.memory_models.specs.Trace.{uses_word};
+ghost use Rattle.memory_models.specs.declared.kinds.Kind.TheVariants.{Fence};
 
 use crate::notes::{FenceOrder, Note, is_rcsc, orders};
 use memory_models::Kind;
@@ -91,17 +94,50 @@ fn is_fence_ahead(fence: FenceOrder, seen: ByKind, ahead: ByKind) -> bool
         && is_ahead(fence, Kind::Atomic, seen.atomic, ahead)
 }
 
+/// Whether a turn is below the bound of its kind, if that has one.
+fn is_seen(kind: Kind, turn: usize, seen: ByKind) -> bool
+    ensures { result ≡ true → uses_word kind ≡ true → turn < bound_of seen kind }
+{
+    !uses_word(kind) || turn < bound_of(seen, kind)
+}
+
+/// Whether an operation sets the bounds of a fence, if it is one.
+fn is_fence_set(kind: Kind, fence: FenceOrder, seen: ByKind, ahead: ByKind) -> bool
+    ensures { result ≡ true → kind ≡ Fence → IsFenceAhead fence seen ahead }
+{
+    kind != Kind::Fence || is_fence_ahead(fence, seen, ahead)
+}
+
+/// Whether a turn is below the bounds of all kinds, if it is that of an acquire.
+fn is_acquire_set(note: Note, turn: usize, ahead: ByKind) -> bool
+    ensures { result ≡ true → note.acquire ≡ true → IsBelowAll turn ahead }
+{
+    !note.acquire || is_below_all(turn, ahead)
+}
+
+/// Whether a turn is below a bound, if its operation has an RCsc annotation.
+fn is_rcsc_set(note: Note, turn: usize, rcsc: usize) -> bool
+    ensures { result ≡ true → is_rcsc note ≡ true → turn < rcsc }
+{
+    !is_rcsc(note) || turn < rcsc
+}
+
+/// Whether no bound falls.
+fn go_on(old: Bounds, new: Bounds) -> bool
+    ensures { result ≡ true → GoOn old new }
+{
+    are_under(old.seen, new.seen) && are_under(old.ahead, new.ahead) && old.rcsc <= new.rcsc
+}
+
 /// Whether bounds go on behind an operation of this kind, note and turn.
 pub fn are_behind(kind: Kind, note: Note, turn: usize, old: Bounds, new: Bounds) -> bool
     ensures { result ≡ true → AreBehind kind note turn old new }
 {
-    are_under(old.seen, new.seen)
-        && are_under(old.ahead, new.ahead)
-        && old.rcsc <= new.rcsc
-        && (!uses_word(kind) || turn < bound_of(new.seen, kind))
-        && (kind != Kind::Fence || is_fence_ahead(note.fence, old.seen, new.ahead))
-        && (!note.acquire || is_below_all(turn, new.ahead))
-        && (!is_rcsc(note) || turn < new.rcsc)
+    go_on(old, new)
+        && is_seen(kind, turn, new.seen)
+        && is_fence_set(kind, note.fence, old.seen, new.ahead)
+        && is_acquire_set(note, turn, new.ahead)
+        && is_rcsc_set(note, turn, new.rcsc)
 }
 
 /// Whether the turn of an operation of this kind and note is no lower than the bounds before it.

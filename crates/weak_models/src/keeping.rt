@@ -3,9 +3,9 @@
 
 ghost use Rattle.std.specs.Prelude.{◌≡◌, ◌+◌, ◌<◌, ℕ, true, length, slice_index, Some};
 ghost use Rattle.memory_models.specs.Trace.{IsOwn, operation_at, uses_word};
-ghost use Rattle.weak_models.specs.Notes.{note_at};
 ghost use Rattle.weak_models.specs.Preserved.{read_at};
-ghost use Rattle.weak_models.specs.Bounds.{bounds_at, AreBehind, IsBehindSource, IsKeptAt, AreKept};
+ghost use Rattle.weak_models.specs.Bounds.{bounds_at, IsBehindSource, IsKeptAt, AreKept};
+ghost use Rattle.weak_models.specs.Bounds.{IsChainedAt, AreChained};
 ghost use Rattle.weak_models.specs.Bounds.{IsBehindInput, IsDependencyKept, AreDependenciesKept};
 ghost use Rattle.weak_models.specs.Bounds.{IsBelowWrites};
 
@@ -52,7 +52,7 @@ fn is_behind_source(
     turns[source] < turns[y] || !is_atomic_source(notes, operations, writes, source, y)
 }
 
-/// Whether an operation comes behind those of its program that it has to.
+/// Whether an operation comes behind those of its program that it has to, if it is on a word.
 fn is_kept_at(
     notes: &[Note],
     operations: &[Operation],
@@ -64,11 +64,15 @@ fn is_kept_at(
     requires y { y < length operations.now }
     requires turns { length turns.now ≡ length operations.now }
     requires bounds { length bounds.now ≡ length operations.now }
-    ensures { result ≡ true
+    ensures { result ≡ true → uses_word (operation_at operations.now y).kind ≡ true
         → IsKeptAt notes.now operations.now writes.now turns.now bounds.now y }
 {
     let note = note_of(notes, y);
-    is_behind_bounds(operations[y].kind, note, turns[y], bounds[y])
+    let kind = operations[y].kind;
+    if !uses_word(kind) {
+        return true;
+    }
+    is_behind_bounds(kind, note, turns[y], bounds[y])
         && is_behind_pair(note, turns, y)
         && is_behind_source(notes, operations, writes, turns, bounds, y)
 }
@@ -84,11 +88,7 @@ fn is_chained_at(
     requires y { y < length operations.now }
     requires turns { length turns.now ≡ length operations.now }
     requires bounds { length bounds.now ≡ length operations.now }
-    ensures { result ≡ true → y + 1 < length operations.now
-        → (operation_at operations.now y).processor
-        ≡ (operation_at operations.now (y + 1)).processor
-        → AreBehind (operation_at operations.now y).kind (note_at notes.now y)
-        (slice_index turns.now y) (bounds_at bounds.now y) (bounds_at bounds.now (y + 1)) }
+    ensures { result ≡ true → IsChainedAt notes.now operations.now turns.now bounds.now y }
 {
     if y + 1 >= operations.len() {
         return true;
@@ -102,7 +102,7 @@ fn is_chained_at(
         || are_behind(kind, note_of(notes, y), turns[y], bounds[y], bounds[y + 1])
 }
 
-/// Whether each operation comes behind those of its program that it has to, by bounds that go on.
+/// Whether each operation comes behind those of its program that it has to.
 pub fn are_kept(
     notes: &[Note],
     operations: &[Operation],
@@ -116,11 +116,25 @@ pub fn are_kept(
         → AreKept notes.now operations.now writes.now turns.now bounds.now }
 {
     for y in 0..operations.len() {
-        if uses_word(operations[y].kind)
-            && !is_kept_at(notes, operations, writes, turns, bounds, y)
-        {
+        if !is_kept_at(notes, operations, writes, turns, bounds, y) {
             return false;
         }
+    }
+    true
+}
+
+/// Whether bounds go on from each operation to the next one of its program.
+pub fn are_chained(
+    notes: &[Note],
+    operations: &[Operation],
+    turns: &[usize],
+    bounds: &[Bounds],
+) -> bool
+    requires turns { length turns.now ≡ length operations.now }
+    requires bounds { length bounds.now ≡ length operations.now }
+    ensures { result ≡ true → AreChained notes.now operations.now turns.now bounds.now }
+{
+    for y in 0..operations.len() {
         if !is_chained_at(notes, operations, turns, bounds, y) {
             return false;
         }
@@ -171,12 +185,15 @@ fn is_dependency_kept(
     bounds: &[Bounds],
     dependency: Dependency,
 ) -> bool
-    requires on { dependency.on < length operations.now }
-    requires operation { dependency.operation < length operations.now }
     requires turns { length turns.now ≡ length operations.now }
     requires bounds { length bounds.now ≡ length operations.now }
-    ensures { result ≡ true → IsDependencyKept operations.now turns.now bounds.now dependency }
+    ensures { result ≡ true → dependency.on < length operations.now
+        → dependency.operation < length operations.now
+        → IsDependencyKept operations.now turns.now bounds.now dependency }
 {
+    if dependency.on >= operations.len() || dependency.operation >= operations.len() {
+        return true;
+    }
     match dependency.kind {
         DependencyKind::Address => {
             is_behind_input(turns, bounds, dependency)
@@ -201,13 +218,8 @@ pub fn are_dependencies_kept(
     ensures { result ≡ true
         → AreDependenciesKept dependencies.now operations.now turns.now bounds.now }
 {
-    let count = operations.len();
     for k in 0..dependencies.len() {
-        let dependency = dependencies[k];
-        if dependency.on < count
-            && dependency.operation < count
-            && !is_dependency_kept(operations, turns, bounds, dependency)
-        {
+        if !is_dependency_kept(operations, turns, bounds, dependencies[k]) {
             return false;
         }
     }

@@ -6,11 +6,12 @@ ghost use Rattle.memory_models.specs.Models.{coherent};
 ghost use Rattle.memory_models.specs.Trace.{IsMemoryTrace};
 ghost use Rattle.weak_models.specs.Arcs.{AreOtherArcs};
 ghost use Rattle.weak_models.specs.Equal.{HasOrder};
-ghost use Rattle.weak_models.specs.Verdict.{IsRvwmoVerdict};
+ghost use Rattle.weak_models.specs.Verdict.{IsOrderOf, IsRvwmoVerdict};
 
 use crate::bounding::bounds_of;
+use crate::bounds::Bounds;
 use crate::circling::{are_within, circle_over, steps_around};
-use crate::keeping::{are_dependencies_kept, are_kept};
+use crate::keeping::{are_chained, are_dependencies_kept, are_kept};
 use crate::notes::{Dependency, Note};
 use crate::reasoned::go_around;
 use crate::thin::{Thin, thin_nodes};
@@ -50,7 +51,42 @@ fn is_coherent<A: Allocator + Copy>(
     }
 }
 
-/// The order of a trace by numbers of a thin graph's nodes, if it is one.
+/// Whether turns are an order of a coherent trace, by the order and bounds that were guessed.
+fn are_order(
+    notes: &[Note],
+    dependencies: &[Dependency],
+    operations: &[Operation],
+    writes: &[usize],
+    words: usize,
+    arcs: &[Edge],
+    order: &[usize],
+    turns: &[usize],
+    bounds: &[Bounds],
+) -> bool
+    requires trace { IsMemoryTrace words operations.now writes.now }
+    requires arcs { AreOtherArcs notes.now operations.now writes.now arcs.now }
+    requires coherent { HasOrder coherent operations.now writes.now }
+    requires turns { length turns.now ≡ length operations.now }
+    requires bounds { length bounds.now ≡ length operations.now }
+    ensures { result ≡ true → IsOrderOf notes.now dependencies.now operations.now writes.now
+        turns.now }
+{
+    if !are_turns(order, turns) {
+        return false;
+    }
+    if !rise_along(arcs, turns) {
+        return false;
+    }
+    if !are_kept(notes, operations, writes, turns, bounds) {
+        return false;
+    }
+    if !are_chained(notes, operations, turns, bounds) {
+        return false;
+    }
+    are_dependencies_kept(dependencies, operations, turns, bounds)
+}
+
+/// The order of a coherent trace by numbers of a thin graph's nodes, if it is one.
 ///
 /// Errors: out of memory.
 fn ordered<A: Allocator + Copy>(
@@ -68,6 +104,9 @@ fn ordered<A: Allocator + Copy>(
     ensures { IfOk result (λ found. IfSome found
         (IsRvwmoVerdict notes.now dependencies.now operations.now writes.now)) }
 {
+    if !is_coherent(alloc, operations, writes, words)? {
+        return Ok(None);
+    }
     let count = operations.len();
     let order = order_of(alloc, numbers, count)?;
     let turns = turns_of(alloc, &order, count)?;
@@ -75,12 +114,17 @@ fn ordered<A: Allocator + Copy>(
     if turns.len() != count || bounds.len() != count {
         return Ok(None);
     }
-    if are_turns(&order, &turns)
-        && rise_along(arcs, &turns)
-        && are_kept(notes, operations, writes, &turns, &bounds)
-        && are_dependencies_kept(dependencies, operations, &turns, &bounds)
-        && is_coherent(alloc, operations, writes, words)?
-    {
+    if are_order(
+        notes,
+        dependencies,
+        operations,
+        writes,
+        words,
+        arcs,
+        &order,
+        &turns,
+        &bounds,
+    ) {
         return Ok(Some(RvwmoVerdict::Ordered(turns)));
     }
     Ok(None)
