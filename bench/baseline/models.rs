@@ -1,6 +1,6 @@
 //! Which memory models a log obeys, in plain Rust by the passes of `torusmem model`: `models LOG`. It reads the log text,
 //! checks its replies, judges it by five models, and prints a line for each; on standard error the milliseconds of each part.
-//! `models LOG --rvwmo` judges it by RISC-V's model alone.
+//! `models LOG --rvwmo` judges it by RISC-V's model, too.
 mod rising;
 mod weak;
 
@@ -345,7 +345,6 @@ fn main() {
         let trace = weak::Trace { notes: &notes, dependencies: &dependencies, operations: &operations, writes: &writes, words };
         println!("rvwmo {}", if trace.is_allowed() { "yes" } else { "no" });
         tell("rvwmo");
-        return;
     }
     let rule = |from, to| Rule { from, to, same_word: false };
     let on_one_word = Rule { from: BUT_FENCES, to: BUT_FENCES, same_word: true };
