@@ -1,6 +1,6 @@
 //! The thin graph of a trace: a guess, which is checked.
 
-ghost use Rattle.std.specs.Prelude.{◌<◌, length};
+ghost use Rattle.std.specs.Prelude.{◌≡◌, ◌<◌, true, length};
 
 use crate::lists::{at, set_at};
 use crate::notes::{Dependency, Note, is_rcsc, note_of, reads};
@@ -11,7 +11,9 @@ use memory_models::{Kind, Operation};
 use std::alloc::{AllocError, Allocator};
 
 /// Whether two operations are of one processor, the first one before the other; not so beyond the list.
-fn is_own(operations: &[Operation], x: usize, y: usize) -> bool {
+fn is_own(operations: &[Operation], x: usize, y: usize) -> bool
+    ensures { result ≡ true → x < length operations.now }
+{
     x < y && y < operations.len() && operations[x].processor == operations[y].processor
 }
 

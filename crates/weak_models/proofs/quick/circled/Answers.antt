@@ -10,7 +10,7 @@ returns-then-go_around g c =
     × AreReasonedSteps c.args.notes.now c.args.dependencies.now c.args.operations.now c.args.writes.now c.in_ok-steps.steps.items =
     subst (λ z. AreAround c.args.notes.now c.args.dependencies.now c.args.operations.now c.args.writes.now z
     × AreReasonedSteps c.args.notes.now c.args.dependencies.now c.args.operations.now c.args.writes.now z) c.deref-2.ensures.value
-    (c.if-go_around.ensures.around, c.if-go_around.ensures.reasons) in (
+    (c.go_around.ensures.around c.if-go_around.true, c.go_around.ensures.reasons c.if-go_around.true) in (
       both.0,
       no_order_around c.args.words c.args.notes.now c.args.dependencies.now c.args.operations.now c.args.writes.now c.in_ok-steps.steps.items
           c.requires both.1 both.0,
