@@ -1,7 +1,7 @@
 -- Turns that stand behind bounds that go on along programs keep preserved program order.
-use Rattle.std.proofs.Common.{◌≡◌, ◌⊎◌, inl, inr, ℕ, zero, suc, ◌+◌, ◌<◌, ◌≤◌, true, List, [], length, refl, sym, ◌∙◌, ap, subst, arith}
-use Rattle.std.specs.Prelude.{slice_index, Some}
-use Rattle.std.proofs.lemmas.Bool.{cases_lt, cases_eq}
+use Rattle.std.proofs.Common.{◌≡◌, ◌⊎◌, inl, inr, ℕ, zero, suc, ◌+◌, ◌<◌, ◌≤◌, true, List, [], length, sym, ◌∙◌, ap, subst, arith}
+use Rattle.std.specs.Prelude.{slice_index}
+use Rattle.std.proofs.lemmas.Bool.{cases_eq}
 use Rattle.memory_models.specs.declared.kinds.Kind.{Kind}
 use Rattle.memory_models.specs.declared.kinds.Kind.TheVariants.{Load, Store, Atomic, Fence}
 use Rattle.memory_models.specs.declared.kinds.Operation.{Operation}
@@ -14,14 +14,13 @@ use Rattle.weak_models.specs.declared.notes.Dependency.{Dependency}
 use Rattle.weak_models.specs.declared.notes.DependencyKind.{DependencyKind}
 use Rattle.weak_models.specs.declared.notes.DependencyKind.TheVariants.{Address, Data, Control}
 use Rattle.weak_models.specs.declared.notes.FenceOrder.{FenceOrder}
-use Rattle.weak_models.specs.declared.notes.FenceOrder.TheVariants.{Sets, Tso}
 use Rattle.weak_models.specs.declared.notes.Note.{Note}
 use Rattle.weak_models.specs.declared.verdict.PreservedRule.{PreservedRule}
 use Rattle.weak_models.specs.declared.verdict.PreservedRule.TheVariants as by
 use Rattle.weak_models.specs.Notes.{note_at, orders, dependency_at, DependsWithin}
 use Rattle.weak_models.specs.Preserved.{read_at, KeepsBy, IsPreserved, IsThroughStore, IsAtomicSource, IsFenced}
 use Rattle.weak_models.specs.Bounds.{bound_of, AreUnder, AreAtMost, IsBelowAll, IsBelowWrites, IsAhead, IsFenceAhead, AreBehind, bounds_at}
-use Rattle.weak_models.specs.Bounds.{IsKeptAt, AreKept, AreChained, AreDependenciesKept, IsDependencyKept, IsBehindInput}
+use Rattle.weak_models.specs.Bounds.{AreKept, AreChained, AreDependenciesKept, IsDependencyKept, IsBehindInput}
 use Rattle.weak_models.proofs.OnWord.{same_word_store, different_reads}
 
 under_kind : (low high : ByKind) (k : Kind) → AreUnder low high → bound_of low k ≤ bound_of high k

@@ -1,5 +1,5 @@
 -- The arcs are exact: they rise in each order that explains the trace, and where they rise, there is one.
-use Rattle.std.proofs.Common.{◌≡◌, ◌⊎◌, inl, inr, ℕ, zero, suc, ◌+◌, ◌-◌, ◌<◌, true, List, [], ◌∷◌, length, refl, sym, ◌∙◌, ap, subst, arith}
+use Rattle.std.proofs.Common.{◌≡◌, inl, inr, ℕ, zero, suc, ◌+◌, ◌-◌, ◌<◌, true, List, [], ◌∷◌, length, refl, sym, ◌∙◌, ap, subst, arith}
 use Rattle.std.specs.Prelude.{slice_index}
 use Rattle.std.proofs.lemmas.Bool.{cases_lt}
 use Rattle.rising.specs.declared.edge.Edge.{Edge}
@@ -11,17 +11,16 @@ use Rattle.memory_models.specs.declared.kinds.Kind.TheVariants.{Load, Store, Ato
 use Rattle.memory_models.specs.declared.kinds.Operation.{Operation}
 use Rattle.memory_models.specs.declared.kinds.Why.{Why}
 use Rattle.memory_models.specs.declared.kinds.Why.TheVariants.{Program, Read, Overwritten, Stale}
-use Rattle.memory_models.specs.Trace.{is_load, is_write, uses_word, operation_at, writes_rule, IsOwn, IsMemoryTrace}
-use Rattle.memory_models.specs.Order.{IsMemoryOrder, KeepsOrder, Applies}
+use Rattle.memory_models.specs.Trace.{is_write, uses_word, operation_at, IsMemoryTrace}
+use Rattle.memory_models.specs.Order.{IsMemoryOrder, KeepsOrder}
 use Rattle.memory_models.specs.Arcs.{IsWhy, IsArc, AreArcs, ExtendsEdges}
 use Rattle.memory_models.proofs.Lasts.{to_write}
-use Rattle.memory_models.proofs.Exact.{AllRise, is_order, arcs_rise, cycle_inside}
+use Rattle.memory_models.proofs.Exact.{AllRise, is_order, arcs_rise}
 use Rattle.weak_models.specs.declared.notes.Note.{Note}
 use Rattle.weak_models.specs.declared.notes.Dependency.{Dependency}
 use Rattle.weak_models.specs.declared.verdict.Reason.{Reason}
 use Rattle.weak_models.specs.declared.verdict.Reason.TheVariants as why
 use Rattle.weak_models.specs.declared.verdict.ReasonedStep.{ReasonedStep}
-use Rattle.weak_models.specs.declared.verdict.PreservedRule.{PreservedRule}
 use Rattle.weak_models.specs.declared.verdict.PreservedRule.TheVariants as by
 use Rattle.weak_models.specs.Preserved.{IsPreserved, IsPreservedBy}
 use Rattle.weak_models.specs.Order.{IsRvwmo, IsBehindPair, ArePairsAtomic}

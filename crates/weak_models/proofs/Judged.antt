@@ -1,5 +1,5 @@
 -- Turns that were looked at are an order that explains the trace.
-use Rattle.std.proofs.Common.{◌≡◌, ℕ, ◌<◌, List, length, subst}
+use Rattle.std.proofs.Common.{◌≡◌, ℕ, List, length, subst}
 use Rattle.std.specs.Prelude.{slice_index}
 use Rattle.rising.specs.declared.edge.Edge.{Edge}
 use Rattle.rising.specs.Found.{IsPermutationBelow}

@@ -1,5 +1,5 @@
 -- Rules 1 and 2 hold in each order of a coherent trace that obeys the word's order of writes and what loads read.
-use Rattle.std.proofs.Common.{◌≡◌, ◌⊎◌, inl, inr, ℕ, ◌<◌, ◌≤◌, true, List, [], length, refl, sym, ◌∙◌, ap, subst, arith}
+use Rattle.std.proofs.Common.{◌≡◌, ◌⊎◌, inl, inr, ℕ, ◌<◌, ◌≤◌, true, List, [], length, refl, sym, ◌∙◌, ap, arith}
 use Rattle.std.specs.Prelude.{slice_index}
 use Rattle.std.proofs.lemmas.Bool.{cases_lt, cases_eq, cases_order}
 use Rattle.memory_models.specs.declared.kinds.Kind.TheVariants.{Load, Store, Atomic, Fence}
@@ -12,7 +12,7 @@ use Rattle.memory_models.proofs.Lasts.{from_write}
 use Rattle.memory_models.proofs.Orders.{load_uses}
 use Rattle.memory_models.proofs.Runs.{IsSource, source_is, both_on}
 use Rattle.weak_models.specs.Notes.{reads}
-use Rattle.weak_models.specs.Preserved.{read_at, IsStoreOn, IsSameWordStore, AreDifferentReads}
+use Rattle.weak_models.specs.Preserved.{read_at, IsSameWordStore, AreDifferentReads}
 use Rattle.weak_models.proofs.Bare.{coherent_keeps}
 use Rattle.weak_models.proofs.ByPlace.{load_place}
 use Rattle.weak_models.proofs.Excluded.{load_or_write, write_is_word, reads_word}

@@ -1,6 +1,6 @@
 -- Arcs between operations: reasons of RISC-V's memory model for one to come before another.
 use Rattle.std.specs.Prelude.{◌≡◌, ℕ, ◌<◌, ◌≤◌, List, [], ◌∷◌, ◌++◌, length, slice_index}
-use Rattle.std.specs.Prelude.{slice_index_or, true, Option, Some, None}
+use Rattle.std.specs.Prelude.{slice_index_or, Option, Some, None}
 use Rattle.rising.specs.declared.edge.Edge.{Edge}
 use Rattle.rising.specs.Graph.{edge_at, RisesOnEdges}
 use Rattle.memory_models.specs.declared.kinds.Operation.{Operation}

@@ -1,4 +1,4 @@
-use Rattle.std.proofs.Common.{◌≡◌, inl, inr, ℕ, true, refl, subst, arith}
+use Rattle.std.proofs.Common.{◌≡◌, inl, inr, true, refl, subst, arith}
 use Rattle.std.proofs.lemmas.Bool.{cases_lt}
 use Rattle.memory_models.specs.Trace.{operation_at, uses_word}
 use Rattle.weak_models.specs.Bounds.{IsKeptAt}
