@@ -32,6 +32,7 @@ GOALS = (
     ("the judges of networks, times plain Rust", "networks", r"\| judging", -1, MOST, 2),
     ("simulated flits, millions a second", "clocked", r"\| (mesh|torus)", 6, FEWEST, 10),
     ("`model`, times plain Rust, in processor time", "models", r"\| of ", -1, MOST, 2),
+    ("`model --model rvwmo`, times plain Rust, in processor time", "models", r"\| RISC-V", -1, MOST, 1.5),
     ("`steps`, times `round`", "schedules", r"\| `steps`", -1, MOST, 1.5),
     ("`round --clocked`, times `round`", "schedules", r"\| `round --clocked`", -1, MOST, 1.5),
     ("a step by a call from C, times one inside", "library", r"\| (an attempt|a move)", 3, MOST, 1.3),

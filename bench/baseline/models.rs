@@ -1,6 +1,8 @@
 //! Which memory models a log obeys, in plain Rust by the passes of `torusmem model`: `models LOG`. It reads the log text,
 //! checks its replies, judges it by five models, and prints a line for each; on standard error the milliseconds of each part.
+//! `models LOG --rvwmo` judges it by RISC-V's model, too.
 mod rising;
+mod weak;
 
 use std::collections::HashMap;
 use std::time::Instant;
@@ -32,15 +34,17 @@ struct Made<'a> {
     values: [u64; 2],
     reply: Option<u64>,
     source: usize,
+    note: weak::Note,
 }
 
-/// A log: operations in the order of their lines, those of each processor, and each word's writes.
+/// A log: operations in the order of their lines, those of each processor, each word's writes, and dependencies.
 #[derive(Default)]
 struct Log<'a> {
     made: Vec<Made<'a>>,
     of: Vec<Vec<usize>>,
     init: HashMap<usize, u64>,
     writes: HashMap<usize, Vec<usize>>,
+    dependencies: Vec<weak::Dependency>,
 }
 
 fn number(word: Option<&str>) -> u64 {
@@ -59,18 +63,38 @@ fn read(text: &str) -> Log<'_> {
             "made" => {
                 let processor = number(words.next()) as usize;
                 let name = words.next().expect("an operation");
-                let mut it = Made { processor, name, address: 0, values: [0; 2], reply: None, source: NONE };
+                let mut it = Made { processor, name, address: 0, values: [0; 2], reply: None, source: NONE, note: weak::BARE };
                 if name != "fence" {
                     it.address = number(words.next()) as usize;
-                    for (value, word) in it.values.iter_mut().zip(words) {
-                        *value = number(Some(word));
+                    let values = match name {
+                        "load" => 0,
+                        "cas" => 2,
+                        _ => 1,
+                    };
+                    for value in &mut it.values[..values] {
+                        *value = number(words.next());
                     }
+                }
+                let rest: Vec<&str> = words.collect();
+                if !rest.is_empty() {
+                    it.note = weak::note(&rest);
                 }
                 if log.of.len() <= processor {
                     log.of.resize(processor + 1, Vec::new());
                 }
                 log.of[processor].push(log.made.len());
                 log.made.push(it);
+            }
+            "depends" => {
+                let own = &log.of[number(words.next()) as usize];
+                let operation = own[number(words.next()) as usize];
+                let on = own[number(words.nth(1)) as usize];
+                let way = match words.next() {
+                    Some("address") => weak::Way::Address,
+                    Some("data") => weak::Way::Data,
+                    _ => weak::Way::Control,
+                };
+                log.dependencies.push(weak::Dependency { on, operation, way });
             }
             "wrote" | "read" | "served" | "replied" => {
                 let at = log.of[number(words.next()) as usize][number(words.next()) as usize];
@@ -130,9 +154,12 @@ fn are_due(log: &Log) -> bool {
     })
 }
 
+/// A log's trace: operations, the writes word by word, the number of words, and where each line's operation stands.
+type Traced = (Vec<Operation>, Vec<usize>, usize, Vec<usize>);
+
 /// The trace of a log: opening stores, each of a processor of its own, and then the operations by processor; and the writes,
-/// word by word. Answers the number of words, too.
-fn trace(log: &Log) -> (Vec<Operation>, Vec<usize>, usize) {
+/// word by word.
+fn trace(log: &Log) -> Traced {
     let mut words = HashMap::new();
     for it in log.made.iter().filter(|it| it.name != "fence") {
         let next = words.len();
@@ -170,7 +197,7 @@ fn trace(log: &Log) -> (Vec<Operation>, Vec<usize>, usize) {
         operations[at[made]].place = operations[source].place;
     }
     let count = words.len() + 1;
-    (operations, writes, count)
+    (operations, writes, count, at)
 }
 
 /// Kinds: loads, stores, atomics, fences.
@@ -189,6 +216,7 @@ struct Rule {
     same_word: bool,
 }
 
+#[derive(Clone, Copy)]
 struct Edge {
     from: usize,
     to: usize,
@@ -279,6 +307,26 @@ fn judge(rules: &[Rule], operations: &[Operation], writes: &[usize], words: usiz
     rises(operations.len(), &edges)
 }
 
+/// The notes of the operations of a trace, and its dependencies.
+fn notes(log: &Log, count: usize, at: &[usize]) -> (Vec<weak::Note>, Vec<weak::Dependency>) {
+    let mut notes = vec![weak::BARE; count];
+    for own in &log.of {
+        let mut reserved = NONE;
+        for &made in own {
+            let mut note = log.made[made].note;
+            if note.conditional {
+                note.pair = reserved;
+            }
+            if note.conditional || note.reserved {
+                reserved = if note.reserved { at[made] } else { NONE };
+            }
+            notes[at[made]] = note;
+        }
+    }
+    let moved = |it: &weak::Dependency| weak::Dependency { on: at[it.on], operation: at[it.operation], way: it.way };
+    (notes, log.dependencies.iter().map(moved).collect())
+}
+
 fn main() {
     let path = std::env::args().nth(1).expect("the name of a log");
     let begun = Instant::now();
@@ -290,8 +338,14 @@ fn main() {
         println!("wrong reply");
         std::process::exit(1);
     }
-    let (operations, writes, words) = trace(&log);
+    let (operations, writes, words, at) = trace(&log);
     tell("trace");
+    if std::env::args().nth(2).is_some() {
+        let (notes, dependencies) = notes(&log, operations.len(), &at);
+        let trace = weak::Trace { notes: &notes, dependencies: &dependencies, operations: &operations, writes: &writes, words };
+        println!("rvwmo {}", if trace.is_allowed() { "yes" } else { "no" });
+        tell("rvwmo");
+    }
     let rule = |from, to| Rule { from, to, same_word: false };
     let on_one_word = Rule { from: BUT_FENCES, to: BUT_FENCES, same_word: true };
     let models: [(&str, Vec<Rule>); 5] = [

@@ -43,7 +43,7 @@ kept_bare notes ops writes x y by.ThroughStore none pairs high k = absurd (elim 
 ])
 kept_bare notes ops writes x y by.BehindAddress none pairs high k = absurd (nothing_depends _ _ _ _ k.depends)
 
-coherent_keeps : (ops : List Operation) (x y : ℕ) → IsOwn ops x y → uses_word (operation_at ops x).kind ≡ true → uses_word (operation_at ops y).kind ≡ true
+pub coherent_keeps : (ops : List Operation) (x y : ℕ) → IsOwn ops x y → uses_word (operation_at ops x).kind ≡ true → uses_word (operation_at ops y).kind ≡ true
     → (operation_at ops x).word ≡ (operation_at ops y).word → KeepsOrder coherent ops x y
 coherent_keeps ops x y own first second word = inl (
   0,

@@ -47,7 +47,7 @@ rest_small Atomic x = omega arith
 rest_small Fence x = omega arith
 
 -- of a load the place of the write that it read
-load_place : (op : Operation) → is_load op.kind ≡ true → read_place op ≡ op.place
+pub load_place : (op : Operation) → is_load op.kind ≡ true → read_place op ≡ op.place
 load_place op e = by op.kind e
   where
     by : (k : Kind) → is_load k ≡ true → (if is_load k then op.place else op.place - 1) ≡ op.place

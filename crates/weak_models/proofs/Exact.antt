@@ -1,5 +1,5 @@
 -- The arcs are exact: they rise in each order that explains the trace, and where they rise, there is one.
-use Rattle.std.proofs.Common.{◌≡◌, ◌⊎◌, inl, inr, ℕ, zero, suc, ◌+◌, ◌-◌, ◌<◌, true, List, [], ◌∷◌, length, refl, sym, ◌∙◌, ap, subst, arith}
+use Rattle.std.proofs.Common.{◌≡◌, inl, inr, ℕ, zero, suc, ◌+◌, ◌-◌, ◌<◌, true, List, [], ◌∷◌, length, refl, sym, ◌∙◌, ap, subst, arith}
 use Rattle.std.specs.Prelude.{slice_index}
 use Rattle.std.proofs.lemmas.Bool.{cases_lt}
 use Rattle.rising.specs.declared.edge.Edge.{Edge}
@@ -11,22 +11,22 @@ use Rattle.memory_models.specs.declared.kinds.Kind.TheVariants.{Load, Store, Ato
 use Rattle.memory_models.specs.declared.kinds.Operation.{Operation}
 use Rattle.memory_models.specs.declared.kinds.Why.{Why}
 use Rattle.memory_models.specs.declared.kinds.Why.TheVariants.{Program, Read, Overwritten, Stale}
-use Rattle.memory_models.specs.Trace.{is_load, is_write, uses_word, operation_at, writes_rule, IsOwn, IsMemoryTrace}
-use Rattle.memory_models.specs.Order.{IsMemoryOrder, KeepsOrder, Applies}
+use Rattle.memory_models.specs.Trace.{is_write, uses_word, operation_at, IsMemoryTrace}
+use Rattle.memory_models.specs.Order.{IsMemoryOrder, KeepsOrder}
 use Rattle.memory_models.specs.Arcs.{IsWhy, IsArc, AreArcs, ExtendsEdges}
 use Rattle.memory_models.proofs.Lasts.{to_write}
-use Rattle.memory_models.proofs.Exact.{AllRise, is_order, arcs_rise, cycle_inside}
+use Rattle.memory_models.proofs.Exact.{AllRise, is_order, arcs_rise}
 use Rattle.weak_models.specs.declared.notes.Note.{Note}
 use Rattle.weak_models.specs.declared.notes.Dependency.{Dependency}
 use Rattle.weak_models.specs.declared.verdict.Reason.{Reason}
 use Rattle.weak_models.specs.declared.verdict.Reason.TheVariants as why
 use Rattle.weak_models.specs.declared.verdict.ReasonedStep.{ReasonedStep}
-use Rattle.weak_models.specs.declared.verdict.PreservedRule.{PreservedRule}
 use Rattle.weak_models.specs.declared.verdict.PreservedRule.TheVariants as by
 use Rattle.weak_models.specs.Preserved.{IsPreserved, IsPreservedBy}
-use Rattle.weak_models.specs.Order.{IsRvwmo, IsBehindPair}
-use Rattle.weak_models.specs.Arcs.{IsReason, IsRvwmoArc, AreRvwmoArcs, AreWordArcs, RisesByProgram, RisesOverPairs, reasoned_at, AreReasoned}
+use Rattle.weak_models.specs.Order.{IsRvwmo, IsBehindPair, ArePairsAtomic}
+use Rattle.weak_models.specs.Arcs.{IsReason, IsRvwmoArc, AreRvwmoArcs, AreWordArcs, AreOtherArcs, RisesByProgram, RisesOverPairs, reasoned_at, AreReasoned}
 use Rattle.weak_models.specs.Verdict.{AreAround}
+use Rattle.weak_models.specs.Checked.{AreReasonedSteps}
 
 write_uses : (kind : Kind) → is_write kind ≡ true → uses_word kind ≡ true
 write_uses Load e = cc
@@ -120,42 +120,57 @@ pub arcs_within : (notes : List Note) (dependencies : List Dependency) (ops : Li
     → AreRvwmoArcs notes dependencies ops writes edges → EdgesAreWithin (length ops) edges
 arcs_within notes dependencies ops writes edges are = record { from = λ k l. (are.each k l).from; to = λ k l. (are.each k l).to }
 
--- numbers that rise are an order that explains the trace
-pub is_rvwmo : (words : ℕ) (notes : List Note) (dependencies : List Dependency) (ops : List Operation) (writes : List ℕ) (first edges : List Edge)
-    (number : ℕ → ℕ) → IsMemoryTrace words ops writes → AreWordArcs ops writes first → ExtendsEdges first edges
-    → RisesByProgram notes dependencies ops writes (length ops) edges → RisesOverPairs notes ops (length ops) edges
-    → RisesOnEdges edges number → ((x y : ℕ) → x < length ops → y < length ops → number x ≡ number y → x ≡ y)
-    → IsRvwmo notes dependencies ops writes number
-is_rvwmo words notes dependencies ops writes first edges number t are more program pairs up apart =
-    let all : AllRise [] ops writes first = record {
+-- numbers that rise along the arcs of words keep each word's order and what loads read
+pub words_order : (words : ℕ) (ops : List Operation) (writes : List ℕ) (edges : List Edge) (number : ℕ → ℕ) → IsMemoryTrace words ops writes
+    → AreWordArcs ops writes edges → RisesOnEdges edges number → ((x y : ℕ) → x < length ops → y < length ops → number x ≡ number y → x ≡ y)
+    → IsMemoryOrder [] ops writes number
+words_order words ops writes edges number t are up apart =
+    let all : AllRise [] ops writes edges = record {
       each = λ k l. absurd (omega arith);
       own = are.own;
       stale = are.stale;
       word = are.word;
-    } in
-    let o : IsMemoryOrder [] ops writes number = is_order words [] ops writes first number t all (more number up) apart in
-    record {
-      order = record {
-        apart = apart;
-        program = λ x y low kept. program number up x y low kept;
-        word_order = o.word_order;
-        source = o.source;
-        newest = o.newest;
-      };
-      atomic = λ w z low high is. (let found = pairs number up w z low high is in
-          let s : ℕ = found.0 in
-          let f = found.1 in
-          let rises : number w < number s = found.2 in
-          let no_later = f.first z high is in
-          let at : (operation_at ops s).word ≡ (operation_at ops z).word = f.is.one.word ∙ sym is.one.word in
-          elim (cases_lt (operation_at ops s).place (operation_at ops z).place) [
-            | inl less ↦ (let rest = o.word_order s z f.low high f.is.write is.write
-                (record { first = f.is.one.first; second = is.one.first; word = at }) less in omega (arith, rises, rest))
-            | inr other ↦ (let same : (operation_at ops s).place ≡ (operation_at ops z).place = omega arith in
-                let one : s ≡ z = sym (t.written s f.low f.is.write) ∙ (ap (slice_index writes) same ∙ t.written z high is.write) in
-                subst (λ v. number w < number v) one rises)
-          ]);
-    }
+    } in is_order words [] ops writes edges number t all up apart
+
+-- numbers that rise along the arcs of pairs, too, keep pairs atomic
+pairs_atomic : (words : ℕ) (notes : List Note) (ops : List Operation) (writes : List ℕ) (edges : List Edge) (number : ℕ → ℕ)
+    → IsMemoryTrace words ops writes → IsMemoryOrder [] ops writes number → RisesOverPairs notes ops (length ops) edges → RisesOnEdges edges number
+    → ArePairsAtomic notes ops number
+pairs_atomic words notes ops writes edges number t o pairs up w z low high is =
+    let found = pairs number up w z low high is in
+    let s : ℕ = found.0 in
+    let f = found.1 in
+    let rises : number w < number s = found.2 in
+    let no_later = f.first z high is in
+    let at : (operation_at ops s).word ≡ (operation_at ops z).word = f.is.one.word ∙ sym is.one.word in
+    elim (cases_lt (operation_at ops s).place (operation_at ops z).place) [
+      | inl less ↦ (let rest = o.word_order s z f.low high f.is.write is.write (record { first = f.is.one.first; second = is.one.first; word = at }) less in
+          omega (arith, rises, rest))
+      | inr other ↦ (let same : (operation_at ops s).place ≡ (operation_at ops z).place = omega arith in
+          let one : s ≡ z = sym (t.written s f.low f.is.write) ∙ (ap (slice_index writes) same ∙ t.written z high is.write) in
+          subst (λ v. number w < number v) one rises)
+    ]
+
+-- with preserved program order they are an order that explains the trace
+pub rvwmo_of : (words : ℕ) (notes : List Note) (dependencies : List Dependency) (ops : List Operation) (writes : List ℕ) (edges : List Edge)
+    (number : ℕ → ℕ) → IsMemoryTrace words ops writes → IsMemoryOrder [] ops writes number → RisesOverPairs notes ops (length ops) edges
+    → RisesOnEdges edges number → ((x y : ℕ) → y < length ops → IsPreserved notes dependencies ops writes x y → number x < number y)
+    → IsRvwmo notes dependencies ops writes number
+rvwmo_of words notes dependencies ops writes edges number t o pairs up program = record {
+  order = record { apart = o.apart; program = program; word_order = o.word_order; source = o.source; newest = o.newest };
+  atomic = pairs_atomic words notes ops writes edges number t o pairs up;
+}
+
+-- the same by the arcs of all pairs that preserved program order keeps
+pub is_rvwmo : (words : ℕ) (notes : List Note) (dependencies : List Dependency) (ops : List Operation) (writes : List ℕ) (arcs edges : List Edge)
+    (number : ℕ → ℕ) → IsMemoryTrace words ops writes → AreOtherArcs notes ops writes arcs → ExtendsEdges arcs edges
+    → RisesByProgram notes dependencies ops writes (length ops) edges
+    → RisesOnEdges edges number → ((x y : ℕ) → x < length ops → y < length ops → number x ≡ number y → x ≡ y)
+    → IsRvwmo notes dependencies ops writes number
+is_rvwmo words notes dependencies ops writes arcs edges number t are more program up apart =
+    let rise = more number up in
+    rvwmo_of words notes dependencies ops writes arcs number t (words_order words ops writes are.first number t are.words (are.more number rise) apart) are.pairs rise
+    (program number up)
 
 -- no order explains the trace
 pub no_rvwmo : (words : ℕ) (notes : List Note) (dependencies : List Dependency) (ops : List Operation) (writes : List ℕ) (edges : List Edge)
@@ -164,6 +179,31 @@ pub no_rvwmo : (words : ℕ) (notes : List Note) (dependencies : List Dependency
 no_rvwmo words notes dependencies ops writes edges cycle t are c turn o =
     no_rise edges cycle c turn (λ k low. (let a = are.each k low in
     reason_rises words notes dependencies ops writes turn (edge_at edges k).from (edge_at edges k).to a.why t o a.from a.to a.is))
+
+-- nor where steps go around, each for its reason
+pub no_order_around : (words : ℕ) (notes : List Note) (dependencies : List Dependency) (ops : List Operation) (writes : List ℕ) (steps : List ReasonedStep)
+    → IsMemoryTrace words ops writes → AreReasonedSteps notes dependencies ops writes steps → AreAround notes dependencies ops writes steps
+    → (turn : ℕ → ℕ) → IsRvwmo notes dependencies ops writes turn → ⊥
+no_order_around words notes dependencies ops writes steps t are a turn o =
+    let some = a.some in
+    let back = ap turn a.last in
+    let rises = reach (length steps - 1) (omega (arith, some)) in
+    omega (arith, back, rises)
+  where
+    goes : (k : ℕ) → k < length steps → turn (reasoned_at steps k).from < turn (reasoned_at steps k).to
+    goes k low =
+        let r = are k low in
+        reason_rises words notes dependencies ops writes turn (reasoned_at steps k).from (reasoned_at steps k).to (reasoned_at steps k).why t o r.from r.to r.is
+
+    reach : (k : ℕ) → k < length steps → turn (reasoned_at steps 0).from < turn (reasoned_at steps k).to
+    reach zero low = goes 0 low
+    reach (suc k) low =
+        let before = reach k (omega (arith, low)) in
+        let joined = ap turn (a.joined k (omega (arith, low))) in
+        let next = goes (suc k) low in
+        let one : suc k ≡ k + 1 = omega arith in
+        let same = ap (λ z. turn (reasoned_at steps z).from) one in
+        omega (arith, before, joined, next, same)
 
 -- a cycle's steps lead around
 pub around : (notes : List Note) (dependencies : List Dependency) (ops : List Operation) (writes : List ℕ) (edges : List Edge) (cycle : List ℕ)

@@ -9,3 +9,6 @@ pub mod Stronger
 pub mod Bare
 pub mod ByPlace
 pub mod Equalities
+pub mod OnWord
+pub mod Bounded
+pub mod Judged

@@ -1,12 +1,12 @@
 -- Arcs between operations: reasons of RISC-V's memory model for one to come before another.
 use Rattle.std.specs.Prelude.{◌≡◌, ℕ, ◌<◌, ◌≤◌, List, [], ◌∷◌, ◌++◌, length, slice_index}
-use Rattle.std.specs.Prelude.{slice_index_or, true, Option, Some, None}
+use Rattle.std.specs.Prelude.{slice_index_or, Option, Some, None}
 use Rattle.rising.specs.declared.edge.Edge.{Edge}
 use Rattle.rising.specs.Graph.{edge_at, RisesOnEdges}
 use Rattle.memory_models.specs.declared.kinds.Operation.{Operation}
 use Rattle.memory_models.specs.Trace.{operation_at, writes_rule}
-use Rattle.memory_models.specs.Arcs.{IsReadFrom, IsOverwritten, IsStale, AreArcs, RisesByRule}
-use Rattle.memory_models.specs.Arcs.{RisesOverStale, RisesByWords}
+use Rattle.memory_models.specs.Arcs.{IsReadFrom, IsOverwritten, IsStale, AreArcs, ExtendsEdges}
+use Rattle.memory_models.specs.Arcs.{RisesByRule, RisesOverStale, RisesByWords}
 use Rattle.weak_models.specs.declared.notes.Note.{Note}
 use Rattle.weak_models.specs.declared.notes.Dependency.{Dependency}
 use Rattle.weak_models.specs.declared.verdict.Reason.{Reason}
@@ -75,6 +75,16 @@ RisesOverPairs notes ops n edges =
     (number : ℕ → ℕ) → RisesOnEdges edges number → (w z : ℕ) → w < n → z < length ops
     → IsBehindPair notes ops w z
     → (s : ℕ) × IsFirstBehind notes ops w s × (number w < number s)
+
+-- edges for all that isn't preserved program order: what loads read, each word's order of writes, and
+-- the atomicity axiom
+pub record AreOtherArcs (notes : List Note) (ops : List Operation) (writes : List ℕ)
+    (edges : List Edge) : Type 0
+  where
+    pub first : List Edge
+    pub words : AreWordArcs ops writes first
+    pub more : ExtendsEdges first edges
+    pub pairs : RisesOverPairs notes ops (length ops) edges
 
 -- one edge more, if there is where it leads to
 abbrev pub pushed_to : ℕ → Option ℕ → List Edge → List Edge

@@ -4,5 +4,6 @@ pub mod Order
 pub mod Arcs
 pub mod Verdict
 pub mod Checked
+pub mod Bounds
 pub mod Laws
 pub mod Equal

@@ -22,12 +22,16 @@ pub record AreAround (notes : List Note) (dependencies : List Dependency) (ops :
         → (reasoned_at steps k).to ≡ (reasoned_at steps (k + 1)).from
     pub last : (reasoned_at steps (length steps - 1)).to ≡ (reasoned_at steps 0).from
 
+-- turns of all operations in an order of the model that explains the trace
+abbrev pub IsOrderOf : List Note → List Dependency → List Operation → List ℕ → List ℕ → Type 0
+IsOrderOf notes dependencies ops writes turns =
+    IsPermutationBelow (length ops) turns × IsRvwmo notes dependencies ops writes (slice_index turns)
+
 -- an order of the model that explains the trace; or steps around, and then there is none
 abbrev pub IsRvwmoVerdict : {A : Type 0} → List Note → List Dependency → List Operation → List ℕ
     → RvwmoVerdict A → Type 0
 IsRvwmoVerdict notes dependencies ops writes (Ordered turns) =
-    IsPermutationBelow (length ops) turns.items
-    × IsRvwmo notes dependencies ops writes (slice_index turns.items)
+    IsOrderOf notes dependencies ops writes turns.items
 IsRvwmoVerdict notes dependencies ops writes (Cycle steps) =
     AreAround notes dependencies ops writes steps.items
     × ((turn : ℕ → ℕ) → IsRvwmo notes dependencies ops writes turn → ⊥)

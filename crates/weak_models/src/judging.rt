@@ -3,12 +3,14 @@
 ghost use Rattle.std.specs.Prelude.{◌≡◌, ◌<◌, ℕ, length, slice_index, IfOk};
 ghost use Rattle.memory_models.specs.Trace.{IsMemoryTrace};
 ghost use Rattle.weak_models.specs.Arcs.{AreWordArcs, IsRvwmoArc, IsReason, AreRvwmoArcs, AreReasoned};
+ghost use Rattle.weak_models.specs.Arcs.{AreOtherArcs};
 ghost use Rattle.weak_models.specs.Verdict.{IsRvwmoVerdict};
 
 use crate::arcs::program_arcs;
 use crate::notes::{Dependency, Note};
 use crate::pairs::{is_behind_pair, pair_arcs};
 use crate::preserved::rule_of;
+use crate::quick::judge_quickly;
 use crate::shortest::shortest;
 use crate::verdict::{PreservedRule, Reason, ReasonedStep, RvwmoVerdict};
 use memory_models::program::{rule_arcs, stale_arcs, writes_rule};
@@ -90,23 +92,48 @@ fn steps_of<A: Allocator + Copy>(
     Ok(steps)
 }
 
-/// Judges a trace by the edges between its operations: the turn of each, or the steps of a cycle.
+/// Arcs for all that isn't preserved program order.
 ///
 /// Errors: out of memory.
-fn judge_any<A: Allocator + Copy>(
+fn other_arcs<A: Allocator + Copy>(
     alloc: A,
     notes: &[Note],
     dependencies: &[Dependency],
     operations: &[Operation],
     writes: &[usize],
     words: usize,
-) -> Result<RvwmoVerdict<A>, AllocError>
+) -> Result<Vec<Edge, A>, AllocError>
     requires { IsMemoryTrace words operations.now writes.now }
-    ensures { IfOk result (IsRvwmoVerdict notes.now dependencies.now operations.now writes.now) }
+    ensures arcs { IfOk result (λ edges. AreRvwmoArcs notes.now dependencies.now operations.now
+        writes.now edges.items) }
+    ensures other { IfOk result (λ edges. AreOtherArcs notes.now operations.now writes.now
+        edges.items) }
 {
     let mut edges = arcs_of_words(alloc, operations, writes, words)?;
-    program_arcs(notes, dependencies, operations, writes, &mut edges)?;
     pair_arcs(notes, dependencies, operations, writes, words, &mut edges)?;
+    Ok(edges)
+}
+
+/// Judges a trace by all pairs of its operations, and arcs for what isn't preserved program order: the
+/// turn of each operation, or the steps of a cycle.
+///
+/// Errors: out of memory.
+fn judge_by_pairs<A: Allocator + Copy>(
+    alloc: A,
+    notes: &[Note],
+    dependencies: &[Dependency],
+    operations: &[Operation],
+    writes: &[usize],
+    words: usize,
+    arcs: Vec<Edge, A>,
+) -> Result<RvwmoVerdict<A>, AllocError>
+    requires trace { IsMemoryTrace words operations.now writes.now }
+    requires arcs { AreRvwmoArcs notes.now dependencies.now operations.now writes.now arcs.items }
+    requires other { AreOtherArcs notes.now operations.now writes.now arcs.items }
+    ensures { IfOk result (IsRvwmoVerdict notes.now dependencies.now operations.now writes.now) }
+{
+    let mut edges = arcs;
+    program_arcs(notes, dependencies, operations, writes, &mut edges)?;
     match rise(alloc, operations.len(), &edges)? {
         Found::Rising(turns) => Ok(RvwmoVerdict::Ordered(turns)),
         Found::Cycle(cycle) => Ok(RvwmoVerdict::Cycle(steps_of(
@@ -121,10 +148,31 @@ fn judge_any<A: Allocator + Copy>(
     }
 }
 
+/// Judges a trace by a thin graph, if what that guesses is right, and else by all pairs.
+///
+/// Errors: out of memory.
+fn judge_any<A: Allocator + Copy>(
+    alloc: A,
+    notes: &[Note],
+    dependencies: &[Dependency],
+    operations: &[Operation],
+    writes: &[usize],
+    words: usize,
+) -> Result<RvwmoVerdict<A>, AllocError>
+    requires { IsMemoryTrace words operations.now writes.now }
+    ensures { IfOk result (IsRvwmoVerdict notes.now dependencies.now operations.now writes.now) }
+{
+    let arcs = other_arcs(alloc, notes, dependencies, operations, writes, words)?;
+    match judge_quickly(alloc, notes, dependencies, operations, writes, words, &arcs)? {
+        Some(verdict) => Ok(verdict),
+        None => judge_by_pairs(alloc, notes, dependencies, operations, writes, words, arcs),
+    }
+}
+
 /// Judges a trace by RISC-V's memory model: the turn of each operation in one order that explains it,
 /// or operations that come each before the next around a circle, and then there is no such order.
-/// Each two operations of a processor are looked at, with the fences and stores between them, and of
-/// each all dependencies. The circle is one that `shortest` finds.
+/// A trace whose dependencies each lead on in one program is judged in time that is nearly linear in it.
+/// The circle is one that `shortest` finds.
 ///
 /// Errors: out of memory, and no other.
 pub fn judge_rvwmo<A: Allocator + Copy>(

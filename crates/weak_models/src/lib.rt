@@ -2,17 +2,25 @@
 #![tactic(auto)]
 
 pub mod arcs;
-pub mod breadth;
+pub mod bounding;
+pub mod bounds;
+pub mod circling;
 pub mod depending;
 pub mod equal;
 pub mod judging;
+pub mod keeping;
 pub mod laws;
+pub mod lists;
 pub mod notes;
 pub mod pairs;
 pub mod preserved;
+pub mod quick;
 pub mod reasoned;
 pub mod rules;
 pub mod shortest;
+pub mod thin;
+pub mod thinning;
+pub mod turns;
 pub mod verdict;
 
 pub use judging::judge_rvwmo;

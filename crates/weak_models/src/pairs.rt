@@ -58,7 +58,12 @@ fn first_behind(
         ((z : ℕ) → z < length operations.now → IsBehindPair notes.now operations.now w z → ⊥)
         (IsFirstBehind notes.now operations.now w) }
 {
-    for p in 0..writes.len() {
+    let reserved = note_of(notes, w).pair?;
+    let word = operations[w].word;
+    for p in place_of(operations, reserved)..writes.len() {
+        if operations[writes[p]].word > word {
+            return None;
+        }
         if is_behind_pair(notes, operations, w, writes[p]) {
             return Some(writes[p]);
         }

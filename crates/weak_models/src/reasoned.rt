@@ -102,8 +102,10 @@ pub fn go_around(
     writes: &[usize],
     steps: &[ReasonedStep],
 ) -> bool
-    ensures { result ≡ true
+    ensures around { result ≡ true
         → AreAround notes.now dependencies.now operations.now writes.now steps.now }
+    ensures reasons { result ≡ true
+        → AreReasonedSteps notes.now dependencies.now operations.now writes.now steps.now }
 {
     are_joined(steps) && are_reasoned(notes, dependencies, operations, writes, steps)
 }

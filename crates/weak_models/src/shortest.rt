@@ -3,11 +3,12 @@
 ghost use Rattle.std.specs.Prelude.{◌≤◌, length, IfOk};
 ghost use Rattle.weak_models.specs.Verdict.{AreAround};
 
-use crate::breadth::{Breadth, arrows_of, at};
+use crate::circling::{circle_over, steps_around};
+use crate::lists::at;
 use crate::notes::{Dependency, Note};
 use crate::reasoned::{go_around, reason_between};
 use crate::verdict::ReasonedStep;
-use memory_models::{Operation, Step};
+use memory_models::Operation;
 use rising::Edge;
 use std::alloc::{AllocError, Allocator};
 
@@ -68,12 +69,11 @@ fn looked_at<A: Allocator + Copy>(
     count: usize,
     first: &[ReasonedStep],
 ) -> Result<Vec<usize, A>, AllocError> {
-    let mut among = Vec::new(alloc);
     if count <= MOST {
-        for x in 0..count {
-            among.push(x)?;
-        }
-    } else if first.len() <= MOST {
+        return numbers_below(alloc, count);
+    }
+    let mut among = Vec::new(alloc);
+    if first.len() <= MOST {
         for k in 0..first.len() {
             among.push(first[k].from)?;
         }
@@ -81,50 +81,26 @@ fn looked_at<A: Allocator + Copy>(
     Ok(among)
 }
 
-/// The steps of a path, which is told from its last one to its first, with their reasons, as far as
-/// there are any.
-fn steps_of_path<A: Allocator + Copy>(
+/// The operations at some places of a list.
+fn picked<A: Allocator + Copy>(
     alloc: A,
-    notes: &[Note],
-    dependencies: &[Dependency],
-    operations: &[Operation],
-    writes: &[usize],
     among: &[usize],
-    backwards: &[Step],
-) -> Result<Vec<ReasonedStep, A>, AllocError> {
-    let mut steps = Vec::new(alloc);
-    for k in 0..backwards.len() {
-        let step = backwards[backwards.len() - 1 - k];
-        let from = at(among, step.from);
-        let to = at(among, step.to);
-        if from < operations.len() && to < operations.len() {
-            let why = reason_between(notes, dependencies, operations, writes, from, to);
-            if let Some(why) = why {
-                steps.push(ReasonedStep { from, to, why })?;
-            }
-        }
+    places: &[usize],
+) -> Result<Vec<usize, A>, AllocError> {
+    let mut list = Vec::with_capacity(alloc, places.len())?;
+    for k in 0..places.len() {
+        list.push(at(among, places[k]))?;
     }
-    Ok(steps)
+    Ok(list)
 }
 
-/// The steps of a shortest cycle over some edges, the last one first; none where none is found.
-fn sought<A: Allocator + Copy>(
-    alloc: A,
-    edges: Vec<Edge, A>,
-    nodes: usize,
-) -> Result<Vec<Step, A>, AllocError> {
-    let arrows = arrows_of(alloc, edges, nodes)?;
-    let mut breadth = Breadth::none(alloc, nodes)?;
-    let mut best = Vec::new(alloc);
-    for start in 0..nodes {
-        if let Some(last) = breadth.last_edge(&arrows, start)? {
-            let backwards = breadth.path(alloc, &arrows, start, last)?;
-            if best.is_empty() || backwards.len() < best.len() {
-                best = backwards;
-            }
-        }
+/// So many numbers, from 0 on.
+fn numbers_below<A: Allocator + Copy>(alloc: A, count: usize) -> Result<Vec<usize, A>, AllocError> {
+    let mut list = Vec::with_capacity(alloc, count)?;
+    for x in 0..count {
+        list.push(x)?;
     }
-    Ok(best)
+    Ok(list)
 }
 
 /// A shortest cycle of up to 256 operations, or of more of those of a cycle that was found, if that has
@@ -146,16 +122,10 @@ pub fn shortest<A: Allocator + Copy>(
 {
     let among = looked_at(alloc, operations.len(), &first)?;
     let edges = edges_among(alloc, notes, dependencies, operations, writes, &among)?;
-    let path = sought(alloc, edges, among.len())?;
-    let steps = steps_of_path(
-        alloc,
-        notes,
-        dependencies,
-        operations,
-        writes,
-        &among,
-        &path,
-    )?;
+    let starts = numbers_below(alloc, among.len())?;
+    let places = circle_over(alloc, among.len(), &edges, &starts, first.len())?;
+    let around = picked(alloc, &among, &places)?;
+    let steps = steps_around(alloc, notes, dependencies, operations, writes, &around)?;
     if steps.len() <= first.len() && go_around(notes, dependencies, operations, writes, &steps) {
         return Ok(steps);
     }

@@ -3,34 +3,27 @@ use Rattle.std.specs.Prelude.{slice_index}
 use Rattle.rising.specs.declared.edge.Found.TheVariants.{Rising, Cycle}
 use Rattle.rising.specs.Graph.{RisesOnEdges}
 use Rattle.rising.specs.Found.{IsOrderOrCycle, IsEdgeCycle}
-use Rattle.memory_models.specs.Arcs.{ExtendsEdges}
-use Rattle.weak_models.specs.Arcs.{RisesByProgram, AreReasoned}
-use Rattle.weak_models.proofs.Exact.{word_arcs_are, is_rvwmo, no_rvwmo, around}
-use Rattle.weak_models.proofs.judging.judge_any.Goals as goal
-
-pub program_arcs-requires : goal.program_arcs-requires
-program_arcs-requires g c =
-    record { arcs = word_arcs_are c.args.notes.now c.args.dependencies.now c.args.operations.now c.args.writes.now c.in_ok-edges.edges.items c.in_ok-edges.ensures.arcs }
+use Rattle.weak_models.specs.Arcs.{AreReasoned}
+use Rattle.weak_models.proofs.Exact.{is_rvwmo, no_rvwmo, around}
+use Rattle.weak_models.proofs.judging.judge_by_pairs.Goals as goal
 
 pub returns-in-Rising : goal.returns-in-Rising
 returns-in-Rising g c =
     let found : IsOrderOrCycle {A = g.row.A.Denot} (length c.args.operations.now) c.deref.result.now (Rising c.in-Rising.turns) =
     subst (λ z. IsOrderOrCycle {A = g.row.A.Denot} (length c.args.operations.now) c.deref.result.now z) c.in-Rising.is c.in_ok-turns.ensures in
-    let edges = c.pair_arcs.new.edges.items in
+    let edges = c.program_arcs.new.edges.items in
     let rises : RisesOnEdges edges (slice_index c.in-Rising.turns.items) = subst (λ z. RisesOnEdges z (slice_index c.in-Rising.turns.items)) c.deref.ensures.value found.1 in
-    let p = c.in_ok-program_arcs.ensures in
-    let q = c.in_ok-pair_arcs.ensures in (
+    let p = c.in_ok-program_arcs.ensures in (
       found.0,
-      is_rvwmo c.args.words c.args.notes.now c.args.dependencies.now c.args.operations.now c.args.writes.now c.in_ok-edges.edges.items edges
-          (slice_index c.in-Rising.turns.items) c.requires c.in_ok-edges.ensures (λ number up. p.more number (q.more number up))
-          (λ number up. p.rises number (q.more number up)) q.rises rises found.0.apart,
+      is_rvwmo c.args.words c.args.notes.now c.args.dependencies.now c.args.operations.now c.args.writes.now c.args.arcs.items edges
+          (slice_index c.in-Rising.turns.items) c.requires.trace c.requires.other p.more p.rises rises found.0.apart,
     )
 
 pub returns : goal.returns
 returns g c =
     let found : IsOrderOrCycle {A = g.row.A.Denot} (length c.args.operations.now) c.deref.result.now (Cycle c.in-Cycle.cycle) =
     subst (λ z. IsOrderOrCycle {A = g.row.A.Denot} (length c.args.operations.now) c.deref.result.now z) c.in-Cycle.is c.in_ok-turns.ensures in
-    let edges = c.pair_arcs.new.edges.items in
+    let edges = c.program_arcs.new.edges.items in
     let cycle : IsEdgeCycle edges c.in-Cycle.cycle.items = subst (λ z. IsEdgeCycle z c.in-Cycle.cycle.items) c.deref.ensures.value found in
     let steps : AreReasoned c.args.notes.now c.args.dependencies.now c.args.operations.now c.args.writes.now edges c.in-Cycle.cycle.items
     c.in_ok-steps_of-in-Cycle.field-0.items =
@@ -41,5 +34,5 @@ returns g c =
       around c.args.notes.now c.args.dependencies.now c.args.operations.now c.args.writes.now edges c.in-Cycle.cycle.items
           c.in_ok-steps_of-in-Cycle.field-0.items cycle steps,
       no_rvwmo c.args.words c.args.notes.now c.args.dependencies.now c.args.operations.now c.args.writes.now edges c.in-Cycle.cycle.items
-          c.requires c.in_ok-pair_arcs.ensures.arcs cycle,
+          c.requires.trace c.in_ok-program_arcs.ensures.arcs cycle,
     )
