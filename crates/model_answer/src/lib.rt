@@ -3,9 +3,9 @@
 #![tactic(auto)]
 
 pub mod answer;
-mod arrows;
 mod choosing;
 mod cycle;
+mod edges;
 pub mod judged;
 pub mod model;
 pub mod order;
