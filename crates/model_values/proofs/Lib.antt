@@ -12,6 +12,10 @@ pub mod Weights
 pub mod Walked
 pub mod Searching
 pub mod ValuedVerdicts
+pub mod Chosen
+pub mod Choosing
+pub mod Tried
+pub mod Opened
 pub mod Replies
 pub mod Sorted
 pub mod Laid
