@@ -14,7 +14,8 @@ pub mod Searching
 pub mod ValuedVerdicts
 pub mod Chosen
 pub mod Choosing
-pub mod Tried
+pub mod Looked
+pub mod Taking
 pub mod Opened
 pub mod Replies
 pub mod Sorted

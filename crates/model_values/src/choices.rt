@@ -140,9 +140,10 @@ fn take_only<A: Allocator>(
     let Some(s) = next_source(valued, x, None) else {
         return Ok(());
     };
-    if next_source(valued, x, Some(s)).is_none() {
-        path.push((x, s))?;
+    if let Some(_) = next_source(valued, x, Some(s)) {
+        return Ok(());
     }
+    path.push((x, s))?;
     Ok(())
 }
 
