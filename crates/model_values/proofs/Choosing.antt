@@ -128,7 +128,7 @@ behind rules v _ given_up _ (Forced path next n x s from may only is) =
     let b = behind rules v path false n from in
     behind_pushed rules v path next x s may is b.known b.less
     (λ placed writes e gives below. (let same = only (source_in v placed writes x) (may_read_in v placed writes e.valued x may.low may.reads) in
-        absurd (omega (arith, below, same))))
+    absurd (omega (arith, below, same))))
 behind rules v _ given_up _ (Takes path next n m x s from may least is count) =
     let b = behind rules v path false n from in
     behind_pushed rules v path next x s may is b.known b.less

@@ -69,7 +69,7 @@ may_read_in v placed writes i x low reads = record {
         let load : is_load (operation_at v.operations.now x).kind ≡ true = ap is_load is in
         let uses : uses_word (operation_at placed x).kind ≡ true = ap uses_word ((i.same x low).kind ∙ is) in
         left_at v placed writes i x (operation_at placed x).place low (i.trace.place x low-x uses) (i.trace.source x low-x uses)
-            ((i.finds x low).read load)
+        ((i.finds x low).read load)
     of Atomic is reads = (stands_behind v placed writes i x low is).left
     of Store is (inl load) = absurd (let bad : is_load Store ≡ true = sym (ap is_load is) ∙ load in cc)
     of Store is (inr atomic) = absurd (let bad : Store ≡ Atomic = sym is ∙ atomic in cc)

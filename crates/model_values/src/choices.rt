@@ -107,13 +107,14 @@ fn step<A: Allocator + Copy>(
     rules: &[Rule],
     valued: &Valued,
     path: &mut Vec<(usize, usize), A>,
+    last: &mut Vec<usize, A>,
     left: usize,
 ) -> Result<Option<OrderVerdict<A>>, AllocError>
     requires chained { (k : ℕ) → k < length rules.now
         → IsChained (rule_at rules.now k) ⊎ IsChainedOn (rule_at rules.now k) }
     ensures { IfOk result (IsStep rules.now valued.now path.old.items path.new.items left) }
 {
-    match look(alloc, rules, valued, path, left)? {
+    match look(alloc, rules, valued, path, last, left)? {
         Seen::Answer(verdict) => Ok(Some(verdict)),
         Seen::Refuted(depth) => refute(rules, valued, path, depth),
         Seen::Open(x) => {
@@ -179,9 +180,10 @@ pub(crate) fn judge_choices<A: Allocator + Copy>(
     ensures { IfOk result (IsJudgedOn rules.now valued.now nodes) }
 {
     let mut path = take_all(alloc, valued)?;
+    let mut last = Vec::new(alloc);
     for looked in 0..nodes {
         let left = nodes - looked;
-        if let Some(verdict) = step(alloc, rules, valued, &mut path, left)? {
+        if let Some(verdict) = step(alloc, rules, valued, &mut path, &mut last, left)? {
             return Ok(verdict);
         }
     }

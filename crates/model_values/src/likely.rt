@@ -103,20 +103,23 @@ fn nearest<A: Allocator>(
     best
 }
 
-/// Likely sources of all operations, those of a path among them.
+/// Likely sources of all operations: those of a path, then those of the last guess, if there was one.
 fn first_sources<A: Allocator + Copy>(
     alloc: A,
     valued: &Valued,
     writes: &Writes<A>,
     sources: &[usize],
+    last: &[usize],
 ) -> Result<Vec<usize, A>, AllocError> {
     let positions = positions_of(alloc, valued)?;
     let mut full = Vec::new(alloc);
     for x in 0..valued.operations.len() {
         let known = at(sources, x);
         let is_open = reads(valued.operations, x) && known >= valued.operations.len();
-        full.push(if is_open {
+        full.push(if is_open && last.is_empty() {
             nearest(valued, writes, &positions, x)
+        } else if is_open {
+            at(last, x)
         } else if reads(valued.operations, x) {
             known
         } else {
@@ -137,7 +140,11 @@ fn next_source<A: Allocator>(valued: &Valued, writes: &Writes<A>, x: usize, s: u
 }
 
 /// The operation that was changed least of those that sources are open for.
-fn least_changed<A: Allocator>(grounded: &Grounded<A>, sources: &[usize], times: &[usize]) -> usize {
+fn least_changed<A: Allocator>(
+    grounded: &Grounded<A>,
+    sources: &[usize],
+    times: &[usize],
+) -> usize {
     let mut best = NONE;
     let mut least = NONE;
     for k in 0..grounded.readers.len() {
@@ -165,7 +172,8 @@ fn depth_of(path: &[(usize, usize)], readers: &[usize], marks: &mut [usize]) -> 
     depth
 }
 
-/// What seems likely of a path, which gives the sources that are not the number of operations.
+/// What seems likely of a path, which gives the sources that are not the number of operations, and of the others by the
+/// last guess.
 ///
 /// Errors: out of memory.
 pub(crate) fn likely_of<A: Allocator + Copy>(
@@ -174,11 +182,12 @@ pub(crate) fn likely_of<A: Allocator + Copy>(
     valued: &Valued,
     path: &[(usize, usize)],
     sources: &[usize],
+    last: &[usize],
 ) -> Result<Likely<A>, AllocError> {
     let count = valued.operations.len();
     let writes = sorted_writes(alloc, valued)?;
     let mut found = Likely {
-        sources: first_sources(alloc, valued, &writes, sources)?,
+        sources: first_sources(alloc, valued, &writes, sources, last)?,
         places: Vec::new(alloc),
         steps: Vec::new(alloc),
         paths: Vec::new(alloc),

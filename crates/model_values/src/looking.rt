@@ -165,7 +165,7 @@ fn look_for_order<A: Allocator + Copy>(
     }
 }
 
-/// What a path gives.
+/// What a path gives. The guess goes on from the last one, and is kept.
 ///
 /// Errors: out of memory.
 pub(crate) fn look<A: Allocator + Copy>(
@@ -173,6 +173,7 @@ pub(crate) fn look<A: Allocator + Copy>(
     rules: &[Rule],
     valued: &Valued,
     path: &[(usize, usize)],
+    last: &mut Vec<usize, A>,
     left: usize,
 ) -> Result<Seen<A>, AllocError>
     requires chained { (k : ℕ) → k < length rules.now
@@ -180,15 +181,17 @@ pub(crate) fn look<A: Allocator + Copy>(
     ensures { IfOk result (IsSeen rules.now valued.now path.now left) }
 {
     let sources = sources_of(alloc, valued.operations.len(), path, path.len())?;
-    let guess = likely_of(alloc, rules, valued, path, &sources)?;
+    let guess = likely_of(alloc, rules, valued, path, &sources, last)?;
     if let Some(explanation) = explained_by(alloc, rules, valued, &guess.sources, &guess.places)? {
         return Ok(Seen::Answer(OrderVerdict::Obeys(explanation)));
     }
     if is_refuted_by(alloc, rules, valued, path, &guess)? {
         return Ok(Seen::Refuted(guess.depth));
     }
-    if is_open(valued, &sources, guess.open) {
-        return Ok(Seen::Open(guess.open));
+    let open = guess.open;
+    *last = guess.sources;
+    if is_open(valued, &sources, open) {
+        return Ok(Seen::Open(open));
     }
     match find_open(valued, &sources) {
         Some(x) => Ok(Seen::Open(x)),
