@@ -1,7 +1,7 @@
 -- What a look at a path gives.
 use Rattle.std.proofs.Common.{◌≡◌, ◌⊎◌, inl, inr, ℕ, ◌+◌, ◌<◌, ◌≤◌, Bool, true, false, List, [], ◌∷◌, ◌++◌, length, take, drop, refl, sym, ap, subst, ◌∙◌, arith}
-use Rattle.std.specs.Prelude.{Option, None, Some, IfSome, IfOk, Result, Ok, Err, slice_index, slice_set, replicate}
-use Rattle.std.proofs.lemmas.Bool.{cases_eq, cases_lt}
+use Rattle.std.specs.Prelude.{Option, None, Some, IfSome, IfOk, Result, Ok, Err, nat_lt, slice_index, slice_set, replicate}
+use Rattle.std.proofs.lemmas.Bool.{cases_eq, cases_lt, ltb-true}
 use Rattle.std.proofs.lemmas.List.{get_or-replicate, get_or-set_same, get_or-set_other, get_or-take, length-take-le, length-set, length-replicate, take_all}
 use Rattle.rising.specs.Found.{IsPermutationBelow}
 use Rattle.memory_models.specs.declared.kinds.Operation.{Operation}
@@ -152,3 +152,13 @@ pub chosen_more : (path : List (ℕ × ℕ)) (depth count k x s : ℕ) (wanted :
 chosen_more path depth count k x s false old new are low first is kept put = subst (λ z. AreChosen path depth count z) (sym (kept refl)) are
 chosen_more path depth count k x s true old new are low first is kept put =
     subst (λ z. AreChosen path depth count z) (sym (put refl)) (put_chosen path depth count k x s old are low (first refl) is)
+
+pub is_below : (k depth : ℕ) → nat_lt k depth ≡ true → k < depth
+is_below k depth is = ltb-true k depth is
+
+pub refuted_if : {E : Type 0} (rules : List Rule) (v : Valued) (path : List (ℕ × ℕ)) (depth : ℕ) (sources : List ℕ) (q : Unordered) (r : Result Bool E)
+    → Asks rules v sources q → AreChosen path depth (length v.operations.now) sources
+    → IfOk r (λ refuted. refuted ≡ true → (turn : ℕ → ℕ) → IsOrderWithSome q turn → ⊥)
+    → IfOk r (λ refuted. refuted ≡ true → GivesNone rules v (take depth path))
+refuted_if rules v path depth sources q (Ok refuted) asks chosen is = λ yes. refuted_path rules v path depth sources q asks chosen (is yes)
+refuted_if rules v path depth sources q (Err e) asks chosen is = tt
