@@ -20,7 +20,7 @@ use Rattle.model_values.specs.Forced.{IsOrderWithSome}
 use Rattle.model_values.specs.Searches.{IsCutOff}
 use Rattle.model_values.specs.Unordered.{ExplainsLog, IsOrderOf, IsPlacing}
 use Rattle.model_values.specs.ValuedVerdict.{CutsOffValues, ExplainsValues}
-use Rattle.model_values.specs.Values.{IsReader}
+use Rattle.model_values.specs.Values.{IsLeftBy, IsReader}
 use Rattle.model_values.proofs.Chosen.{all_at, all_size, all_sources, gives_words, keeps_all, keeps_sources, may_read_in}
 
 placing_of : (rules : List Rule) (v : Valued) (sources : List ℕ) (q : Unordered) → Asks rules v sources q → (placed : List Operation) (writes : List ℕ)
@@ -162,3 +162,25 @@ pub refuted_if : {E : Type 0} (rules : List Rule) (v : Valued) (path : List (ℕ
     → IfOk r (λ refuted. refuted ≡ true → GivesNone rules v (take depth path))
 refuted_if rules v path depth sources q (Ok refuted) asks chosen is = λ yes. refuted_path rules v path depth sources q asks chosen (is yes)
 refuted_if rules v path depth sources q (Err e) asks chosen is = tt
+
+-- of one reader more the source left what was found
+pub left_more : (v : Valued) (sources : List ℕ) (x : ℕ)
+    → ((y : ℕ) → y < x → IsReader v.operations.now y → IsLeftBy v.operations.now v.left.now v.found.now y (slice_index sources y))
+    → (IsReader v.operations.now x → IsLeftBy v.operations.now v.left.now v.found.now x (slice_index sources x)) → (y : ℕ) → y < x + 1
+    → IsReader v.operations.now y → IsLeftBy v.operations.now v.left.now v.found.now y (slice_index sources y)
+left_more v sources x before one y low = elim (cases_lt y x) [
+  | inl less ↦ before y less
+  | inr not ↦ (let same : x ≡ y = omega (arith, low, not) in
+      subst (λ z. IsReader v.operations.now z → IsLeftBy v.operations.now v.left.now v.found.now z (slice_index sources z)) same one)
+]
+
+pub left_read : (v : Valued) (sources : List ℕ) (x s : ℕ) → s ≡ slice_index sources x → MayRead v x s
+    → IsLeftBy v.operations.now v.left.now v.found.now x (slice_index sources x)
+left_read v sources x s is may = subst (λ z. IsLeftBy v.operations.now v.left.now v.found.now x z) is may.left
+
+-- no order gives the operations of a path their sources, where none has those
+pub breaks_path : {A : Type 0} (rules : List Rule) (v : Valued) (path : List (ℕ × ℕ)) (sources : List ℕ) (q : Unordered) (nodes : Option ℕ)
+    (verdict : OrderVerdict A) → verdict ≡ Breaks → Asks rules v sources q → AreChosen path (length path) (length v.operations.now) sources
+    → AreLeft v sources → IsOrderVerdict q nodes verdict → GivesNone rules v (take (length path) path)
+breaks_path {A = A} rules v path sources q nodes verdict is asks chosen left said =
+    all_path rules v path sources q asks chosen left (subst (λ z. IsOrderVerdict {A = A} q nodes z) is said)
