@@ -1,6 +1,6 @@
 -- What a look at a path gives.
 use Rattle.std.proofs.Common.{◌≡◌, ◌⊎◌, inl, inr, ℕ, ◌+◌, ◌<◌, ◌≤◌, Bool, true, false, List, [], ◌∷◌, ◌++◌, length, take, drop, refl, sym, ap, subst, ◌∙◌, arith}
-use Rattle.std.specs.Prelude.{Option, None, Some, IfSome, IfOk, Result, Ok, Err, nat_lt, slice_index, slice_set, replicate}
+use Rattle.std.specs.Prelude.{Option, None, Some, IfNone, IfSome, IfOk, Result, Ok, Err, is_some, nat_lt, slice_index, slice_set, replicate}
 use Rattle.std.proofs.lemmas.Bool.{cases_eq, cases_lt, ltb-true}
 use Rattle.std.proofs.lemmas.List.{get_or-replicate, get_or-set_same, get_or-set_other, get_or-take, length-take-le, length-set, length-replicate, take_all}
 use Rattle.rising.specs.Found.{IsPermutationBelow}
@@ -184,3 +184,15 @@ pub breaks_path : {A : Type 0} (rules : List Rule) (v : Valued) (path : List (�
     → AreLeft v sources → IsOrderVerdict q nodes verdict → GivesNone rules v (take (length path) path)
 breaks_path {A = A} rules v path sources q nodes verdict is asks chosen left said =
     all_path rules v path sources q asks chosen left (subst (λ z. IsOrderVerdict {A = A} q nodes z) is said)
+
+-- no operation is open
+pub left_where : (v : Valued) (sources : List ℕ) (found : Option ℕ) (some : Bool) → some ≡ is_some found → some ≡ false
+    → IfNone found (AreLeft v sources) → AreLeft v sources
+left_where v sources None some is none left = left
+left_where v sources (Some x) some is none left = absurd (let bad : true ≡ false = sym is ∙ none in cc)
+
+pub explained_ok : {A E : Type 0} (rules : List Rule) (v : Valued) (sources : List ℕ) (q : Unordered) (r : Result (Option (Explanation A)) E)
+    → Asks rules v sources q → AreLeft v sources → IfOk r (λ found. IfSome found (IsExplanation q))
+    → IfOk r (λ found. IfSome found (ExplainsValues rules v))
+explained_ok rules v sources q (Ok found) asks left is = explains_if rules v sources q found asks left is
+explained_ok rules v sources q (Err e) asks left is = tt

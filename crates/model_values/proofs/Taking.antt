@@ -5,12 +5,13 @@ use Rattle.std.proofs.lemmas.Bool.{cases_lt}
 use Rattle.std.proofs.lemmas.List.{take-append-drop}
 use Rattle.memory_models.specs.declared.kinds.Operation.{Operation}
 use Rattle.memory_models.specs.declared.kinds.Rule.{Rule}
+use Rattle.model_values.specs.declared.looking.Seen.{Seen}
 use Rattle.model_values.specs.declared.question.OrderVerdict.{OrderVerdict}
 use Rattle.model_values.specs.declared.question.OrderVerdict.TheVariants.{Breaks}
 use Rattle.model_values.specs.declared.valued.Valued.{Valued}
 use Rattle.model_values.specs.Choices.{Chooses, Forced, Takes, Refutes, Turns, Closes, CutsOffChoices, Explains, Gives, GivesNone, IsAbove, MayRead}
 use Rattle.model_values.specs.Choices.{source_in}
-use Rattle.model_values.specs.ChoiceSteps.{IsStep, TakesNext, TurnsBack}
+use Rattle.model_values.specs.ChoiceSteps.{IsAnswerAt, IsSeen, IsStep, TakesNext, TurnsBack}
 use Rattle.model_values.specs.Values.{IsReader}
 use Rattle.model_values.proofs.Chosen.{may_read_in}
 use Rattle.model_values.proofs.Choosing.{all_refuted}
@@ -71,3 +72,14 @@ pub cut_off : (rules : List Rule) (v : Valued) (path : List (ℕ × ℕ)) (looke
     → CutsOffChoices rules v nodes
 cut_off rules v path looked nodes from most least =
     record { path = path; looked = looked; search = from; left = 0; most = omega (arith, most, least); cut = inl refl }
+
+-- what is seen of a path
+pub seen_at : {A : Type 0} (rules : List Rule) (v : Valued) (path items : List (ℕ × ℕ)) (left : ℕ) (seen other : Seen A) → path ≡ items → seen ≡ other
+    → IsSeen rules v path left seen → IsSeen rules v items left other
+seen_at {A = A} rules v path items left seen other at is said =
+    subst (λ z. IsSeen {A = A} rules v items left z) is (subst (λ (p : List (ℕ × ℕ)). IsSeen {A = A} rules v p left seen) at said)
+
+-- the answer of a step
+pub step_answer : {A : Type 0} (rules : List Rule) (v : Valued) (old new : List (ℕ × ℕ)) (left : ℕ) (found : Option (OrderVerdict A))
+    (verdict : OrderVerdict A) → found ≡ Some verdict → IsStep rules v old new left found → IsAnswerAt rules v old left verdict
+step_answer {A = A} rules v old new left found verdict is step = subst (λ z. IsStep {A = A} rules v old new left z) is step
