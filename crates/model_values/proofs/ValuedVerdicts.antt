@@ -1,6 +1,6 @@
 -- The answer on sources is one on the words that were left and found.
 use Rattle.std.proofs.Common.{◌≡◌, inl, ℕ, List, length, sym, subst}
-use Rattle.std.specs.Prelude.{Some, slice_index}
+use Rattle.std.specs.Prelude.{IfOk, Result, Ok, Err, Some, slice_index}
 use Rattle.rising.specs.Found.{IsPermutationBelow}
 use Rattle.memory_models.specs.declared.kinds.Operation.{Operation}
 use Rattle.memory_models.specs.declared.kinds.Rule.{Rule}
@@ -34,3 +34,8 @@ judged_values rules v q nodes Breaks same ops asks is = λ placed writes turn va
   order = subst (λ (z : List Rule). IsMemoryOrder z placed writes turn) (sym same) order;
 })
 judged_values rules v q nodes Undecided same ops asks is = inl (record { question = q; asked = same; same = asks; cut = is })
+
+pub judged_ok : {A E : Type 0} (rules : List Rule) (v : Valued) (q : Unordered) (nodes : ℕ) (r : Result (OrderVerdict A) E) → q.rules.now ≡ rules
+    → q.operations.now ≡ v.operations.now → AsksValues v q → IfOk r (IsOrderVerdict q (Some nodes)) → IfOk r (IsJudgedOn rules v nodes)
+judged_ok rules v q nodes (Ok verdict) same ops asks is = judged_values rules v q nodes verdict same ops asks is
+judged_ok rules v q nodes (Err e) same ops asks is = tt
