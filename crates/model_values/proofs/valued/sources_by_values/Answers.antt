@@ -16,3 +16,15 @@ loop-x-preserved g c =
       each = known_more c.args.valued.now c.loop-x.x c.in-Some.source items c.push.new.self.items i.size
           c.in_ok-push.ensures.items i.each c.in-Some.ensures.some;
     }
+
+pub returns : goal.returns
+returns g c =
+    let v = c.args.valued.now in
+    let i = c.loop-x.invariant in
+    record {
+      size = omega (arith, i.size, c.loop-x.auto.x-end, c.loop-x-test.false);
+      each = λ x low. i.each x (omega (arith, low, c.loop-x-test.false));
+      unlike = c.in-None.ensures.none;
+      same = by_values v c.loop-x.sources.items c.in-None.ensures.none
+          (λ x low reads. (i.each x (omega (arith, low, c.loop-x-test.false))).left reads);
+    }
