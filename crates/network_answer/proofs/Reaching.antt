@@ -1,5 +1,5 @@
 -- Where packets come in a network whose routers choose, how many pairs they go between, and over how many hops.
-use Rattle.std.proofs.Common.{◌≡◌, inl, inr, ⊎_elim, ℕ, zero, suc, ◌+◌, ◌*◌, ◌<◌, ◌≤◌, ◌&&◌, ◌||◌, Bool, true, false, Some, None, List, [], length, refl, sym, ◌∙◌, ap, subst, arith}
+use Rattle.std.proofs.Common.{◌≡◌, inl, inr, ⊎_elim, ℕ, zero, suc, ◌+◌, ◌*◌, ◌<◌, ◌≤◌, ◌&&◌, ◌||◌, Bool, true, false, Some, None, List, [], ◌++◌, length, append_assoc, refl, sym, ◌∙◌, ap, subst, arith}
 use Rattle.std.specs.Prelude.{if◌then◌else◌, slice_get, Option, IfSome}
 use Rattle.std.proofs.lemmas.Bool.{cases_lt, cases_Bool, and_parts, and_from, or_cases, or_left, or_right}
 use Rattle.network_judge.specs.declared.table.Kind.{Kind}
@@ -27,7 +27,9 @@ use Rattle.network_answer.specs.declared.totals.Totals.{Totals}
 use Rattle.network_answer.specs.Reached.{AreEitherUp, AreReached, is_between, is_hop_up}
 use Rattle.network_answer.specs.Routing.{can_go_on, judged_travel, IsLastText}
 use Rattle.network_answer.specs.Answer.{totals_line}
+use Rattle.network_text.specs.declared.reading.Reading as reading
 use Rattle.network_answer.proofs.Counting.{count_same, count_none}
+use Rattle.network_answer.proofs.Sized.{three_parts}
 
 -- so many numbers pass a test
 pub count_is : (p : ℕ → Bool) (n : ℕ) → IsCountOf (λ x. p x ≡ true) n (count_below p n)
@@ -203,12 +205,10 @@ module _ (t : ChoiceTable) (replies : List Reply) where
   on_travel (Judged (NoEscape f)) is = tt
   on_travel (Judged (Cycle edges)) is = tt
 
--- totals of lists are those of the same lists
-pub totals_moved : (kinds of_kinds : List Kind) (joins of_joins : List Join) (ways : ℕ) (choices : List ℕ) (marks : List Bool) (s : Totals) → kinds ≡ of_kinds
-    → joins ≡ of_joins → HasChosenTotals (choosing_of kinds joins ways choices marks) s → HasChosenTotals (choosing_of of_kinds of_joins ways choices marks) s
-totals_moved kinds of_kinds joins of_joins ways choices marks s one two holds =
-    subst (λ k. HasChosenTotals (choosing_of k of_joins ways choices marks) s) one
-    (subst (λ j. HasChosenTotals (choosing_of kinds j ways choices marks) s) two holds)
+-- what holds of lists holds of the same lists
+pub lists_moved : (P : List Kind → List Join → Type 0) (kinds of_kinds : List Kind) (joins of_joins : List Join) → kinds ≡ of_kinds → joins ≡ of_joins
+    → P of_kinds of_joins → P kinds joins
+lists_moved P kinds of_kinds joins of_joins one two holds = subst (λ k. P k joins) (sym one) (subst (λ j. P of_kinds j) (sym two) holds)
 
 -- the line stands last where packets can go on, and else nothing
 pub last_put : (on : Bool) (t : ChoiceTable) (totals : Totals) (text : List ℕ) → on ≡ true → HasChosenTotals t totals → text ≡ totals_line totals
@@ -217,3 +217,18 @@ last_put on t totals text is holds told = subst (λ b. IsLastText b t text) (sym
 
 pub last_none : (on : Bool) (t : ChoiceTable) (text : List ℕ) → on ≡ false → text ≡ [] → IsLastText on t text
 last_none on t text is told = subst (λ b. IsLastText b t text) (sym is) told
+
+-- what stands last does so of the same lists
+pub last_moved : {A : Type 0} (new old : reading.Reading A) (ways : ℕ) (choices listed : List ℕ) (flags marks : List Bool) (on : Bool)
+    (last : List ℕ) → new ≡ old → choices ≡ listed → flags ≡ marks
+    → IsLastText on (choosing_of new.kinds.items new.joins.items ways choices flags) last
+    → IsLastText on (choosing_of old.kinds.items old.joins.items ways listed marks) last
+last_moved new old ways choices listed flags marks on last same is marked stands =
+    subst (λ (m : List Bool). IsLastText on (choosing_of old.kinds.items old.joins.items ways listed m) last) marked
+    (subst (λ (c : List ℕ). IsLastText on (choosing_of old.kinds.items old.joins.items ways c flags) last) is
+    (subst (λ f. IsLastText on (choosing_of f.kinds.items f.joins.items ways choices flags) last) same stands))
+
+-- the four parts of a text
+pub four_parts : (a b c d made more all : List ℕ) → made ≡ a ++ b → more ≡ made ++ c → all ≡ more ++ d → all ≡ a ++ (b ++ (c ++ d))
+four_parts a b c d made more all is next last =
+    last ∙ (ap (λ s. s ++ d) (three_parts a b c made more is next) ∙ (append_assoc a (b ++ c) d ∙ ap (λ s. a ++ s) (append_assoc b c d)))

@@ -141,8 +141,8 @@ pub(crate) fn last_text<A: Allocator + Copy>(
         return Ok(text);
     }
     let known = judged_travel(judged);
-    let (kinds, joins) = (&fixed.kinds, &fixed.joins);
-    let totals = chosen_totals(alloc, kinds, joins, ways, choices, marks, known)?;
+    let kinds = &fixed.kinds;
+    let totals = chosen_totals(alloc, kinds, &fixed.joins, ways, choices, marks, known)?;
     put_totals(&mut text, &totals)?;
     Ok(text)
 }
