@@ -6,3 +6,4 @@ pub mod Causes
 pub mod Totals
 pub mod Shorter
 pub mod Reached
+pub mod Named

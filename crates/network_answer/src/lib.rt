@@ -10,6 +10,7 @@ pub mod jam;
 pub mod judgement;
 mod judging;
 mod lengths;
+pub mod named;
 pub mod one_flit;
 mod reached;
 pub mod routing;

@@ -13,3 +13,4 @@ pub mod ChoosingRead
 pub mod ChoiceLists
 pub mod Tiles
 pub mod Routing
+pub mod Called

@@ -4,6 +4,7 @@
 
 mod all_pairs;
 pub mod before;
+pub mod called;
 mod choice_lists;
 pub mod choosing;
 mod choosing_lines;
