@@ -1,34 +1,54 @@
 //! The judge of networks, from a text to an output.
 
+ghost use Rattle.std.specs.Prelude.{◌≡◌};
 ghost use Rattle.std.specs.Str.Lines.{lines};
 ghost use Rattle.program_fault.specs.Done.{output};
-ghost use Rattle.command_verdicts.specs.Printed.{AnswersNetwork, PrintsNetwork};
+ghost use Rattle.command_verdicts.specs.Printed.{is_chosen, AnswersNetwork, PrintsNetwork};
 
-use network_answer::{Answer, routing_answer, routing_answer_once};
+use network_answer::named::named;
+use network_answer::{Answer, Cause, routing_answer, routing_answer_once};
 use program_fault::ProgramFault;
 use report_lines::Out;
 use report_lines::output::put_all;
 use std::alloc::Allocator;
 
+/// Whether routers choose, by the first cause of a verdict.
+fn is_chosen(causes: &[Cause]) -> bool
+    ensures { result ≡ is_chosen causes.now }
+{
+    match causes {
+        [Cause::Chooses, ..] => true,
+        _ => false,
+    }
+}
+
 /// Judges the network of a text, and prints the verdict: the numbers of its channels if they can rise, so
 /// that it never deadlocks; or the first pair without a route; or a cycle of channels, and behind it the
 /// channels that fill up where the network deadlocks. Where routers choose among several channels,
 /// the numbers come with a line on how far packets can go, and the verdict may also be the first
-/// channel without an escape, or the first choice that can't stand. Answers with what was printed, whether
-/// the numbers rise, and why the verdict is so.
+/// channel without an escape, or the first choice that can't stand. Behind each number of a channel stands
+/// what the text calls it, where `names` are asked for. Answers with the verdict without them, whether the
+/// numbers rise, and why the verdict is so.
 ///
 /// Errors: the text's first fault, or out of memory; and nothing was written then. If the output
 /// fails, a beginning was written.
 pub fn network_text<A: Allocator + Copy, W: Out>(
     alloc: A,
     network: &[u8],
+    names: bool,
     out: &mut W,
 ) -> Result<Answer<A>, ProgramFault>
-    ensures { AnswersNetwork A (lines network.now) (output (W.taken out.old) (W.failures out.old))
+    ensures { AnswersNetwork A network.now names (output (W.taken out.old) (W.failures out.old))
         (output (W.taken out.new) (W.failures out.new)) result }
 {
     let answer = routing_answer(alloc, network)?;
-    put_all(out, &answer.text)?;
+    if !names {
+        put_all(out, &answer.text)?;
+        return Ok(answer);
+    }
+    let chosen = is_chosen(&answer.causes);
+    let text = named(alloc, network, &answer.kinds, chosen, &answer.text)?;
+    put_all(out, &text)?;
     Ok(answer)
 }
 
