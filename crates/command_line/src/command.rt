@@ -195,7 +195,8 @@ pub fn name_of(job: &Job) -> &'static str
 /// misused.
 pub fn read_command<'a, S: AsStr>(alloc: Global, words: &'a [S]) -> Result<Job<'a>, NoRequest>
     ensures named { IfOk result (λ job. name_by (map S.text words.entry.now) ≡ Some (name_of job)) }
-    ensures given { IfOk result (λ job. IfSome (rows_by (map S.text words.entry.now)) (AreOfJob job)) }
+    ensures given { IfOk result (λ job. IfSome
+        (rows_by (map S.text words.entry.now)) (AreOfJob job)) }
     ensures limits { IfOk result AreJobLimits }
     ensures refused { IfErr result (TellsNoRequest (map S.text words.entry.now)) }
 {

@@ -112,7 +112,8 @@ fn put_option<W: fmt::Write>(
     kind: WordKind,
     about: &str,
 ) -> fmt::Result
-    ensures { WritesOnOk W.write_str_gives f.old result (option_text name.now kind about.now) f.new }
+    ensures { WritesOnOk W.write_str_gives f.old result
+        (option_text name.now kind about.now) f.new }
 {
     write!(f, "option {name} {kind} {about}")
 }

@@ -5,9 +5,12 @@ ghost use Rattle.std.specs.String.{string_bytes};
 ghost use Rattle.hex.specs.Hex.{decode_of, encode_lower};
 ghost use Rattle.core_laws.specs.Machine.{RunsOn, core_after, shown};
 ghost use Rattle.machine_asked.specs.Rounds.{rounds_of};
-ghost use Rattle.command_live.specs.Records.{IsTheText, LoadsRecord, SavesKept, told_unrestored, told_unspelled};
-ghost use Rattle.command_live.specs.Obeying.{AsksMachine, MakesKeptFair, MakesKeptRounds, MakesStep, Obeys};
-ghost use Rattle.command_live.specs.Obeying.{ReopensMachine, Reports, TellsOrder, WaitsFor, is_move, told_word};
+ghost use Rattle.command_live.specs.Records.{IsTheText, LoadsRecord, SavesKept, told_unrestored};
+ghost use Rattle.command_live.specs.Records.{told_unspelled};
+ghost use Rattle.command_live.specs.Obeying.{AsksMachine, MakesKeptFair, MakesKeptRounds};
+ghost use Rattle.command_live.specs.Obeying.{MakesStep, Obeys};
+ghost use Rattle.command_live.specs.Obeying.{ReopensMachine, Reports, TellsOrder, WaitsFor};
+ghost use Rattle.command_live.specs.Obeying.{is_move, told_word};
 
 use crate::rows::{rows_from, rows_text};
 use crate::said::Said;

@@ -1,4 +1,5 @@
-ghost use Rattle.std.specs.Prelude.{◌≡◌, ◌<◌, ◌≤◌, ◌-◌, ℕ, All, IfErr, IfOk, [], length, map, min, slice_index_or};
+ghost use Rattle.std.specs.Prelude.{◌≡◌, ◌<◌, ◌≤◌, ◌-◌, ℕ, All, IfErr, IfOk, [], length, map, min};
+ghost use Rattle.std.specs.Prelude.{slice_index_or};
 ghost use Rattle.std.specs.List.{range_with_len};
 ghost use Rattle.std.specs.Str.Lines.{lines};
 ghost use Rattle.torus.specs.Shape.{tiles_of};
@@ -13,7 +14,8 @@ ghost use Rattle.worker_run.specs.Working.{HasWorked, Working};
 ghost use Rattle.program_fault.specs.Done.{Does, output};
 ghost use Rattle.program_fault.specs.Outcome.{IsTextsFault};
 ghost use Rattle.command_texts.specs.Run.{IsNoFault};
-ghost use Rattle.command_run.specs.Workers.{IsMadeByWorkers, IsOfEnded, IsTakenIn, LetsAll, PrintsWorkers, first_held};
+ghost use Rattle.command_run.specs.Workers.{IsMadeByWorkers, IsOfEnded, IsTakenIn, LetsAll};
+ghost use Rattle.command_run.specs.Workers.{PrintsWorkers, first_held};
 ghost use Rattle.command_run.specs.Workers.{tiles_of_worker, new_worker};
 ghost use Rattle.command_run.specs.Ends.{IsShownEnd};
 ghost use Rattle.command_run.specs.Watched.{HearsWorkers, TellsWorkers};

@@ -1,6 +1,7 @@
 //! Laws of schedules, each the contract of a function that does nothing.
 
-ghost use Rattle.std.specs.Prelude.{◌≡◌, ◌+◌, ◌<◌, ◌^◌, ℕ, List, Bool, [], ◌∷◌, ◌++◌, length, Result, Ok, All};
+ghost use Rattle.std.specs.Prelude.{◌≡◌, ◌+◌, ◌<◌, ◌^◌, ℕ, List, Bool, [], ◌∷◌, ◌++◌, length};
+ghost use Rattle.std.specs.Prelude.{Result, Ok, All};
 ghost use Rattle.std.specs.Prelude.{flat_map};
 ghost use Rattle.std.specs.Str.Lines.{lines};
 ghost use Rattle.torus.specs.declared.step.Step.{Step};

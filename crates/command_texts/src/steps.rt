@@ -3,7 +3,8 @@ ghost use Rattle.std.specs.Str.Lines.{lines};
 ghost use Rattle.program_fault.specs.Done.{Does, output};
 ghost use Rattle.program_fault.specs.Outcome.{IsReadFault, IsTextsFault};
 ghost use Rattle.command_texts.specs.Ends.{ShowsReached};
-ghost use Rattle.command_texts.specs.Run.{HasMoved, HasRun, IsRunOfMachine, IsNoFault, PrintsRun, asked_of};
+ghost use Rattle.command_texts.specs.Run.{HasMoved, HasRun, IsRunOfMachine, IsNoFault, PrintsRun};
+ghost use Rattle.command_texts.specs.Run.{asked_of};
 ghost use Rattle.command_texts.specs.Telling.{TellsSteps};
 
 use crate::ProgramFault;

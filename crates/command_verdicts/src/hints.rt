@@ -2,7 +2,8 @@
 
 ghost use Rattle.std.specs.Prelude.{◌≡◌, map};
 ghost use Rattle.std.specs.Str.Lines.{lines};
-ghost use Rattle.command_verdicts.specs.Hints.{are_no_comment, begins_anynet, begins_table, has_byte};
+ghost use Rattle.command_verdicts.specs.Hints.{are_no_comment, begins_anynet, begins_table};
+ghost use Rattle.command_verdicts.specs.Hints.{has_byte};
 ghost use Rattle.command_verdicts.specs.Hints.{names_nodes, names_text, parts_cells};
 
 use lexer::{first_words, next_line};

@@ -5,7 +5,8 @@ ghost use Rattle.std.specs.List.{flat_map};
 ghost use Rattle.std.specs.Str.{is_utf8};
 ghost use Rattle.std.specs.Str.Lines.{lines};
 ghost use Rattle.command_verdicts.specs.Json.{byte_by_number, further_string, hex_digit, json_byte};
-ghost use Rattle.command_verdicts.specs.Json.{json_object, json_string, json_strings, verdict_of_status};
+ghost use Rattle.command_verdicts.specs.Json.{json_object, json_string, json_strings};
+ghost use Rattle.command_verdicts.specs.Json.{verdict_of_status};
 ghost use Rattle.command_verdicts.specs.Json.{verdict_word};
 
 use lexer::next_line;

@@ -3,7 +3,8 @@
 ghost use Rattle.std.specs.Prelude.{◌≡◌, true, false};
 ghost use Rattle.std.specs.Str.Lines.{lines};
 ghost use Rattle.program_fault.specs.Done.{output};
-ghost use Rattle.command_verdicts.specs.Modelled.{PrintsModels, PrintsModelsOfReport, is_report_text};
+ghost use Rattle.command_verdicts.specs.Modelled.{PrintsModels, PrintsModelsOfReport};
+ghost use Rattle.command_verdicts.specs.Modelled.{is_report_text};
 ghost use Rattle.command_verdicts.specs.Modelled.{options_of};
 
 use model_answer::{NoAnswer, Obeys, Options, WeakAnswer, model_answer};

@@ -2,7 +2,8 @@
 //! ends with.
 
 ghost use Rattle.std.specs.Prelude.{◌≡◌, option_map};
-ghost use Rattle.command_verdicts.specs.Told.{judged_status, tried_text, unfit_text, verdict_text_of};
+ghost use Rattle.command_verdicts.specs.Told.{judged_status, tried_text, unfit_text};
+ghost use Rattle.command_verdicts.specs.Told.{verdict_text_of};
 ghost use Rattle.command_verdicts.specs.Told.{is_obeyed, modelled_status, told_status, status_by};
 ghost use Rattle.command_verdicts.specs.Told.{judged_verdict, modelled_verdict};
 

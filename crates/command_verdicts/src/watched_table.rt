@@ -5,7 +5,8 @@ ghost use Rattle.std.specs.Str.Lines.{lines};
 ghost use Rattle.torus.specs.declared.fault.Fault.TheVariants as fault;
 ghost use Rattle.program_fault.specs.declared.fault.ProgramFault.TheVariants as program;
 ghost use Rattle.command_verdicts.specs.Tables.{IsTableFault};
-ghost use Rattle.command_verdicts.specs.WatchedTable.{IsWatchedTable, IsWatchedText, verdict_of_watch};
+ghost use Rattle.command_verdicts.specs.WatchedTable.{IsWatchedTable, IsWatchedText};
+ghost use Rattle.command_verdicts.specs.WatchedTable.{verdict_of_watch};
 ghost use Rattle.command_verdicts.specs.Judging.{IsTraceFault};
 
 use crate::Judged;

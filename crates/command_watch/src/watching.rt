@@ -6,7 +6,8 @@ ghost use Rattle.trace_laws.specs.declared.event.Event.{Event};
 ghost use Rattle.trace_watch.specs.Follows.{Tracks};
 ghost use Rattle.command_watch.specs.Stream.{after_stream_line, nothing_streamed};
 ghost use Rattle.command_watch.specs.Views.{stream_of};
-ghost use Rattle.command_watch.specs.Watching.{IsKnownBefore, JudgesEvent, JudgesLine, TakesStreamLine};
+ghost use Rattle.command_watch.specs.Watching.{IsKnownBefore, JudgesEvent, JudgesLine};
+ghost use Rattle.command_watch.specs.Watching.{TakesStreamLine};
 ghost use Rattle.command_watch.specs.Watching.{opening_of_head};
 
 use crate::open_issue::event_of;

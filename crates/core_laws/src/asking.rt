@@ -36,7 +36,8 @@ pub fn agents_may_try()
 /// has no request left to serve: its service isn't enabled. The second clause says it of tiles that
 /// show the state.
 pub fn full_banks_serve_nothing()
-    ensures reached { (l : Load) → IsAcceptedLoad l → (steps : List Step) (n t : ℕ) (tile : TileState)
+    ensures reached { (l : Load) → IsAcceptedLoad l →
+        (steps : List Step) (n t : ℕ) (tile : TileState)
         → slice_get (state_after l steps n).tiles t ≡ Some tile
         → length tile.bank.entries ≡ home_room (tiles_of l.shape) t l.scripts
         → (attempt : Step) → agent_tile attempt.agent ≡ t → agent_kind attempt.agent ≡ Bank

@@ -1,6 +1,7 @@
 //! Laws of scripts that grow, each the contract of a function that does nothing.
 
-ghost use Rattle.std.specs.Prelude.{◌≡◌, ◌≢◌, false, option_map, ◌+◌, ◌*◌, ◌<◌, ◌++◌, ◌∷◌, [], ℕ, List, Some, Ok};
+ghost use Rattle.std.specs.Prelude.{◌≡◌, ◌≢◌, false, option_map, ◌+◌, ◌*◌, ◌<◌, ◌++◌, ◌∷◌, [], ℕ};
+ghost use Rattle.std.specs.Prelude.{List, Some, Ok};
 ghost use Rattle.std.specs.Prelude.{slice_get, slice_set, length};
 ghost use Rattle.torus.specs.declared.step.Step.{Step};
 ghost use Rattle.packet.specs.declared.kinds.Reply.{Reply};

@@ -1,6 +1,7 @@
 //! Laws of every run of the core, each the contract of a function that does nothing.
 
-ghost use Rattle.std.specs.Prelude.{◌≡◌, ◌≢◌, ◌≤◌, ◌<◌, ℕ, List, [], take, length, Some, None, true, false};
+ghost use Rattle.std.specs.Prelude.{◌≡◌, ◌≢◌, ◌≤◌, ◌<◌, ℕ, List, [], take, length, Some, None};
+ghost use Rattle.std.specs.Prelude.{true, false};
 ghost use Rattle.std.specs.Prelude.{option_map, slice_get, IfSome};
 ghost use Rattle.torus.specs.Shape.{tiles_of, dims_of};
 ghost use Rattle.torus.specs.Choices.{has_choice as numbered_has};
@@ -214,10 +215,12 @@ pub fn steps_touch_one_agent()
 /// In every state that a run reaches each agent finds what it asks for: a router flits that name
 /// tiles, a processor and a bank the next flits of packets to them, and room for what they note.
 pub fn agents_find_what_they_ask()
-    ensures router { (l : Load) → IsAcceptedLoad l → (steps : List Step) (n t : ℕ) (tile : TileState)
+    ensures router { (l : Load) → IsAcceptedLoad l →
+        (steps : List Step) (n t : ℕ) (tile : TileState)
         → slice_get (state_after l steps n).tiles t ≡ Some tile
         → RouterAsks (design_of l) t (state_after l steps n).around }
-    ensures processor { (l : Load) → IsAcceptedLoad l → (steps : List Step) (n t : ℕ) (tile : TileState)
+    ensures processor { (l : Load) → IsAcceptedLoad l →
+        (steps : List Step) (n t : ℕ) (tile : TileState)
         → slice_get (state_after l steps n).tiles t ≡ Some tile
         → ProcessorAsks (design_of l) (script_of l.scripts t) t tile.processor
         (state_after l steps n).around }

@@ -1,7 +1,8 @@
 //! Laws of every run of an accepted load, and of every machine that one reaches, each the contract of a function that
 //! does nothing.
 
-ghost use Rattle.std.specs.Prelude.{◌≡◌, ◌+◌, ◌<◌, ◌≤◌, ◌++◌, ◌∷◌, [], ◌↔◌, ℕ, List, Some, None, true, false, length};
+ghost use Rattle.std.specs.Prelude.{◌≡◌, ◌+◌, ◌<◌, ◌≤◌, ◌++◌, ◌∷◌, [], ◌↔◌, ℕ, List, Some, None};
+ghost use Rattle.std.specs.Prelude.{true, false, length};
 ghost use Rattle.std.specs.Prelude.{slice_get};
 ghost use Rattle.torus.specs.declared.step.Step.{Step};
 ghost use Rattle.script_lines.specs.Machine.{MachineSpec, IsAcceptedMachine};
@@ -16,7 +17,8 @@ ghost use Rattle.core_laws.specs.Rounds.{moves_in};
 ghost use Rattle.core_laws.specs.Core.{Load, run_of, step, round};
 ghost use Rattle.core_laws.specs.Runs.{IsAcceptedLoad};
 ghost use Rattle.core_laws.specs.ProgressMoves.{IsLive, moves_made, most_moves};
-ghost use Rattle.core_laws.specs.Machine.{Core, IsAfter, IsLawful, MakesMove, built_to, book_after, core_after_load};
+ghost use Rattle.core_laws.specs.Machine.{Core, IsAfter, IsLawful, MakesMove, built_to, book_after};
+ghost use Rattle.core_laws.specs.Machine.{core_after_load};
 ghost use Rattle.core_laws.specs.Machine.{core_next, core_after, all_finished};
 ghost use Rattle.core_laws.specs.Delivered.{DeliversInOrder};
 ghost use Rattle.core_laws.specs.Reported.{ReportsWell};

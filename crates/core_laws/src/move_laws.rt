@@ -4,7 +4,8 @@ ghost use Rattle.std.specs.Prelude.{◌≡◌, ◌+◌, ◌≤◌, ◌++◌, ℕ
 ghost use Rattle.torus.specs.declared.step.Step.{Step};
 ghost use Rattle.core_laws.specs.Rounds.{after_attempts, moves_in};
 ghost use Rattle.core_laws.specs.Core.{Load, step, after};
-ghost use Rattle.core_laws.specs.Machine.{Core, IsAfter, built_to, book_after, core_after, core_after_load};
+ghost use Rattle.core_laws.specs.Machine.{Core, IsAfter, built_to, book_after, core_after};
+ghost use Rattle.core_laws.specs.Machine.{core_after_load};
 ghost use Rattle.core_laws.specs.ProgressMoves.{moves_made, most_moves};
 ghost use Rattle.core_laws.specs.Enabled.{IsSublist, enabled_of, AreEnabled};
 ghost use Rattle.core_laws.specs.MachineMoves.{moves_of, moves_from, AreMoves, AreMovesFrom};

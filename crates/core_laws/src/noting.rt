@@ -11,7 +11,8 @@ ghost use Rattle.core_laws.specs.Agents.{agent_tile};
 ghost use Rattle.core_laws.specs.Core.{Load, State, design_of, step, after, records_of};
 ghost use Rattle.core_laws.specs.Runs.{IsAcceptedLoad};
 ghost use Rattle.core_laws.specs.Machine.{book_after, event_in};
-ghost use Rattle.core_laws.specs.Notes.{FitsLoad, RoomToNoteIssue, RoomToNoteService, RoomToNoteAnswer, book_noted};
+ghost use Rattle.core_laws.specs.Notes.{FitsLoad, RoomToNoteIssue, RoomToNoteService};
+ghost use Rattle.core_laws.specs.Notes.{RoomToNoteAnswer, book_noted};
 ghost use Rattle.core_laws.specs.Notes.{index_served, IsLevel, RisesByOne};
 
 /// What is noted of an enabled attempt by the counts of its tile is its event: of any book.
@@ -32,7 +33,8 @@ pub fn notes_tell_the_book()
 pub fn books_have_room()
     ensures book { (l : Load) → IsAcceptedLoad l → (steps : List Step)
         → FitsLoad l (book_after l steps) }
-    ensures issue { (l : Load) → IsAcceptedLoad l → (steps : List Step) (attempt : Step) (next : State)
+    ensures issue { (l : Load) → IsAcceptedLoad l →
+        (steps : List Step) (attempt : Step) (next : State)
         → step (design_of l) (after l steps) attempt ≡ Some next
         → (before left : TileState)
         → slice_get (after l steps).tiles (agent_tile attempt.agent) ≡ Some before
@@ -48,7 +50,8 @@ pub fn books_have_room()
         → (e : Entry) → slice_get left.bank.entries (length before.bank.entries) ≡ Some e
         → RoomToNoteService l (book_after l steps) (agent_tile attempt.agent) e.source
         (index_served (records_of next) e) }
-    ensures answer { (l : Load) → IsAcceptedLoad l → (steps : List Step) (attempt : Step) (next : State)
+    ensures answer { (l : Load) → IsAcceptedLoad l →
+        (steps : List Step) (attempt : Step) (next : State)
         → step (design_of l) (after l steps) attempt ≡ Some next
         → (before left : TileState)
         → slice_get (after l steps).tiles (agent_tile attempt.agent) ≡ Some before
@@ -72,7 +75,8 @@ pub fn services_leave_records()
 /// An enabled attempt leaves at its tile as many operations, answers and entries as there were, or
 /// one more of one of them.
 pub fn counts_rise_by_one()
-    ensures rise { (l : Load) → IsAcceptedLoad l → (steps : List Step) (attempt : Step) (next : State)
+    ensures rise { (l : Load) → IsAcceptedLoad l →
+        (steps : List Step) (attempt : Step) (next : State)
         → step (design_of l) (after l steps) attempt ≡ Some next
         → (before left : TileState)
         → slice_get (after l steps).tiles (agent_tile attempt.agent) ≡ Some before

@@ -1,6 +1,7 @@
 //! Laws of moves in every run of the core, each the contract of a function that does nothing.
 
-ghost use Rattle.std.specs.Prelude.{◌≡◌, ◌↔◌, ◌<◌, ◌≤◌, ◌+◌, ℕ, List, take, Some, None, true, false, slice_get};
+ghost use Rattle.std.specs.Prelude.{◌≡◌, ◌↔◌, ◌<◌, ◌≤◌, ◌+◌, ℕ, List, take, Some, None, true};
+ghost use Rattle.std.specs.Prelude.{false, slice_get};
 ghost use Rattle.torus.specs.declared.step.Step.{Step};
 ghost use Rattle.packet.specs.declared.kinds.Operation.{Operation};
 ghost use Rattle.one_order.specs.Following.{is_finished};
@@ -10,7 +11,8 @@ ghost use Rattle.core_laws.specs.Rounds.{IsOn, IsEnabled, moves_in, Finishes};
 ghost use Rattle.core_laws.specs.Tile.{TileState};
 ghost use Rattle.core_laws.specs.Core.{Load, design_of, step, round, run_of};
 ghost use Rattle.core_laws.specs.Runs.{IsAcceptedLoad, state_after};
-ghost use Rattle.core_laws.specs.ProgressMoves.{enabled_step, IsLive, tiles_finished, moves_made, most_moves, moves_left};
+ghost use Rattle.core_laws.specs.ProgressMoves.{enabled_step, IsLive, tiles_finished, moves_made};
+ghost use Rattle.core_laws.specs.ProgressMoves.{most_moves, moves_left};
 
 /// No dead state: in every state that a run reaches, while some script isn't finished, some step of
 /// a round is enabled; and a round from there makes a move.

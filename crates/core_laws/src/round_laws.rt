@@ -2,7 +2,8 @@
 //! function that does nothing.
 
 ghost use Rattle.std.specs.Prelude.{◌≡◌, ◌+◌, ◌<◌, ◌≤◌, ℕ, Bool, true, List, Option, Some, None};
-ghost use Rattle.core_laws.specs.Rounds.{IsOn, first_enabled, IsEnabled, moves_in, after_attempts, Finishes};
+ghost use Rattle.core_laws.specs.Rounds.{IsOn, first_enabled, IsEnabled, moves_in, after_attempts};
+ghost use Rattle.core_laws.specs.Rounds.{Finishes};
 ghost use Rattle.core_laws.specs.Rounds.{IsBoundedWork};
 
 /// The first enabled choice of a list is enabled, where one is found; and where none is found, no

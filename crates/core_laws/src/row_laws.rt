@@ -1,6 +1,7 @@
 //! Laws of the row that shows a state, each the contract of a function that does nothing.
 
-ghost use Rattle.std.specs.Prelude.{◌≡◌, ◌≢◌, ◌↔◌, ◌<◌, ◌≤◌, ◌+◌, ◌*◌, ◌%◌, ◌++◌, [], ◌∷◌, ℕ, List, Some, All};
+ghost use Rattle.std.specs.Prelude.{◌≡◌, ◌≢◌, ◌↔◌, ◌<◌, ◌≤◌, ◌+◌, ◌*◌, ◌%◌, ◌++◌, [], ◌∷◌, ℕ, List};
+ghost use Rattle.std.specs.Prelude.{Some, All};
 ghost use Rattle.std.specs.Prelude.{length, replicate, slice_get, slice_index, take};
 ghost use Rattle.torus.specs.Shape.{dims_of, tiles_of};
 ghost use Rattle.torus.specs.declared.step.Step.{Step};
@@ -10,8 +11,10 @@ ghost use Rattle.flit_buffer.specs.Surroundings.{Surroundings, ring, AreRings, S
 ghost use Rattle.core_laws.specs.Tile.{TileState};
 ghost use Rattle.core_laws.specs.Agents.{TilePlace, agent_kind, agent_tile};
 ghost use Rattle.core_laws.specs.Beginning.{new_tile};
-ghost use Rattle.core_laws.specs.Refinement.{IsSurrounded, IsPossibleChoice, KeepsOthers, OnlyAgent};
-ghost use Rattle.core_laws.specs.Core.{Load, State, design_of, first_state, first_tile, after, step, show};
+ghost use Rattle.core_laws.specs.Refinement.{IsSurrounded, IsPossibleChoice, KeepsOthers};
+ghost use Rattle.core_laws.specs.Refinement.{OnlyAgent};
+ghost use Rattle.core_laws.specs.Core.{Load, State, design_of, first_state, first_tile, after};
+ghost use Rattle.core_laws.specs.Core.{step, show};
 ghost use Rattle.core_laws.specs.Runs.{IsAcceptedLoad, state_after};
 ghost use Rattle.core_laws.specs.Row.{row_showing, row_of};
 ghost use Rattle.core_laws.specs.Taken.{words_taken};
@@ -47,7 +50,8 @@ pub fn rows_show_states()
         → ((i : ℕ) → i < length (ring (state_after l steps n).around.rings x).channel.flits
         → ((ring (state_after l steps n).around.rings x).front + i) % l.depth ≢ q)
         → slice_index (row_of (design_of l) (state_after l steps n)) (x * l.depth + q) ≡ 0 }
-    ensures words { (l : Load) → IsAcceptedLoad l → (steps : List Step) (n a : ℕ) → a < length l.opening
+    ensures words { (l : Load) → IsAcceptedLoad l → (steps : List Step) (n a : ℕ) →
+        a < length l.opening
         → slice_index (row_of (design_of l) (state_after l steps n))
         (channel_count l.shape * l.depth + a)
         ≡ slice_index (show (length l.opening) (state_after l steps n)).memory a }
@@ -86,7 +90,8 @@ pub fn attempts_are_word_operations()
         → slice_get (state_after l steps n).tiles (agent_tile attempt.agent) ≡ Some tile
         → IsPossibleChoice (design_of l) (agent_tile attempt.agent) tile
         (state_after l steps n).around (agent_kind attempt.agent) attempt.choice }
-    ensures operations { (l : Load) → IsAcceptedLoad l → (steps : List Step) (n : ℕ) (attempt : Step)
+    ensures operations { (l : Load) → IsAcceptedLoad l →
+        (steps : List Step) (n : ℕ) (attempt : Step)
         → IsWordOperation (design_of l) (state_after l steps n) attempt }
 {}
 

@@ -7,9 +7,11 @@ ghost use Rattle.torus.specs.declared.shape.Class.TheVariants.{Request, Reply};
 ghost use Rattle.dateline_route.specs.Next.{next_of};
 ghost use Rattle.dateline_route.specs.Walk.{input_of};
 ghost use Rattle.channel_number.specs.Order.{channel_at};
-ghost use Rattle.channel_number.specs.Ports.{port_count, injection_channel, ejection_channel, input_channel};
+ghost use Rattle.channel_number.specs.Ports.{port_count, injection_channel, ejection_channel};
+ghost use Rattle.channel_number.specs.Ports.{input_channel};
 ghost use Rattle.channel_number.specs.Ports.{output_channel};
-ghost use Rattle.channel_number.specs.Ports.{output_number, input_router, IsInput, HasInput, IsOutput, HasOutput};
+ghost use Rattle.channel_number.specs.Ports.{output_number, input_router, IsInput, HasInput};
+ghost use Rattle.channel_number.specs.Ports.{IsOutput, HasOutput};
 ghost use Rattle.packet.specs.declared.kinds.Packet.{Packet};
 ghost use Rattle.packet.specs.Spelling.{Spells, source_of, destination_of};
 ghost use Rattle.packet.specs.Flit.{field};
@@ -79,7 +81,8 @@ pub fn tiles_have_their_ends()
         → dst < tiles_of s
         → (torus_net s depth).joins (injection_channel s src class) (ejection_channel s dst class)
         ≡ true }
-    ensures own_injection { (s : Shape) (t u : ℕ) (class other : Class) → t < tiles_of s → u < tiles_of s
+    ensures own_injection { (s : Shape) (t u : ℕ) (class other : Class) →
+        t < tiles_of s → u < tiles_of s
         → injection_channel s t class ≡ injection_channel s u other → (t ≡ u) × (class ≡ other) }
     ensures own_ejection { (s : Shape) (t u : ℕ) (class other : Class) → t < tiles_of s
         → u < tiles_of s

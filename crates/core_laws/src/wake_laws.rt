@@ -27,7 +27,8 @@ ghost use Rattle.core_laws.specs.Routers.{router_moved, latch_at};
 /// A step leaves the choices of another agent that look at nothing that it changes enabled, or not
 /// enabled, as they were.
 pub fn steps_leave_distant_choices()
-    ensures { (l : Load) → IsAcceptedLoad l → (steps : List Step) (attempt other : Step) (next : State)
+    ensures { (l : Load) → IsAcceptedLoad l →
+        (steps : List Step) (attempt other : Step) (next : State)
         → step (design_of l) (after l steps) attempt ≡ Some next → other.agent ≢ attempt.agent
         → (Disturbs (design_of l) (after l steps) attempt other → ⊥)
         → (step (design_of l) next other ≡ None)
@@ -119,7 +120,8 @@ pub fn rounds_may_skip_sleepers()
 /// the take is whose latch it empties, and its puts of full latches that it may free are. A put of an
 /// empty latch isn't enabled. And it hangs on the channels and the routers alone.
 pub fn moves_keep_sleeping_ports()
-    ensures others { (l : Load) → IsAcceptedLoad l → (steps : List Step) (attempt : Step) (op : WordOp)
+    ensures others { (l : Load) → IsAcceptedLoad l →
+        (steps : List Step) (attempt : Step) (op : WordOp)
         (next : State) (f : PortFlags) → step_op (design_of l) (after l steps) attempt ≡ Some op
         → step (design_of l) (after l steps) attempt ≡ Some next
         → ((t : ℕ) → agent_number t Router ≢ attempt.agent)
@@ -144,13 +146,15 @@ pub fn moves_keep_sleeping_ports()
 /// an agent of which none is counted is asleep.
 pub fn moves_keep_sleeping_choices()
     ensures all { (d : Design) (s : State) → OtherChoicesSleep d s (λ agent choice. true) }
-    ensures kept { (l : Load) → IsAcceptedLoad l → (steps : List Step) (attempt : Step) (op : WordOp)
+    ensures kept { (l : Load) → IsAcceptedLoad l →
+        (steps : List Step) (attempt : Step) (op : WordOp)
         (next : State) (awake : ℕ → Choice → Bool)
         → step_op (design_of l) (after l steps) attempt ≡ Some op
         → step (design_of l) (after l steps) attempt ≡ Some next
         → OtherChoicesSleep (design_of l) (after l steps) awake
         → OtherChoicesSleep (design_of l) next (choices_woken (design_of l) attempt.agent op awake) }
-    ensures enabled { (l : Load) → IsAcceptedLoad l → (steps : List Step) (attempt other : Step) (op : WordOp)
+    ensures enabled { (l : Load) → IsAcceptedLoad l →
+        (steps : List Step) (attempt other : Step) (op : WordOp)
         → step_op (design_of l) (after l steps) attempt ≡ Some op
         → Disturbs (design_of l) (after l steps) attempt other → can_enable op other.choice ≡ true }
     ensures agents { (d : Design) (s : State) (awake : ℕ → Choice → Bool) (agent : ℕ)

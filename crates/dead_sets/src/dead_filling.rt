@@ -5,7 +5,8 @@ ghost use Rattle.std.specs.List.{count_by, list_all};
 ghost use Rattle.network_judge.specs.Table.{ejects};
 ghost use Rattle.network_judge.specs.Marks.{is_marked_at};
 ghost use Rattle.network_adaptive.specs.Choosing.{choosing_of, IsShaped};
-ghost use Rattle.dead_sets.specs.FillingFlags.{filling_of, waits_by, TellsInTurn, IsDeadBy, CanDeadlock};
+ghost use Rattle.dead_sets.specs.FillingFlags.{filling_of, waits_by, TellsInTurn, IsDeadBy};
+ghost use Rattle.dead_sets.specs.FillingFlags.{CanDeadlock};
 
 use crate::filling::{FilledChannel, fill_in_turn, waits_by};
 use network_judge::{Join, Kind, Reply};

@@ -1,6 +1,7 @@
 //! Whether channels can be filled so that packets of one flit in them wait for one another.
 
-ghost use Rattle.std.specs.Prelude.{◌≡◌, ◌+◌, ◌*◌, ◌<◌, ◌≤◌, ℕ, Bool, true, false, [], length, IfOk};
+ghost use Rattle.std.specs.Prelude.{◌≡◌, ◌+◌, ◌*◌, ◌<◌, ◌≤◌, ℕ, Bool, true, false, [], length};
+ghost use Rattle.std.specs.Prelude.{IfOk};
 ghost use Rattle.std.specs.Prelude.{List, map, slice_get, Some};
 ghost use Rattle.std.specs.List.{count_by};
 ghost use Rattle.network_judge.specs.declared.table.Kind.TheVariants.{Ejection};
@@ -8,7 +9,8 @@ ghost use Rattle.network_judge.specs.Table.{table_of, joins_of, ejects, is_recei
 ghost use Rattle.network_judge.specs.Marks.{is_marked_at};
 ghost use Rattle.network_adaptive.specs.Spread.{block_base, choice_step};
 ghost use Rattle.network_adaptive.specs.Choosing.{choosing_of, IsShaped};
-ghost use Rattle.dead_sets.specs.FillingFlags.{filling_of, comes_by, fills_by, answered_by, leaves_free};
+ghost use Rattle.dead_sets.specs.FillingFlags.{filling_of, comes_by, fills_by, answered_by};
+ghost use Rattle.dead_sets.specs.FillingFlags.{leaves_free};
 ghost use Rattle.dead_sets.specs.FillingFlags.{waits_by, TellsInTurn, IsDeadBy, CanDeadlock};
 
 use network_adaptive::spread::{base_of, goes_on};
@@ -104,7 +106,8 @@ fn fills_by<A: Allocator>(
     item: &FilledChannel<A>,
 ) -> bool
     requires room { count_by ejects kinds.now * (length kinds.now * ways) ≤ length choices.now }
-    ensures { result ≡ fills_by kinds.now joins.now choices.now ways taken.now (filling_of item.now) }
+    ensures { result ≡ fills_by kinds.now joins.now choices.now ways taken.now
+        (filling_of item.now) }
 {
     if item.at >= kinds.len() {
         return false;

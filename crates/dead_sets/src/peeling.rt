@@ -100,10 +100,12 @@ fn look<'a, A: Allocator>(
     requires place { place < length order.old.items }
     requires so_far { IsPeeling count at.now chains.now.edges.now place opened.old left.old
         order.old.items }
-    requires closed { AreClosedBy count at.now chains.now.edges.now place opened.old order.old.items }
+    requires closed { AreClosedBy count at.now chains.now.edges.now place
+        opened.old order.old.items }
     ensures so_far { OnOk result (IsPeeling count at.now chains.now.edges.now (place + 1) opened.new
         left.new order.new.items) }
-    ensures closed { OnOk result (AreClosedBy count at.now chains.now.edges.now (place + 1) opened.new
+    ensures closed { OnOk result (AreClosedBy count at.now chains.now.edges.now
+        (place + 1) opened.new
         order.new.items) }
     ensures fewer { OnOk result (not_zero left.new + length order.new.items
         ≤ not_zero left.old + length order.old.items) }

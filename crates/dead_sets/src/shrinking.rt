@@ -61,7 +61,8 @@ fn await_choices<A: Allocator>(
     awaited: &mut Awaited<A>,
 ) -> Result<(), AllocError>
     requires x { x < length lists.now.kinds.now }
-    requires room { base + length lists.now.kinds.now * lists.now.ways ≤ length lists.now.choices.now }
+    requires room { base + length lists.now.kinds.now * lists.now.ways ≤
+        length lists.now.choices.now }
 {
     let count = lists.kinds.len();
     for k in 0..lists.ways {

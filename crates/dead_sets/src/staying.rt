@@ -26,7 +26,8 @@ pub struct ChoiceLists<'a> {
     /// The choices.
     pub choices: &'a [u32],
     ghost room: { count_by ejects kinds.now * (length kinds.now * ways) ≤ length choices.now },
-    ghost within: { (i j : ℕ) → joins_of (table_of [] joins.now []) i j ≡ true → i < length kinds.now },
+    ghost within: { (i j : ℕ) → joins_of (table_of [] joins.now []) i j ≡ true →
+        i < length kinds.now },
 }
 
 /// Where packets begin and come, by their destinations; nothing for a channel that is none.
@@ -116,7 +117,8 @@ pub(crate) fn goals_of<A: Allocator + Copy>(
 /// Whether packets to a destination that wait in a channel can go on to channels of a set alone.
 pub(crate) fn stays(lists: &ChoiceLists<'_>, set: &[bool], base: usize, x: usize) -> bool
     requires x { x < length lists.now.kinds.now }
-    requires room { base + length lists.now.kinds.now * lists.now.ways ≤ length lists.now.choices.now }
+    requires room { base + length lists.now.kinds.now * lists.now.ways ≤
+        length lists.now.choices.now }
 {
     let count = lists.kinds.len();
     if !goes_on(lists.kinds, x) {
@@ -139,7 +141,8 @@ pub(crate) fn waits_in(
     seen: &[bool],
     x: usize,
 ) -> bool
-    requires room { base + length lists.now.kinds.now * lists.now.ways ≤ length lists.now.choices.now }
+    requires room { base + length lists.now.kinds.now * lists.now.ways ≤
+        length lists.now.choices.now }
 {
     x < lists.kinds.len() && is_up(seen, x) && stays(lists, set, base, x)
 }
@@ -153,7 +156,8 @@ fn raise_staying(
     seen: &[bool],
     staying: &mut [bool],
 )
-    requires room { base + length lists.now.kinds.now * lists.now.ways ≤ length lists.now.choices.now }
+    requires room { base + length lists.now.kinds.now * lists.now.ways ≤
+        length lists.now.choices.now }
 {
     for place in 0..listed.len() {
         let x = listed[place];

@@ -65,7 +65,8 @@ fn come<A: Allocator + Copy>(
     coming: &mut Coming<A>,
     stripped: &mut Stripped<A>,
 ) -> Result<(), AllocError>
-    requires room { base + length lists.now.kinds.now * lists.now.ways ≤ length lists.now.choices.now }
+    requires room { base + length lists.now.kinds.now * lists.now.ways ≤
+        length lists.now.choices.now }
 {
     if y >= coming.seen.len() || y >= coming.parents.len() || y >= lists.kinds.len() {
         return Ok(());
@@ -100,7 +101,8 @@ fn come_from_senders<A: Allocator + Copy>(
     coming: &mut Coming<A>,
     stripped: &mut Stripped<A>,
 ) -> Result<(), AllocError>
-    requires room { base + length lists.now.kinds.now * lists.now.ways ≤ length lists.now.choices.now }
+    requires room { base + length lists.now.kinds.now * lists.now.ways ≤
+        length lists.now.choices.now }
 {
     let count = lists.kinds.len();
     for place in 0..starts.len() {
@@ -133,7 +135,8 @@ fn come_from<A: Allocator + Copy>(
     stripped: &mut Stripped<A>,
 ) -> Result<(), AllocError>
     requires x { x < length lists.now.kinds.now }
-    requires room { base + length lists.now.kinds.now * lists.now.ways ≤ length lists.now.choices.now }
+    requires room { base + length lists.now.kinds.now * lists.now.ways ≤
+        length lists.now.choices.now }
 {
     let count = lists.kinds.len();
     for k in 0..lists.ways {
@@ -189,7 +192,8 @@ fn has_waiting(
     listed: &[usize],
     left: &[bool],
 ) -> bool
-    requires room { base + length lists.now.kinds.now * lists.now.ways ≤ length lists.now.choices.now }
+    requires room { base + length lists.now.kinds.now * lists.now.ways ≤
+        length lists.now.choices.now }
 {
     for place in 0..listed.len() {
         let x = listed[place];

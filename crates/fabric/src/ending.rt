@@ -1,5 +1,6 @@
 //! What a seat tells of its tiles, and the end of a run.
-ghost use Rattle.std.specs.Prelude.{◌≡◌, ◌↔◌, ◌≤◌, true, IsNone, IsTrue, IfSome, Some, length, slice_get, is_some};
+ghost use Rattle.std.specs.Prelude.{◌≡◌, ◌↔◌, ◌≤◌, true, IsNone, IsTrue, IfSome, Some, length};
+ghost use Rattle.std.specs.Prelude.{slice_get, is_some};
 ghost use Rattle.std.specs.Option.{option_copied};
 ghost use Rattle.torus.specs.Shape.{tiles_of};
 ghost use Rattle.fabric_rule.specs.AbstractScripts.{AreFinished};

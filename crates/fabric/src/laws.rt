@@ -32,7 +32,8 @@ pub fn known_answers_come_first()
 /// A seat that met another, or holds the tiles of both, knows as answered all that either knew as
 /// answered before. So what is issued after a meeting stands, once served, after all of that.
 pub fn meetings_tell_all_answers()
-    ensures met { (v u w : Knowing) (p i : ℕ) → IsAcceptedLoad v.load → u.load ≡ v.load → Learns v u w
+    ensures met { (v u w : Knowing) (p i : ℕ) → IsAcceptedLoad v.load →
+        u.load ≡ v.load → Learns v u w
         → IsAnsweredIn v.load v.run p i ⊎ IsAnsweredIn u.load u.run p i
         → IsAnsweredIn w.load w.run p i }
     ensures joined { (v u w : Knowing) (p i : ℕ) → IsAcceptedLoad v.load → u.load ≡ v.load

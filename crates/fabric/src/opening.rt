@@ -1,5 +1,6 @@
 //! The fabric and its seats are made.
-ghost use Rattle.std.specs.Prelude.{◌≡◌, ◌⊎◌, ◌↔◌, ◌-◌, ◌*◌, ◌<◌, ◌≤◌, IfOk, IfErr, [], map, replicate, Err};
+ghost use Rattle.std.specs.Prelude.{◌≡◌, ◌⊎◌, ◌↔◌, ◌-◌, ◌*◌, ◌<◌, ◌≤◌, IfOk, IfErr, [], map};
+ghost use Rattle.std.specs.Prelude.{replicate, Err};
 ghost use Rattle.torus.specs.Shape.{tiles_of, dims_of};
 ghost use Rattle.torus.specs.declared.fault.Fault.TheVariants as fault;
 ghost use Rattle.channel_number.specs.Order.{channel_count};

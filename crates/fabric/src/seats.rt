@@ -3,7 +3,8 @@ ghost use Rattle.std.specs.Prelude.{◌≡◌, ◌≤◌, ◌↔◌, ◌⊎◌, 
 ghost use Rattle.fabric_rule.specs.Known.{word_after};
 ghost use Rattle.fabric_rule.specs.Groups.{Extends};
 ghost use Rattle.fabric.specs.Turns.{Sees};
-ghost use Rattle.fabric.specs.Seats.{MovesSeats, Idles, Grows, IsNotMine, IsSeatOf, Learns, JoinsTo, Placed, mix_at};
+ghost use Rattle.fabric.specs.Seats.{MovesSeats, Idles, Grows, IsNotMine, IsSeatOf, Learns};
+ghost use Rattle.fabric.specs.Seats.{JoinsTo, Placed, mix_at};
 ghost use Rattle.fabric.specs.Seats.{seat_knows, with_run};
 ghost use Rattle.fabric.specs.Lawful.{HasLawfulRun, KeepsBothFirst};
 ghost use Rattle.fabric.specs.declared.steps.Turned.TheVariants.{Moved, Idle, NotMine};
@@ -178,7 +179,8 @@ impl<A: Allocator> Fabric<A> {
         ensures other { Learns other one result.1 }
         ensures one_order { HasLawfulRun result.0.load result.0.run
             × HasLawfulRun result.1.load result.1.run }
-        ensures answers_first { KeepsBothFirst one other result.0 × KeepsBothFirst one other result.1 }
+        ensures answers_first { KeepsBothFirst one other result.0 ×
+            KeepsBothFirst one other result.1 }
     {
         let TileSeat {
             slots,

@@ -1,5 +1,6 @@
 // Values are taken out of the slots of a list, into slots of their own.
-ghost use Rattle.std.specs.Prelude.{◌≡◌, ◌≢◌, ◌↔◌, true, false, ℕ, ◌<◌, ◌≤◌, IfOk, length, map, Some, None, slice_get};
+ghost use Rattle.std.specs.Prelude.{◌≡◌, ◌≢◌, ◌↔◌, true, false, ℕ, ◌<◌, ◌≤◌, IfOk, length, map};
+ghost use Rattle.std.specs.Prelude.{Some, None, slice_get};
 
 use std::alloc::{AllocError, Allocator};
 

@@ -12,9 +12,11 @@ ghost use Rattle.fabric_rule.specs.Ended.{AreAllFinished};
 /// Where one processor has seen the end after a run, every script is finished: the processor saw that
 /// all have reported, and only one whose script is finished reports.
 pub fn ends_seen_are_ends()
-    ensures followers { (load : Load) → IsAcceptedLoad load → (run : List Step) (t : ℕ) (p : TilePlace)
+    ensures followers { (load : Load) → IsAcceptedLoad load →
+        (run : List Step) (t : ℕ) (p : TilePlace)
         → known load run t ≡ Some p
         → p.processor.state.seen ≡ true → AreAllFinished load run }
-    ensures scripts { (load : Load) → IsAcceptedLoad load → (run : List Step) → AreAllFinished load run
+    ensures scripts { (load : Load) → IsAcceptedLoad load → (run : List Step) →
+        AreAllFinished load run
         → AreFinished (run_of load run) (length run) load.scripts }
 {}

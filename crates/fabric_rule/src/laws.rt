@@ -2,7 +2,8 @@
 
 ghost use mathlib.Core.Option.{some};
 ghost use lib.ListN.{get_elem?};
-ghost use Rattle.std.specs.Prelude.{◌≡◌, ◌<◌, ◌+◌, ◌*◌, ℕ, true, [], ◌∷◌, ◌++◌, List, length, set, slice_index, Some};
+ghost use Rattle.std.specs.Prelude.{◌≡◌, ◌<◌, ◌+◌, ◌*◌, ℕ, true, [], ◌∷◌, ◌++◌, List, length, set};
+ghost use Rattle.std.specs.Prelude.{slice_index, Some};
 ghost use Rattle.torus.specs.Shape.{tiles_of};
 ghost use Rattle.channel_number.specs.Order.{channel_count};
 ghost use Rattle.torus.specs.declared.step.Step.{Step};
@@ -12,17 +13,20 @@ ghost use Rattle.flit_buffer.specs.declared.word_op.WordOp.TheVariants.{Store};
 ghost use Rattle.tile.specs.Agents.{TilePlace};
 ghost use Rattle.core_laws.specs.Core.{Load};
 ghost use Rattle.core_laws.specs.Runs.{IsAcceptedLoad};
-ghost use Rattle.fabric_rule.specs.Known.{tile_of, known, ShowsBeginning, word_after, row_length, op_of, moves, left_by, Suits};
+ghost use Rattle.fabric_rule.specs.Known.{tile_of, known, ShowsBeginning, word_after, row_length};
+ghost use Rattle.fabric_rule.specs.Known.{op_of, moves, left_by, Suits};
 ghost use Rattle.fabric_rule.specs.Told.{Away, Tells, made};
 ghost use Rattle.fabric_rule.specs.View.{View, blank};
-ghost use Rattle.fabric_rule.specs.Groups.{In, Apart, Others, Mine, Named, ToldOfGroup, both, knowing, with_groups};
+ghost use Rattle.fabric_rule.specs.Groups.{In, Apart, Others, Mine, Named, ToldOfGroup, both};
+ghost use Rattle.fabric_rule.specs.Groups.{knowing, with_groups};
 ghost use Rattle.fabric_rule.specs.Rule.{Kept, Attempted};
 
 /// Only its own steps change a tile. So by a run that is the beginning of a longer one, after which its
 /// tile made no step, and by one word of a row that shows the longer run, a seat knows whether its
 /// attempt is enabled after the longer run, and what stands then.
 pub fn a_seat_knows_enough()
-    ensures tile { (load : Load) → IsAcceptedLoad load → (run more : List Step) (t : ℕ) → Away t more
+    ensures tile { (load : Load) → IsAcceptedLoad load →
+        (run more : List Step) (t : ℕ) → Away t more
         → known load (run ++ more) t ≡ known load run t }
     ensures word { (load : Load) → IsAcceptedLoad load
         → (row : List ℕ) (run more : List Step) (attempt : Step) (p : TilePlace) (op : WordOp)
@@ -55,7 +59,8 @@ pub fn stores_are_blind()
 /// The rule begins with one seat that knows the empty run, over the row that shows the state before any
 /// step; and the run of a seat that has every tile is the longest.
 pub fn the_rule_begins_and_ends()
-    ensures begins { (load : Load) (row : List ℕ) (v : View) → ShowsBeginning load row [] → v.load ≡ load
+    ensures begins { (load : Load) (row : List ℕ) (v : View) →
+        ShowsBeginning load row [] → v.load ≡ load
         → v.run ≡ [] → v.told ≡ [] → Apart v.groups
         → Kept load row (v ∷ []) [] }
     ensures ends { (load : Load) (words : List ℕ) (views : List View) (r : List Step) (id : ℕ)

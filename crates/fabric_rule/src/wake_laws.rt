@@ -2,11 +2,13 @@
 
 ghost use mathlib.Core.Option.{some};
 ghost use lib.ListN.{get_elem?};
-ghost use Rattle.std.specs.Prelude.{◌≡◌, ◌≢◌, ℕ, Bool, true, false, List, [], ◌∷◌, ◌++◌, Some, None};
+ghost use Rattle.std.specs.Prelude.{◌≡◌, ◌≢◌, ℕ, Bool, true, false, List, [], ◌∷◌, ◌++◌, Some};
+ghost use Rattle.std.specs.Prelude.{None};
 ghost use Rattle.torus.specs.Shape.{Shape, dims_of};
 ghost use Rattle.torus.specs.declared.step.Step.{Step};
 ghost use Rattle.torus.specs.declared.step.Choice.{Choice};
-ghost use Rattle.torus.specs.declared.step.Choice.TheVariants.{Take, Credit, Look, TakeFrom, Put, CreditOf};
+ghost use Rattle.torus.specs.declared.step.Choice.TheVariants.{Take, Credit, Look, TakeFrom, Put};
+ghost use Rattle.torus.specs.declared.step.Choice.TheVariants.{CreditOf};
 ghost use Rattle.channel_number.specs.Ports.{port_count};
 ghost use Rattle.flit_buffer.specs.declared.word_op.WordOp.{WordOp};
 ghost use Rattle.tile.specs.declared.agent.Agent.TheVariants.{Processor, Router, Bank};
@@ -15,7 +17,8 @@ ghost use Rattle.tile.specs.Choices.{has_choice};
 ghost use Rattle.core_laws.specs.Core.{Load, design_of, after};
 ghost use Rattle.core_laws.specs.Runs.{IsAcceptedLoad};
 ghost use Rattle.core_laws.specs.ChoicesAsleep.{choices_woken};
-ghost use Rattle.core_laws.specs.Routers.{PortFlags, of_router, latch_at, ports_woken, router_moved};
+ghost use Rattle.core_laws.specs.Routers.{PortFlags, of_router, latch_at, ports_woken};
+ghost use Rattle.core_laws.specs.Routers.{router_moved};
 ghost use Rattle.machine_parts.specs.Awake.{choice_rested};
 ghost use Rattle.machine_parts.specs.Ports.{take_rested, put_rested, credit_rested};
 ghost use Rattle.fabric_rule.specs.Known.{tile_of, known, enabled, op_of, moves};

@@ -1,11 +1,13 @@
 //! The guard of fair rounds: it holds back what would begin while some operation has been out for too long.
 
-ghost use Rattle.std.specs.Prelude.{◌≡◌, ℕ, ◌+◌, ◌-◌, ◌≤◌, ◌==◌, nat_lt, false, List, if◌then◌else◌};
+ghost use Rattle.std.specs.Prelude.{◌≡◌, ℕ, ◌+◌, ◌-◌, ◌≤◌, ◌==◌, nat_lt, false, List};
+ghost use Rattle.std.specs.Prelude.{if◌then◌else◌};
 ghost use Rattle.torus.specs.Shape.{tiles_of};
 ghost use Rattle.one_order.specs.Observed.{list_at};
 ghost use Rattle.machine_parts.specs.Core.{step};
 ghost use Rattle.machine_parts.specs.Rounds.{moves_in};
-ghost use Rattle.machine_parts.specs.Machine.{RunsOn, MakesMove, core_after, built_to, all_finished};
+ghost use Rattle.machine_parts.specs.Machine.{RunsOn, MakesMove, core_after, built_to};
+ghost use Rattle.machine_parts.specs.Machine.{all_finished};
 ghost use Rattle.machine_core.specs.Oldest.{oldest};
 ghost use Rattle.machine_core.specs.Guarded.{guarded_round};
 ghost use Rattle.fair_rounds.specs.Guard.{guard_of, usual_guard, holds, guard_after, seen, counted};

@@ -25,9 +25,11 @@ ghost use Rattle.machine_core.specs.Arbiters.{Arbiter, IsArbiter, arbited_round,
 ghost use Rattle.machine_core.specs.Oldest.{age_of, RisesBy, oldest};
 ghost use Rattle.fair_rounds.specs.Guard.{Guarding, holds};
 ghost use Rattle.fair_rounds.specs.Hosts.{Handing, IsOut, WaitsLonger, IsHosted, NobodyWaits};
-ghost use Rattle.fair_rounds.specs.Hosts.{AreSuccessive, SeesMachines, IsRoundByRound, longest_wait, with_lines};
+ghost use Rattle.fair_rounds.specs.Hosts.{AreSuccessive, SeesMachines, IsRoundByRound};
+ghost use Rattle.fair_rounds.specs.Hosts.{longest_wait, with_lines};
 ghost use Rattle.fair_rounds.specs.Chores.{chores, issued_count, served_count};
-ghost use Rattle.fair_rounds.specs.Burden.{HasShortRoutes, AreShort, burden, toll, caps_sent, caps_whole};
+ghost use Rattle.fair_rounds.specs.Burden.{HasShortRoutes, AreShort, burden, toll, caps_sent};
+ghost use Rattle.fair_rounds.specs.Burden.{caps_whole};
 
 /// Where no route has more than 10 channels, 30 moves for each flit of the packets under way are as many
 /// as the flits of the network have still to do; and each event does of it what it counts, and adds what

@@ -18,7 +18,8 @@ ghost use Rattle.machine_parts.specs.Handed.{handed, moves_kept, refused};
 ghost use Rattle.machine_core.specs.Rounds.{NeedsRounds, rounds_of};
 ghost use Rattle.machine_core.specs.Loading.{HasLoaded, IsLoadFault, load_by};
 ghost use Rattle.fair_rounds.specs.Guard.{usual_guard};
-ghost use Rattle.machine_asked.specs.Asked.{IsAsked, IsNumberedLine, answer_to, has_spin, index_asked};
+ghost use Rattle.machine_asked.specs.Asked.{IsAsked, IsNumberedLine, answer_to, has_spin};
+ghost use Rattle.machine_asked.specs.Asked.{index_asked};
 ghost use Rattle.machine_asked.specs.Asked.{is_behind_spin, spins_with};
 ghost use Rattle.machine_asked.specs.Near.{AreNear};
 
@@ -69,7 +70,8 @@ impl<A: Allocator + Copy> AskedMachine<A> {
             (λ m. (l : Load) → load_by (lines machine.now) (lines scripts.now) ≡ Ok l
             → m.spins ≡ map has_spin l.scripts) }
         ensures guard { IfOk result (λ m. m.guard ≡ usual_guard m.core) }
-        ensures fault { IfErr result (IsLoadFault (load_by (lines machine.now) (lines scripts.now))) }
+        ensures fault { IfErr result (IsLoadFault
+            (load_by (lines machine.now) (lines scripts.now))) }
     {
         let machine = read_machine(alloc, machine)?;
         let scripts = read_scripts(alloc, scripts, &machine)?;

@@ -3,7 +3,8 @@
 ghost use Rattle.std.specs.Prelude.{◌≡◌, ◌+◌, ◌≤◌, ◌++◌, false, List, length};
 ghost use Rattle.torus.specs.declared.step.Step.{Step};
 ghost use Rattle.machine_parts.specs.Core.{Load, run_of, step};
-ghost use Rattle.machine_parts.specs.Machine.{IsAfter, MakesMove, RunsOn, all_finished, built_to, core_after};
+ghost use Rattle.machine_parts.specs.Machine.{IsAfter, MakesMove, RunsOn, all_finished, built_to};
+ghost use Rattle.machine_parts.specs.Machine.{core_after};
 ghost use Rattle.machine_parts.specs.ProgressMoves.{moves_left};
 ghost use Rattle.machine_parts.specs.Rounds.{moves_in};
 ghost use Rattle.machine_parts.specs.AbstractScripts.{AreFinished};

@@ -8,7 +8,8 @@ ghost use Rattle.machine_parts.specs.Rounds.{moves_in};
 ghost use Rattle.machine_parts.specs.Core.{step, attempts_of, round_at, round};
 ghost use Rattle.machine_parts.specs.Machine.{RunsOn, MakesMove, Steps, core_after, built_to};
 ghost use Rattle.machine_parts.specs.Machine.{all_finished, core_next};
-ghost use Rattle.torus.specs.Choices.{processor_choices, bank_choices, router_choices, is_of_processor, is_of_bank};
+ghost use Rattle.torus.specs.Choices.{processor_choices, bank_choices, router_choices};
+ghost use Rattle.torus.specs.Choices.{is_of_processor, is_of_bank};
 
 use crate::machine::Machine;
 use crate::noting::{Counts, lacks_room, note};

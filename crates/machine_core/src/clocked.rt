@@ -1,7 +1,8 @@
 //! Clocked rounds: each choice that is enabled when a round begins is attempted once. A first pass marks
 //! these choices, and a second one attempts them.
 
-ghost use Rattle.std.specs.Prelude.{◌≡◌, ◌+◌, ◌*◌, ◌%◌, ◌<◌, ◌≤◌, ◌++◌, ℕ, false, List, length, is_some};
+ghost use Rattle.std.specs.Prelude.{◌≡◌, ◌+◌, ◌*◌, ◌%◌, ◌<◌, ◌≤◌, ◌++◌, ℕ, false, List, length};
+ghost use Rattle.std.specs.Prelude.{is_some};
 ghost use Rattle.torus.specs.Shape.{tiles_of};
 ghost use Rattle.torus.specs.declared.step.Step.{Step};
 ghost use Rattle.machine_parts.specs.AbstractScripts.{AreFinished};
@@ -13,7 +14,8 @@ ghost use Rattle.machine_parts.specs.Machine.{core_after, built_to, all_finished
 ghost use Rattle.machine_parts.specs.Ports.{is_raised};
 ghost use Rattle.machine_core.specs.Clocked.{clocked_round, clocked_rounds, NeedsClocked};
 ghost use Rattle.machine_core.specs.Marked.{attempt_in, can_move, marked_between, marked_at};
-ghost use Rattle.machine_core.specs.Marked.{SkipsIdle, MarksPart, MarksTile, IsClear, KeepsOtherMarks};
+ghost use Rattle.machine_core.specs.Marked.{SkipsIdle, MarksPart, MarksTile, IsClear};
+ghost use Rattle.machine_core.specs.Marked.{KeepsOtherMarks};
 
 use crate::machine::Machine;
 use crate::part::{Marks, Part, choice_in};

@@ -1,11 +1,13 @@
-ghost use Rattle.std.specs.Prelude.{◌≡◌, ℕ, ◌<◌, ◌≤◌, ◌*◌, ◌/◌, [], ◌∷◌, replicate, nat_lt, if◌then◌else◌, IfOk};
+ghost use Rattle.std.specs.Prelude.{◌≡◌, ℕ, ◌<◌, ◌≤◌, ◌*◌, ◌/◌, [], ◌∷◌, replicate, nat_lt};
+ghost use Rattle.std.specs.Prelude.{if◌then◌else◌, IfOk};
 ghost use Rattle.torus.specs.Shape.{tiles_of};
 ghost use Rattle.std.specs.List.{list_any};
 ghost use Rattle.torus.specs.Choices.{processor_choices, bank_choices};
 ghost use Rattle.torus.specs.declared.step.Choice.{Choice};
 ghost use Rattle.core_laws.specs.Waking.{receiver_of, sender_of, processors};
 ghost use Rattle.core_laws.specs.Operations.{wake_places};
-ghost use Rattle.machine_parts.specs.Awake.{bit_of, is_awake, is_choice_awake, with_bits, woken, awake_after};
+ghost use Rattle.machine_parts.specs.Awake.{bit_of, is_awake, is_choice_awake, with_bits, woken};
+ghost use Rattle.machine_parts.specs.Awake.{awake_after};
 ghost use Rattle.machine_parts.specs.Awake.{rested, roused, all_roused, choice_rested};
 
 use crate::ends::{Ends, all_ends};

@@ -35,12 +35,14 @@ pub fn flags_keep_sleepers()
     ensures rested { (d : Design) (s : State) (agent : ℕ) (w : Awake)
         → OtherChoicesSleep d s (is_choice_awake w) → has_moved d s (attempts_at d.shape agent) ≡ false
         → OtherChoicesSleep d s (is_choice_awake (rested w agent)) }
-    ensures choice { (d : Design) (s : State) (agent : ℕ) (choice : Choice) (awake : ℕ → Choice → Bool)
+    ensures choice { (d : Design) (s : State) (agent : ℕ) (choice : Choice)
+        (awake : ℕ → Choice → Bool)
         → OtherChoicesSleep d s awake → agent_kind agent ≢ Router
         → has_choice (port_count (dims_of d.shape)) (agent_kind agent) choice ≡ true
         → step d s (record { agent = agent; choice = choice }) ≡ None
         → OtherChoicesSleep d s (choice_rested agent choice awake) }
-    ensures agents { (d : Design) (s : State) (w : Awake) → OtherChoicesSleep d s (is_choice_awake w)
+    ensures agents { (d : Design) (s : State) (w : Awake) →
+        OtherChoicesSleep d s (is_choice_awake w)
         → OthersSleep d s (is_awake w) }
 {}
 
@@ -50,7 +52,8 @@ pub fn roused_agents_are_awake()
     ensures one { (w : Awake) (agent k : ℕ) → is_awake (roused w agent) k ≡ false
         → (k ≢ agent) × (is_awake w k ≡ false) }
     ensures all { (w : Awake) (k : ℕ) → is_awake (all_roused w) k ≡ true }
-    ensures choice { (w : Awake) (agent k : ℕ) (c : Choice) → is_choice_awake (roused w agent) k c ≡ false
+    ensures choice { (w : Awake) (agent k : ℕ) (c : Choice) →
+        is_choice_awake (roused w agent) k c ≡ false
         → (k ≢ agent) × (is_choice_awake w k c ≡ false) }
     ensures choices { (w : Awake) (k : ℕ) (c : Choice) → is_choice_awake (all_roused w) k c ≡ true }
 {}

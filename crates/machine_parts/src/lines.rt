@@ -1,12 +1,14 @@
 //! A line at the end of a script, with the room that its operations need.
 
-ghost use Rattle.std.specs.Prelude.{◌≡◌, ◌≢◌, ℕ, ◌+◌, ◌<◌, ◌≤◌, Some, length, slice_get, OnOk, OnErr};
+ghost use Rattle.std.specs.Prelude.{◌≡◌, ◌≢◌, ℕ, ◌+◌, ◌<◌, ◌≤◌, Some, length, slice_get, OnOk};
+ghost use Rattle.std.specs.Prelude.{OnErr};
 ghost use Rattle.script_lines.specs.declared.line.Line.{Line};
 ghost use Rattle.script_lines.specs.Lines.{operations_of};
 ghost use Rattle.one_order.specs.Homes.{line_home_count};
 ghost use Rattle.tile.specs.Placed.{PlacedTile};
 ghost use Rattle.core_laws.specs.Appended.{changed_at};
-ghost use Rattle.machine_parts.specs.Grown.{tile_given, tile_wider, tile_narrower, tiles_given, HasRoomFor};
+ghost use Rattle.machine_parts.specs.Grown.{tile_given, tile_wider, tile_narrower, tiles_given};
+ghost use Rattle.machine_parts.specs.Grown.{HasRoomFor};
 
 use crate::TileAgents;
 use order_book::address;

@@ -3,7 +3,8 @@
 ghost use Rattle.std.specs.Prelude.{◌≡◌, IfErr, IfOk, map};
 ghost use Rattle.report_lines.specs.Line.{text_of};
 ghost use Rattle.report_check.specs.Good.{GoodReport};
-ghost use Rattle.machine_report.specs.Report.{IsReportOf, IsWithinLimits, machine_report, order_line, report_with};
+ghost use Rattle.machine_report.specs.Report.{IsReportOf, IsWithinLimits, machine_report};
+ghost use Rattle.machine_report.specs.Report.{order_line, report_with};
 
 use crate::reached::Reached;
 use crate::told::Told;

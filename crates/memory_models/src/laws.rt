@@ -2,7 +2,8 @@
 
 ghost use Rattle.std.specs.Prelude.{◌≡◌, ◌⊎◌, ◌+◌, ◌<◌, ℕ, true, List, length, slice_index};
 ghost use Rattle.memory_models.specs.declared.kinds.Operation.{Operation};
-ghost use Rattle.memory_models.specs.Trace.{IsMemoryTrace, is_load, is_write, operation_at, rule_at};
+ghost use Rattle.memory_models.specs.Trace.{IsMemoryTrace, is_load, is_write, operation_at};
+ghost use Rattle.memory_models.specs.Trace.{rule_at};
 ghost use Rattle.memory_models.specs.Trace.{AreOnOne};
 ghost use Rattle.memory_models.specs.Arcs.{IsChained};
 ghost use Rattle.memory_models.specs.Following.{IsChainedOn};

@@ -1,6 +1,7 @@
 //! What follows in a processor once a want of it is granted.
 
-ghost use Rattle.std.specs.Prelude.{◌≡◌, ◌≢◌, ◌<◌, ◌+◌, ◌==◌, if◌then◌else◌, ℕ, Option, unwrap_or, true, IsSome};
+ghost use Rattle.std.specs.Prelude.{◌≡◌, ◌≢◌, ◌<◌, ◌+◌, ◌==◌, if◌then◌else◌, ℕ, Option, unwrap_or};
+ghost use Rattle.std.specs.Prelude.{true, IsSome};
 ghost use Rattle.torus.specs.declared.step.Choice.TheVariants as chosen;
 ghost use Rattle.packet.specs.Answer.{flits_left};
 ghost use Rattle.packet.specs.declared.kinds.Operation.{Operation};

@@ -1,5 +1,7 @@
-ghost use Rattle.std.specs.Prelude.{◌≡◌, ◌<◌, ◌≤◌, ◌+◌, ◌==◌, Option, None, is_some, unwrap_or, true};
-ghost use Rattle.std.specs.Prelude.{vec_len, slice_index, IsTrue, IfOk, IfSome, IsSome, MatchOption};
+ghost use Rattle.std.specs.Prelude.{◌≡◌, ◌<◌, ◌≤◌, ◌+◌, ◌==◌, Option, None, is_some, unwrap_or};
+ghost use Rattle.std.specs.Prelude.{true};
+ghost use Rattle.std.specs.Prelude.{vec_len, slice_index, IsTrue, IfOk, IfSome, IsSome};
+ghost use Rattle.std.specs.Prelude.{MatchOption};
 ghost use Rattle.torus.specs.Shape.{tiles_of};
 ghost use Rattle.torus.specs.declared.step.Choice.TheVariants as chosen;
 ghost use Rattle.torus.specs.declared.step.Stepped.TheVariants as stepped;
@@ -14,9 +16,11 @@ ghost use Rattle.flit_buffer.specs.Wants.{HasPort};
 ghost use Rattle.one_order.specs.Scripts.{IsFollowable};
 ghost use Rattle.one_order.specs.Following.{is_finished};
 ghost use Rattle.one_order.specs.ProcessorRecord.{ready};
-ghost use Rattle.one_order.specs.ProcessorTable.{request_flits, flits_due, processor_wants, processor_after};
+ghost use Rattle.one_order.specs.ProcessorTable.{request_flits, flits_due, processor_wants};
+ghost use Rattle.one_order.specs.ProcessorTable.{processor_after};
 ghost use Rattle.net_interface.specs.Beginning.{first_processor, processor_ports};
-ghost use Rattle.net_interface.specs.Place.{processor_with_agent, is_tagged, accepts, IsAcceptableToProcessor};
+ghost use Rattle.net_interface.specs.Place.{processor_with_agent, is_tagged, accepts};
+ghost use Rattle.net_interface.specs.Place.{IsAcceptableToProcessor};
 
 use crate::record::Record;
 use crate::requests::request_flits;
@@ -191,7 +195,8 @@ impl<A: Allocator> Processor<A> {
     /// of this flit.
     fn is_tagged(&self, flit: u64) -> bool
         ensures value { result ≡ is_tagged self.now.agent.state flit }
-        ensures acceptable { IsTrue result → IsAcceptableToProcessor self.now.agent.state chosen.Take flit }
+        ensures acceptable { IsTrue result →
+            IsAcceptableToProcessor self.now.agent.state chosen.Take flit }
     {
         let head = self.begun.unwrap_or(flit);
         self.holder(tag_told(head)).is_some()
@@ -201,7 +206,8 @@ impl<A: Allocator> Processor<A> {
     /// the tag is out that stands in the head flit of the packet that it begins or goes on with.
     pub fn is_acceptable(&self, choice: Choice, got: u64) -> bool
         ensures value { result ≡ accepts self.now.agent.state choice got }
-        ensures acceptable { IsTrue result → IsAcceptableToProcessor self.now.agent.state choice got }
+        ensures acceptable { IsTrue result →
+            IsAcceptableToProcessor self.now.agent.state choice got }
     {
         match choice {
             Choice::Take => got == 0 || self.is_tagged(got),

@@ -1,6 +1,7 @@
 //! The record that a processor keeps of its operations.
 
-ghost use Rattle.std.specs.Prelude.{◌≡◌, ◌≤◌, ◌<◌, ◌+◌, true, ℕ, [], ◌∷◌, ◌++◌, Some, IfOk, IfSome, IsSome, option_map};
+ghost use Rattle.std.specs.Prelude.{◌≡◌, ◌≤◌, ◌<◌, ◌+◌, true, ℕ, [], ◌∷◌, ◌++◌, Some, IfOk, IfSome};
+ghost use Rattle.std.specs.Prelude.{IsSome, option_map};
 ghost use Rattle.std.specs.Prelude.{replicate, length, OnOk, OnErr};
 ghost use Rattle.std.specs.Prelude.{slice_set, vec_len, vec_capacity};
 ghost use Rattle.torus.specs.declared.step.OpId.{OpId};
@@ -8,7 +9,8 @@ ghost use Rattle.script_lines.specs.Lines.{operation_count, operations_of, menti
 ghost use Rattle.tag_table.specs.Tags.{free_tag, holder_of, out_count};
 ghost use Rattle.one_order.specs.Scripts.{IsFollowable};
 ghost use Rattle.one_order.specs.Following.{is_finished, left_of};
-ghost use Rattle.one_order.specs.ProcessorRecord.{ready, index_of, issued_by, answered_by, record_with};
+ghost use Rattle.one_order.specs.ProcessorRecord.{ready, index_of, issued_by, answered_by};
+ghost use Rattle.one_order.specs.ProcessorRecord.{record_with};
 ghost use Rattle.one_order.specs.ProcessorRecord.{first_record};
 
 use one_order::{Answer, Follower};

@@ -1,6 +1,7 @@
 //! The dependencies of a cycle: each channel, and how it leads on to the next.
 
-ghost use Rattle.std.specs.Prelude.{◌≡◌, ◌+◌, ◌*◌, ◌^◌, ◌<◌, ◌≤◌, ℕ, true, [], length, map, IfOk, slice_get, Some};
+ghost use Rattle.std.specs.Prelude.{◌≡◌, ◌+◌, ◌*◌, ◌^◌, ◌<◌, ◌≤◌, ℕ, true, [], length, map, IfOk};
+ghost use Rattle.std.specs.Prelude.{slice_get, Some};
 ghost use Rattle.network_judge.specs.Table.{table_of, joins_of, ejects};
 ghost use Rattle.std.specs.List.{count_by};
 ghost use Rattle.network_judge.specs.declared.table.Kind.TheVariants.{Ejection};

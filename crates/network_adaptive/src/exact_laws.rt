@@ -1,9 +1,11 @@
 //! Laws of the verdicts on adaptive networks: each network has exactly one.
 
 ghost use Rattle.std.specs.Prelude.{◌≡◌, ◌⊎◌, ℕ, Bool};
-ghost use Rattle.network_adaptive.specs.Choices.{AdaptiveNet, IsAdaptiveNet, HasEscapes, AreReplyEnds};
+ghost use Rattle.network_adaptive.specs.Choices.{AdaptiveNet, IsAdaptiveNet, HasEscapes};
+ghost use Rattle.network_adaptive.specs.Choices.{AreReplyEnds};
 ghost use Rattle.network_adaptive.specs.Choices.{AreRising};
-ghost use Rattle.network_adaptive.specs.Verdicts.{IsDependencyCycle, LacksEscape, HasNumbers, HasCycle};
+ghost use Rattle.network_adaptive.specs.Verdicts.{IsDependencyCycle, LacksEscape, HasNumbers};
+ghost use Rattle.network_adaptive.specs.Verdicts.{HasCycle};
 ghost use Rattle.network_adaptive.specs.Verdicts.{HasNoEscape};
 
 /// Around a cycle of extended dependencies no numbers rise.

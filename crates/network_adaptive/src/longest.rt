@@ -1,11 +1,13 @@
 //! The most channels that packets go over.
 
-ghost use Rattle.std.specs.Prelude.{◌≡◌, ◌+◌, ◌*◌, ◌<◌, ◌≤◌, ℕ, true, length, map, slice_index, IfOk};
+ghost use Rattle.std.specs.Prelude.{◌≡◌, ◌+◌, ◌*◌, ◌<◌, ◌≤◌, ℕ, true, length, map, slice_index};
+ghost use Rattle.std.specs.Prelude.{IfOk};
 ghost use Rattle.rising.specs.Graph.{RisesAlong};
 ghost use Rattle.rising.specs.Found.{IsPermutationBelow};
 ghost use Rattle.network_adaptive.specs.Edges.{pair_edge};
 ghost use Rattle.network_adaptive.specs.Travel.{chosen_at, choice_graph, is_taken};
-ghost use Rattle.network_adaptive.specs.Longest.{IsOrderByNumber, IsFarthest, AreFarthest, IsMostOf};
+ghost use Rattle.network_adaptive.specs.Longest.{IsOrderByNumber, IsFarthest, AreFarthest};
+ghost use Rattle.network_adaptive.specs.Longest.{IsMostOf};
 
 use crate::choices::Choices;
 use network_judge::Join;

@@ -1,10 +1,12 @@
 //! Flags that spread over the routers' choices.
 
-ghost use Rattle.std.specs.Prelude.{◌≡◌, ◌+◌, ◌*◌, ◌^◌, ◌<◌, ◌≤◌, length, slice_get, Some, IfOk, OnOk};
+ghost use Rattle.std.specs.Prelude.{◌≡◌, ◌+◌, ◌*◌, ◌^◌, ◌<◌, ◌≤◌, length, slice_get, Some, IfOk};
+ghost use Rattle.std.specs.Prelude.{OnOk};
 ghost use Rattle.std.specs.List.{count_by};
 ghost use Rattle.network_judge.specs.Table.{ejects};
 ghost use Rattle.network_judge.specs.declared.table.Kind.TheVariants.{Ejection};
-ghost use Rattle.network_adaptive.specs.Spread.{block_base, leads_on, opens, choice_step, HasMore, AreFlagsOf};
+ghost use Rattle.network_adaptive.specs.Spread.{block_base, leads_on, opens, choice_step, HasMore};
+ghost use Rattle.network_adaptive.specs.Spread.{AreFlagsOf};
 ghost use Rattle.network_adaptive.specs.Spread.{HasSpread};
 
 use network_judge::Kind;

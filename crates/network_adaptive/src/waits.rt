@@ -1,6 +1,7 @@
 //! What packets wait for: a list of edges.
 
-ghost use Rattle.std.specs.Prelude.{◌≡◌, ◌+◌, ◌*◌, ◌<◌, ◌≤◌, ℕ, true, [], length, map, slice_index, IfOk, OnOk, slice_get, Some};
+ghost use Rattle.std.specs.Prelude.{◌≡◌, ◌+◌, ◌*◌, ◌<◌, ◌≤◌, ℕ, true, [], length, map, slice_index};
+ghost use Rattle.std.specs.Prelude.{IfOk, OnOk, slice_get, Some};
 ghost use Rattle.network_judge.specs.Table.{table_of, joins_of, ejects};
 ghost use Rattle.std.specs.List.{count_by};
 ghost use Rattle.network_judge.specs.declared.table.Kind.TheVariants.{Ejection};

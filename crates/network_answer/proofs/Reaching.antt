@@ -1,23 +1,25 @@
 -- Where packets come in a network whose routers choose, how many pairs they go between, and over how many hops.
-use Rattle.std.proofs.Common.{◌≡◌, inl, inr, ⊎_elim, ℕ, zero, suc, ◌+◌, ◌*◌, ◌<◌, ◌≤◌, ◌&&◌, ◌||◌, Bool, true, false, Some, None, List, [], ◌++◌, length, append_assoc, refl, sym, ◌∙◌, ap, subst, arith}
-use Rattle.std.specs.Prelude.{if◌then◌else◌, slice_get, Option, IfSome}
+use Rattle.std.proofs.Common.{◌≡◌, inl, inr, ⊎_elim, ℕ, zero, suc, ◌+◌, ◌*◌, ◌<◌, ◌≤◌, ◌&&◌, Bool, true, false, Some, None, List, [], ◌++◌, length, append_assoc, refl, sym, ◌∙◌, ap, subst, arith}
+use Rattle.std.specs.Prelude.{if◌then◌else◌, slice_get, Option, IfSome, Result, Ok, Err, IfOk}
 use Rattle.std.proofs.lemmas.Bool.{cases_lt, cases_Bool, and_parts, and_from, or_cases, or_left, or_right}
+use Rattle.std.proofs.lemmas.Nat.{mul-le}
+use Rattle.std.proofs.Math.Nat.{le-mul_of_pos_right, mul_comm}
 use Rattle.network_judge.specs.declared.table.Kind.{Kind}
 use Rattle.network_judge.specs.declared.table.Kind.TheVariants.{Injection, Hop, Ejection}
 use Rattle.network_judge.specs.declared.table.Join.{Join}
 use Rattle.network_judge.specs.declared.table.Reply.{Reply}
-use Rattle.network_judge.specs.Table.{table_of, kind_of, joins_of, is_sender, is_receiver}
+use Rattle.network_judge.specs.Table.{table_of, joins_of, is_sender, is_receiver}
 use Rattle.network_judge.specs.TableNet.{Flits}
 use Rattle.network_judge.specs.Marks.{is_marked_at}
-use Rattle.network_adaptive.specs.Choices.{Comes, HasEscapes}
-use Rattle.network_adaptive.specs.Choosing.{ChoiceTable, choosing_of, table, network, IsShaped}
+use Rattle.network_adaptive.specs.Choices.{HasEscapes}
+use Rattle.network_adaptive.specs.Choosing.{ChoiceTable, choosing_of, network, IsShaped}
 use Rattle.network_adaptive.specs.Spread.{Path, Stop, Go}
 use Rattle.network_adaptive.specs.Flags.{AreDown, AreComes, ComesTo}
 use Rattle.network_adaptive.specs.Shape.{IsJudgedNet}
 use Rattle.network_adaptive.specs.Travel.{IsTravel, step_to}
+use Rattle.network_adaptive.specs.declared.verdict.Travel.{Travel}
 use Rattle.network_adaptive.specs.declared.accepting.JudgedNet.{JudgedNet}
 use Rattle.network_adaptive.specs.declared.accepting.JudgedNet.TheVariants.{WrongPair, WrongChoice, Judged}
-use Rattle.network_adaptive.specs.declared.verdict.Verdict.{Verdict}
 use Rattle.network_adaptive.specs.declared.verdict.Verdict.TheVariants.{Rising, NoEscape, Cycle}
 use Rattle.network_adaptive.proofs.Flags.{up_inside}
 use Rattle.network_adaptive.proofs.Spreading.{path_up}
@@ -31,26 +33,43 @@ use Rattle.network_text.specs.declared.reading.Reading as reading
 use Rattle.network_answer.proofs.Counting.{count_same, count_none}
 use Rattle.network_answer.proofs.Sized.{three_parts}
 
+-- a format of flits
+pub any_flits : Flits
+any_flits = record { is_head = λ f. true; is_tail = λ f. true; told = λ f. 0 }
+
+-- what follows of how far packets go, where that is found
+pub if_travel : {E : Type 0} {P Q : Travel → Type 0} (r : Result Travel E) → ((x : Travel) → P x → Q x) → IfOk r P → IfOk r Q
+if_travel (Ok x) f p = f x p
+if_travel (Err e) f p = p
+
 -- so many numbers pass a test
 pub count_is : (p : ℕ → Bool) (n : ℕ) → IsCountOf (λ x. p x ≡ true) n (count_below p n)
 count_is p zero = OfNone
 count_is p (suc n) = elim (cases_Bool (p n)) [
-  | inl yes ↦
-      let more : count_below p n + (if p n then 1 else 0) ≡ count_below p n + 1 = ap (λ (b : Bool). count_below p n + (if b then 1 else 0)) yes in
-      let up : count_below p n + (if p n then 1 else 0) ≡ suc (count_below p n) = omega arith in
-      subst (λ c. IsCountOf (λ x. p x ≡ true) (suc n) c) (sym up) (OneMore n (count_below p n) (count_is p n) yes)
-  | inr no ↦
-      let more : count_below p n + (if p n then 1 else 0) ≡ count_below p n + 0 = ap (λ (b : Bool). count_below p n + (if b then 1 else 0)) no in
+  | inl up_here ↦
+      let more : count_below p n + (if p n then 1 else 0) ≡ count_below p n + 1 = ap (λ (b : Bool). count_below p n + (if b then 1 else 0)) up_here in
+      let next : count_below p n + (if p n then 1 else 0) ≡ suc (count_below p n) = omega arith in
+      subst (λ c. IsCountOf (λ x. p x ≡ true) (suc n) c) (sym next) (OneMore n (count_below p n) (count_is p n) up_here)
+  | inr not_here ↦
+      let more : count_below p n + (if p n then 1 else 0) ≡ count_below p n + 0 = ap (λ (b : Bool). count_below p n + (if b then 1 else 0)) not_here in
       let same : count_below p n + (if p n then 1 else 0) ≡ count_below p n = omega arith in
       subst (λ c. IsCountOf (λ x. p x ≡ true) (suc n) c) (sym same)
-      (NotThis n (count_below p n) (count_is p n) (λ yes. let bad : true ≡ false = sym yes ∙ no in cc))
+      (NotThis n (count_below p n) (count_is p n) (λ is_up. let bad : true ≡ false = sym is_up ∙ not_here in cc))
 ]
 
 -- as many have another property, where one holds with the other
 pub count_alike : (P Q : ℕ → Type 0) → ((x : ℕ) → P x → Q x) → ((x : ℕ) → Q x → P x) → (n c : ℕ) → IsCountOf P n c → IsCountOf Q n c
 count_alike P Q there back n c OfNone = OfNone
 count_alike P Q there back n c (OneMore m k so p) = OneMore m k (count_alike P Q there back m k so) (there m p)
-count_alike P Q there back n c (NotThis m k so no) = NotThis m k (count_alike P Q there back m k so) (λ q. no (back m q))
+count_alike P Q there back n c (NotThis m k so isnt) = NotThis m k (count_alike P Q there back m k so) (λ q. isnt (back m q))
+
+-- all pairs that there could be are no more than there are choices
+pub all_fit : (a e n w len : ℕ) → a ≤ n → 0 < w → e * (n * w) ≤ len → a * e ≤ len
+all_fit a e n w len low some room =
+    let wide : n ≤ n * w = le-mul_of_pos_right n some in
+    let up : e * a ≤ e * (n * w) = mul-le e a e (n * w) (omega arith) (omega arith) in
+    let turned : a * e ≡ e * a = mul_comm a e in
+    omega arith
 
 hop_kind : (k : Option Kind) → is_between k ≡ true → k ≡ Some Hop
 hop_kind None e = cc

@@ -83,7 +83,7 @@ struct Reached<A: Allocator> {
 /// leads.
 ///
 /// Errors: out of memory.
-fn reached<'a, A: Allocator + Copy>(
+fn reach_all<'a, A: Allocator + Copy>(
     alloc: A,
     kinds: &[Kind],
     joins: &[Join],
@@ -186,7 +186,7 @@ pub fn chosen_totals<A: Allocator + Copy>(
     let longest = travelled(
         alloc, kinds, joins, &pairs, choices, ways, marks, &none, known,
     )?;
-    let reached = reached(alloc, kinds, joins, &pairs, choices, ways, &none)?;
+    let reached = reach_all(alloc, kinds, joins, &pairs, choices, ways, &none)?;
     Ok(Totals {
         pairs: reached.pairs,
         all_pairs: injection_count(kinds) * ends_of(alloc, kinds)?.len(),

@@ -8,7 +8,8 @@ ghost use Rattle.network_judge.specs.Columns.{AreColumns};
 ghost use Rattle.network_judge.specs.Verdicts.{AllArrive};
 ghost use Rattle.network_judge.specs.Replies.{AreReplies};
 ghost use Rattle.network_judge.specs.Cycles.{IsCycle};
-ghost use Rattle.network_judge.specs.Spans.{end_of, AreOfDistinctChannels, IsCircle, IsClearCircle, starts};
+ghost use Rattle.network_judge.specs.Spans.{end_of, AreOfDistinctChannels, IsCircle, IsClearCircle};
+ghost use Rattle.network_judge.specs.Spans.{starts};
 ghost use Rattle.network_judge.specs.Spans.{before_step, span_at, IsAround};
 
 use crate::spans::{Span, span_at, step_of};

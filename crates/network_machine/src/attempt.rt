@@ -1,7 +1,9 @@
 //! Moves that are attempted.
 
-ghost use Rattle.std.specs.Prelude.{◌≡◌, ◌<◌, length, true, false, OnOk, OnErr, IfErr, IfSome, IfNone};
-ghost use Rattle.network_machine.specs.declared.moves.Move.TheVariants.{Send, More, Take, Put, Accept, Credit};
+ghost use Rattle.std.specs.Prelude.{◌≡◌, ◌<◌, length, true, false, OnOk, OnErr, IfErr, IfSome};
+ghost use Rattle.std.specs.Prelude.{IfNone};
+ghost use Rattle.network_machine.specs.declared.moves.Move.TheVariants.{Send, More, Take, Put};
+ghost use Rattle.network_machine.specs.declared.moves.Move.TheVariants.{Accept, Credit};
 ghost use Rattle.network_machine.specs.Machine.{SameTables, MovesAll, Prevents, MakesAll};
 ghost use Rattle.network_machine.specs.Machine.{IsInReach, KeepsOtherChannels};
 ghost use Rattle.network_machine.specs.Outputs.{IsWayOut};

@@ -4,7 +4,8 @@ ghost use Rattle.std.specs.Prelude.{◌≡◌, ◌<◌, ℕ, length, true, false
 ghost use Rattle.network_judge.specs.Replies.{reply_at};
 ghost use Rattle.network_judge.specs.Verdicts.{AllArrive};
 ghost use Rattle.network_judge.specs.Table.{channels_of};
-ghost use Rattle.network_machine.specs.declared.moves.Move.TheVariants.{Send, More, Take, Put, Accept, Credit};
+ghost use Rattle.network_machine.specs.declared.moves.Move.TheVariants.{Send, More, Take, Put};
+ghost use Rattle.network_machine.specs.declared.moves.Move.TheVariants.{Accept, Credit};
 ghost use Rattle.network_machine.specs.Machine.{Settles, IsInReach};
 ghost use Rattle.network_machine.specs.Outputs.{LacksAnswer, LacksNoAnswer, HasAnswers};
 

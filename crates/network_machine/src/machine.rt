@@ -60,7 +60,8 @@ impl<'a, A: Allocator + Copy> Machine<'a, A> {
         requires replies { AreReplies (table_of kinds.now joins.now choices.now) replies.now }
         requires arrive { AllArrive (table_of kinds.now joins.now choices.now) }
         requires depth { depth ≤ 8 }
-        ensures { IfOk result (IsOpenedNetwork (table_of kinds.now joins.now choices.now) replies.now
+        ensures { IfOk result (IsOpenedNetwork
+            (table_of kinds.now joins.now choices.now) replies.now
             depth) }
     {
         let columns = columns_of(alloc, kinds)?;

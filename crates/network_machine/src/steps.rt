@@ -4,7 +4,8 @@ ghost use Rattle.std.specs.Prelude.{◌≡◌, ◌≢◌, ◌<◌, ◌^◌, true
 ghost use Rattle.wormhole.specs.Net.{Net, IsParcel};
 ghost use Rattle.wormhole.specs.State.{NetLine, update};
 ghost use Rattle.wormhole.specs.Events.{unlatched};
-ghost use Rattle.network_machine.specs.declared.moves.Move.TheVariants.{Send, More, Take, Credit, Accept};
+ghost use Rattle.network_machine.specs.declared.moves.Move.TheVariants.{Send, More, Take, Credit};
+ghost use Rattle.network_machine.specs.declared.moves.Move.TheVariants.{Accept};
 ghost use Rattle.network_machine.specs.Moves.{ShowAll, ChannelsHaveRoom, MakesEvent, OthersStay};
 ghost use Rattle.network_machine.specs.Packets.{packet_of};
 ghost use Rattle.network_machine.specs.Owned.{SameOwners, OwnersAfter, AreOwned};

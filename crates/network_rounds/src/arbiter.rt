@@ -3,7 +3,8 @@
 ghost use Rattle.std.specs.Prelude.{◌≡◌, ◌<◌, ◌∷◌, ℕ, List, length, Some, None};
 ghost use Rattle.std.specs.Prelude.{slice_index, slice_index_or, slice_set};
 ghost use Rattle.network_machine.specs.declared.moves.Move.{Move};
-ghost use Rattle.network_rounds.specs.Arbiters.{comes_before, nearer, output_asked, asking, first_among};
+ghost use Rattle.network_rounds.specs.Arbiters.{comes_before, nearer, output_asked, asking};
+ghost use Rattle.network_rounds.specs.Arbiters.{first_among};
 ghost use Rattle.network_rounds.specs.Arbiters.{arbiter_named, turn_by, HasFirsts};
 
 use network_machine::{Machine, Move};

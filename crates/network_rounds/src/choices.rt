@@ -1,6 +1,7 @@
 //! The choices of a network in the order of a round, in groups.
 
-ghost use Rattle.std.specs.Prelude.{◌≡◌, ◌<◌, ◌≤◌, ◌++◌, ◌∷◌, [], length, map, option_to_list, IfOk, OnOk};
+ghost use Rattle.std.specs.Prelude.{◌≡◌, ◌<◌, ◌≤◌, ◌++◌, ◌∷◌, [], length, map, option_to_list};
+ghost use Rattle.std.specs.Prelude.{IfOk, OnOk};
 ghost use Rattle.std.specs.Prelude.{if◌then◌else◌, Some, None};
 ghost use Rattle.network_rounds.specs.Choices.{choice_in_part, group_of, parts_of, groups_of};
 ghost use Rattle.network_rounds.specs.Choices.{has_choices};

@@ -1,7 +1,8 @@
 //! What the moves of a round come to, by channels. Counts are exact up to 2^64 - 1, and stay there.
 
 ghost use Rattle.std.specs.Prelude.{◌≡◌, ◌≢◌, ◌+◌, ◌<◌, ◌^◌, ℕ, length, slice_index, Some};
-ghost use Rattle.network_rounds.specs.Counts.{channel_left, begun_by, one_at, flits_gone, packets_begun};
+ghost use Rattle.network_rounds.specs.Counts.{channel_left, begun_by, one_at, flits_gone};
+ghost use Rattle.network_rounds.specs.Counts.{packets_begun};
 
 use network_machine::Move;
 

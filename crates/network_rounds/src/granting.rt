@@ -4,7 +4,8 @@ ghost use Rattle.std.specs.Prelude.{◌≡◌, ◌+◌, ◌<◌, ◌≤◌, ◌+
 ghost use Rattle.std.specs.Prelude.{slice_index_or, option_to_list};
 ghost use Rattle.std.specs.List.{flat_map};
 ghost use Rattle.network_machine.specs.Machine.{NetworkMachineSpec};
-ghost use Rattle.network_rounds.specs.Arbiters.{plain, head_attempt, attempt_by, attempts_by, no_grants};
+ghost use Rattle.network_rounds.specs.Arbiters.{plain, head_attempt, attempt_by, attempts_by};
+ghost use Rattle.network_rounds.specs.Arbiters.{no_grants};
 ghost use Rattle.network_rounds.specs.Arbiters.{AreGrants, granted_to};
 
 use crate::arbiter::{Arbiter, Attempt, Grants, note_firsts, output_asked};

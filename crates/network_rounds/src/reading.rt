@@ -70,7 +70,8 @@ pub fn read_traffic<A: Allocator + Copy>(
     alloc: A,
     text: &[u8],
 ) -> Result<Traffic<A>, Refusal<TrafficReason>>
-    ensures gives { Gives TrafficReason.Memory traffic_spec result (traffic_or_why (lines text.now)) }
+    ensures gives { Gives TrafficReason.Memory traffic_spec result
+        (traffic_or_why (lines text.now)) }
     ensures lines { IfOk result (λ traffic. HasTrafficLines (traffic_spec traffic)) }
 {
     let mut traffic = Traffic::none(alloc);

@@ -26,7 +26,8 @@ fn renumber(routers: &mut [usize], from: usize, to: usize)
 /// one router.
 fn note_choice(routers: &mut [usize], firsts: &mut [Option<usize>], x: usize, y: usize)
     requires x { x < length routers.old }
-    requires first { (z first : ℕ) → first_choosing firsts.old z ≡ Some first → first < length routers.old }
+    requires first { (z first : ℕ) → first_choosing firsts.old z ≡ Some first →
+        first < length routers.old }
     ensures { NotesChoice routers.old firsts.old x y routers.new firsts.new }
 {
     if y >= firsts.len() {
@@ -56,7 +57,8 @@ fn note_row(
     requires width { width ≡ columns_of (table_of kinds.now joins.now choices.now) }
     requires x { x < length kinds.now }
     requires input { is_receiver (kind_of (table_of kinds.now joins.now choices.now) x) ≡ false }
-    requires noted { AreNoted (table_of kinds.now joins.now choices.now) x 0 routers.old firsts.old }
+    requires noted { AreNoted (table_of kinds.now joins.now choices.now) x 0
+        routers.old firsts.old }
     ensures { AreNoted (table_of kinds.now joins.now choices.now) (x + 1) 0 routers.new firsts.new }
 {
     for column in 0..width {
@@ -79,7 +81,8 @@ fn note_channel(
     requires full { IsFull (table_of kinds.now joins.now choices.now) }
     requires width { width ≡ columns_of (table_of kinds.now joins.now choices.now) }
     requires x { x < length kinds.now }
-    requires noted { AreNoted (table_of kinds.now joins.now choices.now) x 0 routers.old firsts.old }
+    requires noted { AreNoted (table_of kinds.now joins.now choices.now) x 0
+        routers.old firsts.old }
     ensures { AreNoted (table_of kinds.now joins.now choices.now) (x + 1) 0 routers.new firsts.new }
 {
     if is_receiver(kind_at(kinds, x)) {

@@ -4,8 +4,10 @@ ghost use Rattle.std.specs.Prelude.{◌≡◌, ◌≤◌, length, IfOk};
 ghost use Rattle.std.specs.Str.Lines.{lines};
 ghost use Rattle.network_judge.specs.Verdicts.{AllArrive, IsFirstFault, IsVerdict};
 ghost use Rattle.network_rounds.specs.Joined.{AreJoined};
-ghost use Rattle.network_traffic.specs.Answers.{AnswersTraffic, AnswersSimulationText, IsSimulationText};
-ghost use Rattle.network_traffic.specs.Answers.{IsSimulationAnswer, IsNoRouteText, AnswersPackets, is_sound};
+ghost use Rattle.network_traffic.specs.Answers.{AnswersTraffic, AnswersSimulationText};
+ghost use Rattle.network_traffic.specs.Answers.{IsSimulationText};
+ghost use Rattle.network_traffic.specs.Answers.{IsSimulationAnswer, IsNoRouteText, AnswersPackets};
+ghost use Rattle.network_traffic.specs.Answers.{is_sound};
 
 use crate::course::run_packets;
 use crate::plan::open_plan;

@@ -1,12 +1,15 @@
 //! Flits with the number of their packet: where they stand, as moves are made.
 
 ghost use Rattle.std.specs.Prelude.{◌≡◌, ◌+◌, ◌<◌, ◌^◌, List, length, map, drop};
-ghost use Rattle.std.specs.Prelude.{slice_get, slice_index, slice_index_or, slice_set, None, IfSome};
+ghost use Rattle.std.specs.Prelude.{slice_get, slice_index, slice_index_or, slice_set, None};
+ghost use Rattle.std.specs.Prelude.{IfSome};
 ghost use Rattle.network_judge.specs.Table.{Table};
-ghost use Rattle.network_machine.specs.declared.moves.Move.TheVariants.{Send, More, Take, Put, Accept};
+ghost use Rattle.network_machine.specs.declared.moves.Move.TheVariants.{Send, More, Take, Put};
+ghost use Rattle.network_machine.specs.declared.moves.Move.TheVariants.{Accept};
 ghost use Rattle.network_rounds.specs.declared.senders.Timed.{Timed};
 ghost use Rattle.network_traffic.specs.Plans.{IsPlan, plan_table};
-ghost use Rattle.network_traffic.specs.Labels.{label_added, labels_of, label_put, label_first, label_gone};
+ghost use Rattle.network_traffic.specs.Labels.{label_added, labels_of, label_put, label_first};
+ghost use Rattle.network_traffic.specs.Labels.{label_gone};
 ghost use Rattle.network_traffic.specs.Labels.{label_onto, labels_spec, label_begun, labels_after};
 ghost use Rattle.network_traffic.specs.Labels.{HasChannels};
 

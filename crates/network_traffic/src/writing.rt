@@ -5,7 +5,8 @@ ghost use Rattle.std.specs.Prelude.{slice_index, slice_index_or};
 ghost use Rattle.network_text.specs.Lines.{first_lines};
 ghost use Rattle.network_traffic.specs.Written.{round_words, latency_of, timed_words, packet_line};
 ghost use Rattle.network_traffic.specs.Written.{packet_line_at, report_text};
-ghost use Rattle.network_traffic.specs.Written.{channel_line, channel_line_at, ending_word, end_line};
+ghost use Rattle.network_traffic.specs.Written.{channel_line, channel_line_at, ending_word};
+ghost use Rattle.network_traffic.specs.Written.{end_line};
 
 use crate::running::Extent;
 use itoa::Buffer;

@@ -1,13 +1,16 @@
 //! The follower of one processor's script.
 
-ghost use Rattle.std.specs.Prelude.{◌≡◌, ℕ, ◌^◌, ◌<◌, ◌≤◌, ◌==◌, ◌&&◌, length, drop, slice_get, is_none, IsSome};
+ghost use Rattle.std.specs.Prelude.{◌≡◌, ℕ, ◌^◌, ◌<◌, ◌≤◌, ◌==◌, ◌&&◌, length, drop, slice_get};
+ghost use Rattle.std.specs.Prelude.{is_none, IsSome};
 ghost use Rattle.std.specs.Prelude.{Some, None, ◌+◌, option_map, OnOk, OnErr};
 ghost use Rattle.script_lines.specs.Lines.{operation_count, operations_of};
 ghost use Rattle.one_order.specs.Scripts.{IsFollowable};
 ghost use Rattle.one_order.specs.Following.{operand_of, operation_asked, ready_operation};
 ghost use Rattle.one_order.specs.Following.{first_operation, opened};
-ghost use Rattle.one_order.specs.Following.{spin_issued, ahead_issued, unfenced, is_empty, past_fences, first_of};
-ghost use Rattle.one_order.specs.Following.{next_operation_of, after_issue, after_answer, is_finished};
+ghost use Rattle.one_order.specs.Following.{spin_issued, ahead_issued, unfenced, is_empty};
+ghost use Rattle.one_order.specs.Following.{past_fences, first_of};
+ghost use Rattle.one_order.specs.Following.{next_operation_of, after_issue, after_answer};
+ghost use Rattle.one_order.specs.Following.{is_finished};
 ghost use Rattle.one_order.specs.Following.{follower_with, left_of};
 
 use crate::spin::{OpenSpin, reply_number, spin_answered};
@@ -163,7 +166,8 @@ fn ready(
     at: usize,
     last: Option<Reply>,
 ) -> Option<(u32, Op)>
-    ensures { result ≡ option_map (λ o. (o.address, o.op)) (ready_operation spin (drop at lines.now) last) }
+    ensures { result ≡ option_map (λ o. (o.address, o.op))
+        (ready_operation spin (drop at lines.now) last) }
 {
     match spin {
         Some(open) => last.map(|_| (open.address, Op::Load)),

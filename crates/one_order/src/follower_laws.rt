@@ -1,17 +1,23 @@
 //! Laws of following a script, each the contract of a function that does nothing.
 
-ghost use Rattle.std.specs.Prelude.{◌≡◌, ℕ, ◌+◌, ◌^◌, ◌<◌, ◌≤◌, true, false, All, List, [], ◌∷◌, ◌++◌, length};
+ghost use Rattle.std.specs.Prelude.{◌≡◌, ℕ, ◌+◌, ◌^◌, ◌<◌, ◌≤◌, true, false, All, List, [], ◌∷◌};
+ghost use Rattle.std.specs.Prelude.{◌++◌, length};
 ghost use Rattle.std.specs.Prelude.{slice_get, slice_set, Some, None, IsSome};
 ghost use Rattle.packet.specs.declared.kinds.Operation.{Operation};
 ghost use Rattle.packet.specs.declared.kinds.Reply.{Reply};
 ghost use Rattle.packet.specs.Spelling.{values_of_op};
 ghost use Rattle.script_lines.specs.declared.line.Line.{Line};
-ghost use Rattle.script_lines.specs.Lines.{operation_count, operations_of, mentions_last, IsAcceptedScript, IsAcceptedLine};
-ghost use Rattle.one_order.specs.Scripts.{Invocation, FollowsScript, HasFinished, IsFollowable, IsAddressIn};
-ghost use Rattle.one_order.specs.Scripts.{AreAnswered, AreAnswersBefore, last_reply, reply_number, unanswered};
+ghost use Rattle.script_lines.specs.Lines.{operation_count, operations_of, mentions_last};
+ghost use Rattle.script_lines.specs.Lines.{IsAcceptedScript, IsAcceptedLine};
+ghost use Rattle.one_order.specs.Scripts.{Invocation, FollowsScript, HasFinished, IsFollowable};
+ghost use Rattle.one_order.specs.Scripts.{IsAddressIn};
+ghost use Rattle.one_order.specs.Scripts.{AreAnswered, AreAnswersBefore, last_reply, reply_number};
+ghost use Rattle.one_order.specs.Scripts.{unanswered};
 ghost use Rattle.one_order.specs.Homes.{script_home_count, issued_home_count};
-ghost use Rattle.one_order.specs.Following.{Following, ShowsPast, first_of, next_operation_of, after_issue};
-ghost use Rattle.one_order.specs.Following.{after_answer, is_finished, left_of, operation_asked, follower_with};
+ghost use Rattle.one_order.specs.Following.{Following, ShowsPast, first_of, next_operation_of};
+ghost use Rattle.one_order.specs.Following.{after_issue};
+ghost use Rattle.one_order.specs.Following.{after_answer, is_finished, left_of, operation_asked};
+ghost use Rattle.one_order.specs.Following.{follower_with};
 
 /// A script that the reader accepts, for a memory of any number of words, can be followed.
 pub fn accepted_scripts_can_be_followed()

@@ -9,8 +9,10 @@ ghost use Rattle.one_order.specs.Growth.{OnlyGrows};
 ghost use Rattle.one_order.specs.Rows.{AreRowsOf, BeginRows};
 ghost use Rattle.one_order.specs.OneOrder.{HasOneOrder};
 ghost use Rattle.one_order.specs.Events.{Event, IsHistory, order_after};
-ghost use Rattle.one_order.specs.Consequences.{Precedes, AreEventNumbers, NameEntries, AnswersNameEntries};
-ghost use Rattle.one_order.specs.Consequences.{AnswersAreNumbered, EntryStands, ReplaysByBank, ServesInTurn};
+ghost use Rattle.one_order.specs.Consequences.{Precedes, AreEventNumbers, NameEntries};
+ghost use Rattle.one_order.specs.Consequences.{AnswersNameEntries};
+ghost use Rattle.one_order.specs.Consequences.{AnswersAreNumbered, EntryStands, ReplaysByBank};
+ghost use Rattle.one_order.specs.Consequences.{ServesInTurn};
 ghost use Rattle.one_order.specs.Consequences.{AnswersInTurn};
 
 /// A run whose steps are issues, services and answers, each where it may happen, has one legal

@@ -1,7 +1,9 @@
-ghost use Rattle.std.specs.Prelude.{◌≡◌, ℕ, ◌<◌, ◌≤◌, List, [], ◌∷◌, ◌++◌, Some, IfOk, length, map, replicate};
+ghost use Rattle.std.specs.Prelude.{◌≡◌, ℕ, ◌<◌, ◌≤◌, List, [], ◌∷◌, ◌++◌, Some, IfOk, length, map};
+ghost use Rattle.std.specs.Prelude.{replicate};
 ghost use Rattle.std.specs.Prelude.{slice_get, slice_index, vec_len, vec_capacity, OnOk};
 ghost use Rattle.one_order.specs.Observed.{list_at};
-ghost use Rattle.one_order.specs.EventBook.{first_book, noted_issue, noted_service, noted_answer, row_at};
+ghost use Rattle.one_order.specs.EventBook.{first_book, noted_issue, noted_service, noted_answer};
+ghost use Rattle.one_order.specs.EventBook.{row_at};
 ghost use Rattle.order_book.specs.RoomyBook.{KeepsRoom};
 
 use one_order::Ordered;
@@ -42,7 +44,8 @@ impl<A: Allocator + Copy> EventBook<A> {
         requires tiles { length issue_rooms.now ≤ 64 }
         requires same { length position_rooms.now ≡ length issue_rooms.now }
         requires issues { (p room : ℕ) → slice_get issue_rooms.now p ≡ Some room → room ≤ 65536 }
-        requires positions { (b room : ℕ) → slice_get position_rooms.now b ≡ Some room → room ≤ 65536 }
+        requires positions { (b room : ℕ) →
+            slice_get position_rooms.now b ≡ Some room → room ≤ 65536 }
         requires rows { row_room ≤ 65536 }
         ensures book { IfOk result (λ kept. kept.book ≡ first_book (length issue_rooms.now)) }
         ensures processors { IfOk result (λ kept. length kept.issues ≡ length issue_rooms.now) }
@@ -50,7 +53,8 @@ impl<A: Allocator + Copy> EventBook<A> {
         ensures issues { IfOk result
             (λ kept. (p room : ℕ) → slice_get issue_rooms.now p ≡ Some room
             → room ≤ slice_index kept.issues p) }
-        ensures positions { IfOk result (λ kept. (b room : ℕ) → slice_get position_rooms.now b ≡ Some room
+        ensures positions { IfOk result (λ kept.
+            (b room : ℕ) → slice_get position_rooms.now b ≡ Some room
             → room ≤ slice_index kept.positions b) }
         ensures rows { IfOk result (λ kept. row_room ≤ kept.rows) }
     {

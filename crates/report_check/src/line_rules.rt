@@ -8,7 +8,8 @@ ghost use Rattle.report_check.specs.Broken.{unless, place_broken, header_broken,
 ghost use Rattle.report_check.specs.Broken.{shape_broken, word_broken, init_broken, next_broken};
 ghost use Rattle.report_check.specs.Broken.{home_broken, reply_broken, entry_broken};
 ghost use Rattle.report_check.specs.Broken.{behind_broken, named_broken, answer_broken};
-ghost use Rattle.report_check.specs.Broken.{word_left, left_out, left_untold, other_word, told_broken};
+ghost use Rattle.report_check.specs.Broken.{word_left, left_out, left_untold, other_word};
+ghost use Rattle.report_check.specs.Broken.{told_broken};
 
 use crate::checker::Checker;
 use crate::looks::{home_of, is_same_reply, key_of};

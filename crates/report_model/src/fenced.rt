@@ -1,7 +1,8 @@
 //! Which memory models a report obeys with the fences of the scripts that were run.
 
 ghost use Rattle.std.specs.Prelude.{◌≡◌, IfErr, IfOk, true};
-ghost use Rattle.report_model.specs.Answers.{IsAnswerToReportOf, IsAnswerWithFences, IsNoAnswerToReportOf};
+ghost use Rattle.report_model.specs.Answers.{IsAnswerToReportOf, IsAnswerWithFences};
+ghost use Rattle.report_model.specs.Answers.{IsNoAnswerToReportOf};
 ghost use Rattle.report_model.specs.Answers.{IsNoAnswerWithFences, IsRunOf};
 ghost use Rattle.report_model.specs.Run.{run_seen};
 

@@ -1,10 +1,13 @@
 //! The programs of a report's processors by their scripts.
 
-ghost use Rattle.std.specs.Prelude.{◌≡◌, ◌⊎◌, ◌*◌, ◌++◌, ◌≤◌, IfErr, IfOk, OnOk, [], ◌∷◌, length, if◌then◌else◌};
+ghost use Rattle.std.specs.Prelude.{◌≡◌, ◌⊎◌, ◌*◌, ◌++◌, ◌≤◌, IfErr, IfOk, OnOk, [], ◌∷◌, length};
+ghost use Rattle.std.specs.Prelude.{if◌then◌else◌};
 ghost use Rattle.script_lines.specs.Lines.{script_of};
 ghost use Rattle.report_model.specs.Indexes.{fence_before, operation_step};
-ghost use Rattle.report_model.specs.Programs.{AreAllScripted, AreScripted, AreSpinsShort, IsUnscripted};
-ghost use Rattle.report_model.specs.Programs.{IsUnscriptedAmong, operations_by, programs_of, walk_over};
+ghost use Rattle.report_model.specs.Programs.{AreAllScripted, AreScripted, AreSpinsShort};
+ghost use Rattle.report_model.specs.Programs.{IsUnscripted};
+ghost use Rattle.report_model.specs.Programs.{IsUnscriptedAmong, operations_by, programs_of};
+ghost use Rattle.report_model.specs.Programs.{walk_over};
 
 use crate::answer::{NoReportAnswer, NoTextsAnswer};
 use crate::row::{ProgramStep, ReportRow, fence_before, operation_step, row_at};

@@ -1,11 +1,13 @@
 //! The operations of a report, by their services.
 
-ghost use Rattle.std.specs.Prelude.{◌≡◌, ◌<◌, ◌++◌, ℕ, Some, IfOk, OnOk, length, option_map, slice_get};
+ghost use Rattle.std.specs.Prelude.{◌≡◌, ◌<◌, ◌++◌, ℕ, Some, IfOk, OnOk, length, option_map};
+ghost use Rattle.std.specs.Prelude.{slice_get};
 ghost use Rattle.std.specs.BTreeMap.{get};
 ghost use Rattle.std.specs.List.{filter_map};
 ghost use Rattle.std.specs.Option.{option_to_list};
 ghost use Rattle.std.specs.Ordering.{nat_cmp};
-ghost use Rattle.report_model.specs.Rows.{entry_of_key, order_key, report_row_of, row_ordered, rows_of};
+ghost use Rattle.report_model.specs.Rows.{entry_of_key, order_key, report_row_of, row_ordered};
+ghost use Rattle.report_model.specs.Rows.{rows_of};
 ghost use Rattle.report_model.specs.Run.{run_seen};
 
 use crate::row::{ReportRow, entry_key, order_key, row_of};

@@ -1,6 +1,7 @@
 //! Where a processor stands in its script.
 
-ghost use Rattle.std.specs.Prelude.{◌≡◌, ◌≢◌, ◌-◌, ◌≤◌, IfOk, OnOk, Some, true, false, drop, length, if◌then◌else◌};
+ghost use Rattle.std.specs.Prelude.{◌≡◌, ◌≢◌, ◌-◌, ◌≤◌, IfOk, OnOk, Some, true, false, drop};
+ghost use Rattle.std.specs.Prelude.{length, if◌then◌else◌};
 ghost use Rattle.one_order.specs.Following.{is_finished, next_operation_of};
 ghost use Rattle.report_model.specs.Programs.{AreSpinsShort, handed, is_fence};
 

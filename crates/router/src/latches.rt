@@ -1,6 +1,7 @@
 //! The latches of a router, a word each.
 
-ghost use Rattle.std.specs.Prelude.{◌≡◌, ◌≢◌, ◌<◌, ◌≤◌, length, replicate, slice_index_or, slice_set, Some, None};
+ghost use Rattle.std.specs.Prelude.{◌≡◌, ◌≢◌, ◌<◌, ◌≤◌, length, replicate, slice_index_or};
+ghost use Rattle.std.specs.Prelude.{slice_set, Some, None};
 
 use crate::ports::{ByPort, filled};
 use std::marker::Model;

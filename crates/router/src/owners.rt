@@ -1,6 +1,7 @@
 //! Which input owns which output.
 
-ghost use Rattle.std.specs.Prelude.{◌≡◌, ◌<◌, ◌≤◌, ◌^◌, ℕ, if◌then◌else◌, length, replicate, slice_index_or, slice_set};
+ghost use Rattle.std.specs.Prelude.{◌≡◌, ◌<◌, ◌≤◌, ◌^◌, ℕ, if◌then◌else◌, length, replicate};
+ghost use Rattle.std.specs.Prelude.{slice_index_or, slice_set};
 ghost use Rattle.std.specs.Prelude.{Some, None, false, IfSome};
 ghost use Rattle.router.specs.Table.{is_among, is_output};
 ghost use Rattle.router.specs.Owned.{MayPass};

@@ -1,6 +1,7 @@
 //! The ends of a router's channels, in arrays that stand in the router itself.
 
-ghost use Rattle.std.specs.Prelude.{◌≡◌, ◌^◌, ◌<◌, ◌≤◌, IsSome, IfSome, is_some, vec_len, if◌then◌else◌, length};
+ghost use Rattle.std.specs.Prelude.{◌≡◌, ◌^◌, ◌<◌, ◌≤◌, IsSome, IfSome, is_some, vec_len};
+ghost use Rattle.std.specs.Prelude.{if◌then◌else◌, length};
 ghost use Rattle.std.specs.Prelude.{replicate};
 ghost use Rattle.flit_buffer.specs.Words.{word_of};
 ghost use Rattle.flit_buffer.specs.Tries.{tried, performed_by};

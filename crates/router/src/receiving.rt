@@ -1,6 +1,7 @@
 //! The receiving end of a channel, in four bytes.
 
-ghost use Rattle.std.specs.Prelude.{◌≡◌, ◌^◌, ◌<◌, ◌≤◌, ◌==◌, if◌then◌else◌, vec_len, slice_index, slice_set};
+ghost use Rattle.std.specs.Prelude.{◌≡◌, ◌^◌, ◌<◌, ◌≤◌, ◌==◌, if◌then◌else◌, vec_len, slice_index};
+ghost use Rattle.std.specs.Prelude.{slice_set};
 ghost use Rattle.flit_buffer.specs.Ends.{take_op, after_take};
 ghost use Rattle.flit_buffer.specs.Tries.{take_place, flit_in};
 

@@ -8,7 +8,8 @@ ghost use Rattle.flit_buffer.specs.Words.{word_of};
 ghost use Rattle.flit_buffer.specs.Wants.{HasPort};
 ghost use Rattle.channel_number.specs.Ports.{port_count};
 ghost use Rattle.router.specs.Beginning.{router_ports};
-ghost use Rattle.router.specs.Table.{empty_router, router_wants, router_after, IsRoutable, NamesTile};
+ghost use Rattle.router.specs.Table.{empty_router, router_wants, router_after, IsRoutable};
+ghost use Rattle.router.specs.Table.{NamesTile};
 ghost use Rattle.router.specs.Table.{router_with_agent, latch_of};
 ghost use Rattle.router.specs.Kept.{IsOfChoice, IsFlitOf};
 

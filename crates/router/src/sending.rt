@@ -1,6 +1,7 @@
 //! The sending end of a channel, in six bytes.
 
-ghost use Rattle.std.specs.Prelude.{◌≡◌, ◌^◌, ◌<◌, ◌≤◌, ◌==◌, nat_lt, if◌then◌else◌, vec_len, slice_set};
+ghost use Rattle.std.specs.Prelude.{◌≡◌, ◌^◌, ◌<◌, ◌≤◌, ◌==◌, nat_lt, if◌then◌else◌, vec_len};
+ghost use Rattle.std.specs.Prelude.{slice_set};
 ghost use Rattle.flit_buffer.specs.Ends.{put_op, credit_op, after_put, after_credit};
 ghost use Rattle.flit_buffer.specs.Tries.{put_place, credit_place, is_credited};
 

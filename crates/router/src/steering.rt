@@ -1,6 +1,7 @@
 //! The ways of packets through a router: the output for each, kept beside the latch of its head flit.
 
-ghost use Rattle.std.specs.Prelude.{◌≡◌, ◌≢◌, ℕ, ◌<◌, ◌≤◌, length, slice_index_or, slice_set, if◌then◌else◌};
+ghost use Rattle.std.specs.Prelude.{◌≡◌, ◌≢◌, ℕ, ◌<◌, ◌≤◌, length, slice_index_or, slice_set};
+ghost use Rattle.std.specs.Prelude.{if◌then◌else◌};
 ghost use Rattle.std.specs.Prelude.{Some, None, IfOk, IfSome};
 ghost use Rattle.torus.specs.Shape.{tiles_of, dims_of};
 ghost use Rattle.torus.specs.declared.shape.Class.TheVariants.{Request};

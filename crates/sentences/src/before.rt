@@ -2,7 +2,8 @@
 
 ghost use Rattle.std.specs.Prelude.{◌≡◌, map};
 ghost use Rattle.std.specs.Str.Lines.{lines};
-ghost use Rattle.sentences.specs.Before.{begin_with, open_address, given_twice, line_giving, earlier_line};
+ghost use Rattle.sentences.specs.Before.{begin_with, open_address, given_twice, line_giving};
+ghost use Rattle.sentences.specs.Before.{earlier_line};
 
 use lexer::{Before, Sought, index_or_zero};
 use script::{Keyword, TextReason};

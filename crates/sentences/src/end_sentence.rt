@@ -2,7 +2,8 @@
 
 ghost use Rattle.std.specs.Fmt.{WritesOnOk};
 ghost use Rattle.std.specs.Prelude.{◌≡◌, ◌++◌, codes};
-ghost use Rattle.sentences.specs.Sentences.{answered_text, begin_text, so_many, course_text, plural_text, rest_text};
+ghost use Rattle.sentences.specs.Sentences.{answered_text, begin_text, so_many, course_text};
+ghost use Rattle.sentences.specs.Sentences.{plural_text, rest_text};
 ghost use Rattle.sentences.specs.Sentences.{unfinished_text};
 
 use crate::scripts::EndedSpin;

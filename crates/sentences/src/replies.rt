@@ -1,6 +1,7 @@
 //! What the operations of a processor were replied, by its answers.
 
-ghost use Rattle.std.specs.Prelude.{◌≡◌, ◌∷◌, ◌++◌, [], ℕ, List, map, IfOk, None, replicate, slice_get};
+ghost use Rattle.std.specs.Prelude.{◌≡◌, ◌∷◌, ◌++◌, [], ℕ, List, map, IfOk, None, replicate};
+ghost use Rattle.std.specs.Prelude.{slice_get};
 ghost use Rattle.std.specs.List.{range_with_len};
 ghost use Rattle.one_order.specs.declared.answer.Answer.{Answer};
 ghost use Rattle.one_order.specs.Scripts.{reply_number};

@@ -1,6 +1,7 @@
 //! The spins of a script that ran out of loads.
 
-ghost use Rattle.std.specs.Prelude.{◌≡◌, ◌+◌, ◌∷◌, ℕ, List, [], Option, MatchOption, IfOk, drop, option_map};
+ghost use Rattle.std.specs.Prelude.{◌≡◌, ◌+◌, ◌∷◌, ℕ, List, [], Option, MatchOption, IfOk, drop};
+ghost use Rattle.std.specs.Prelude.{option_map};
 ghost use Rattle.std.specs.List.{cons_option};
 ghost use Rattle.script_lines.specs.declared.line.Line.{Line};
 ghost use Rattle.sentences.specs.Spins.{spun, spent_from, spent_spins, reply_of_next};

@@ -5,7 +5,8 @@ ghost use Rattle.std.specs.Str.Lines.{lines};
 ghost use Rattle.script.specs.Machine.{machine_of, machine_or_why};
 ghost use Rattle.sentences.specs.Told.{IsAboutText, IsFromScripts, IsFromSteps};
 ghost use Rattle.sentences.specs.Told.{TellsReading, TellsWhy, TellsTile, refusal_in};
-ghost use Rattle.sentences.specs.Told.{scripts_read, steps_read, scripts_or_why_of, steps_or_why_of};
+ghost use Rattle.sentences.specs.Told.{scripts_read, steps_read, scripts_or_why_of};
+ghost use Rattle.sentences.specs.Told.{steps_or_why_of};
 
 use crate::sentence::{Sentence, TileSentence};
 use lexer::{Named, Refusal};

@@ -12,7 +12,8 @@ ghost use Rattle.flit_buffer.specs.declared.word_op.WordOp.TheVariants.{Store};
 ghost use Rattle.router.specs.Beginning.{empty_surroundings};
 ghost use Rattle.tile.specs.declared.agent.Agent.{Agent};
 ghost use Rattle.tile.specs.Tile.{Design, TileState, tile_step};
-ghost use Rattle.tile.specs.Agents.{TilePlace, wiring_of, tile_placed, tile_next_op, tile_absorbed, agent_tile};
+ghost use Rattle.tile.specs.Agents.{TilePlace, wiring_of, tile_placed, tile_next_op, tile_absorbed};
+ghost use Rattle.tile.specs.Agents.{agent_tile};
 ghost use Rattle.tile.specs.Beginning.{new_tile};
 ghost use Rattle.tile.specs.Refinement.{IsSurrounded, IsPossibleChoice, TileRefines, KeepsOthers};
 

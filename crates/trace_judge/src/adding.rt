@@ -1,6 +1,7 @@
 //! Adds branches to those that were found, unless one as good is there.
 
-ghost use Rattle.std.specs.Prelude.{◌≡◌, true, Some, None, ◌∷◌, ◌++◌, [], ◌<◌, ◌≤◌, MatchOption, OnOk, length};
+ghost use Rattle.std.specs.Prelude.{◌≡◌, true, Some, None, ◌∷◌, ◌++◌, [], ◌<◌, ◌≤◌, MatchOption};
+ghost use Rattle.std.specs.Prelude.{OnOk, length};
 ghost use Rattle.trace_laws.specs.declared.opened.Open.{Open};
 ghost use Rattle.trace_laws.specs.Configs.{AgreesWithValue, HasAsGood, effect, release, GoesOn};
 ghost use Rattle.trace_laws.specs.Searches.{configs_of};

@@ -3,7 +3,8 @@
 ghost use Rattle.std.specs.Prelude.{◌≡◌, ◌<◌, ◌≤◌, IfErr, IfOk, OnOk, length};
 ghost use Rattle.trace_laws.specs.declared.opened.Config.{Config};
 ghost use Rattle.trace_laws.specs.declared.opened.Branch.{Branch};
-ghost use Rattle.trace_laws.specs.Configs.{IsIn, IsLeft, HasTakenEffect, HasAsGood, release, GoesOn};
+ghost use Rattle.trace_laws.specs.Configs.{IsIn, IsLeft, HasTakenEffect, HasAsGood, release};
+ghost use Rattle.trace_laws.specs.Configs.{GoesOn};
 ghost use Rattle.trace_judge.specs.Elders.{IsExpandedInTurn};
 ghost use Rattle.trace_laws.specs.Searches.{configs_of, AreReleased};
 ghost use Rattle.trace_judge.specs.declared.undecided.Full.TheVariants.{Configurations};
@@ -165,7 +166,8 @@ pub fn keep<A: Allocator>(
 ) -> Result<Vec<Branch, A>, AllocError>
     requires { slot < 128 }
     ensures from { IfOk result (λ v. AreReleased slot branches.now v.items) }
-    ensures released { IfOk result (λ v. (b : Branch) → IsIn branches.now b → HasTakenEffect b.config slot
+    ensures released { IfOk result (λ v. (b : Branch) → IsIn branches.now b →
+        HasTakenEffect b.config slot
         → IsIn v.items (record { config = release b.config slot; trail = b.trail })) }
 {
     let mut kept = Vec::new(alloc);

@@ -1,9 +1,11 @@
 //! Idle operations, which leave the word as it is wherever they may take effect: they do so at once.
 
-ghost use Rattle.std.specs.Prelude.{◌≡◌, ◌<◌, ◌≤◌, ℕ, List, Option, Some, MatchOption, IfOk, length};
+ghost use Rattle.std.specs.Prelude.{◌≡◌, ◌<◌, ◌≤◌, ℕ, List, Option, Some, MatchOption, IfOk};
+ghost use Rattle.std.specs.Prelude.{length};
 ghost use Rattle.trace_laws.specs.declared.opened.Open.{Open};
 ghost use Rattle.trace_laws.specs.Configs.{IsIdle, AgreesWithValue};
-ghost use Rattle.trace_judge.specs.Idles.{FitsAt, IsListed, AreListed, AreLow, applies, calmed, settled};
+ghost use Rattle.trace_judge.specs.Idles.{FitsAt, IsListed, AreListed, AreLow, applies, calmed};
+ghost use Rattle.trace_judge.specs.Idles.{settled};
 ghost use Rattle.trace_judge.specs.Sets.{Replaces};
 
 use crate::bits::{has, with};

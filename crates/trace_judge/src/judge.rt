@@ -231,7 +231,8 @@ pub fn judge<A: Allocator + Copy>(
     requires { IsTrace (length opening.now) events.now }
     ensures unjudged { IfErr result (IsUndecided events.now) }
     ensures full { IfErr result (TellsMany opening.now events.now bound) }
-    ensures judged { IfOk result (λ verdict. TellsTraceVerdict opening.now events.now bound verdict) }
+    ensures judged { IfOk result (λ verdict.
+        TellsTraceVerdict opening.now events.now bound verdict) }
 {
     let mut ended = Ended::default();
     if let Some(order) = explain(alloc, opening, events, bound, &mut ended)? {

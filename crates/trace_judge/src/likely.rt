@@ -1,6 +1,7 @@
 //! A trace that likely has an order: what explains it explains the trace that it is made from.
 
-ghost use Rattle.std.specs.Prelude.{◌≡◌, ◌⊎◌, ◌<◌, ◌∷◌, ◌++◌, ℕ, List, [], true, Some, IfOk, OnOk, MatchOption};
+ghost use Rattle.std.specs.Prelude.{◌≡◌, ◌⊎◌, ◌<◌, ◌∷◌, ◌++◌, ℕ, List, [], true, Some, IfOk, OnOk};
+ghost use Rattle.std.specs.Prelude.{MatchOption};
 ghost use Rattle.std.specs.Prelude.{length, slice_get};
 ghost use Rattle.packet.specs.declared.kinds.Reply.{Reply};
 ghost use Rattle.trace_laws.specs.declared.event.Event.TheVariants.{Answer};
@@ -31,7 +32,8 @@ pub fn are_all_answered(events: &[Event]) -> bool {
 
 /// Whether nothing is answered.
 pub fn is_silent(events: &[Event]) -> bool
-    ensures { result ≡ true → (i id : ℕ) (reply : Reply) → TraceAnswersAt events.now i id reply → ⊥ }
+    ensures { result ≡ true → (i id : ℕ) (reply : Reply) →
+        TraceAnswersAt events.now i id reply → ⊥ }
 {
     for i in 0..events.len() {
         if let Event::Answer(..) = events[i] {

@@ -45,7 +45,8 @@ fn mark_ends(marks: &mut [bool], branches: &[Branch])
 
 /// Marks the nodes that the branches of all words lead to.
 fn mark_words<A: Allocator + Copy>(marks: &mut [bool], words: &[Vec<Branch, A>])
-    requires { (w : ℕ) → w < length words.now → AreWithin (length marks.old) (lists_of words.now w) }
+    requires { (w : ℕ) → w < length words.now →
+        AreWithin (length marks.old) (lists_of words.now w) }
     ensures { (w : ℕ) → w < length words.now → AreEnds marks.new (lists_of words.now w) }
 {
     for w in 0..words.len() {
@@ -165,7 +166,8 @@ fn renumber_words<A: Allocator + Copy>(
     words: &[Vec<Branch, A>],
     ranks: &[usize],
 ) -> Result<Vec<Vec<Branch, A>, A>, AllocError>
-    requires { (w : ℕ) → w < length words.now → AreWithin (length ranks.now) (lists_of words.now w) }
+    requires { (w : ℕ) → w < length words.now →
+        AreWithin (length ranks.now) (lists_of words.now w) }
     ensures sized { IfOk result (λ v. length v.items ≡ length words.now) }
     ensures same { IfOk result (λ v. (marks : List Bool) → AreRanks ranks.now marks
         → (w : ℕ) → w < length words.now

@@ -1,6 +1,7 @@
 //! The search over the events of a trace.
 
-ghost use Rattle.std.specs.Prelude.{◌≡◌, ◌<◌, ◌+◌, ◌∷◌, ℕ, [], true, false, IfOk, IfErr, OnOk, length};
+ghost use Rattle.std.specs.Prelude.{◌≡◌, ◌<◌, ◌+◌, ◌∷◌, ℕ, [], true, false, IfOk, IfErr, OnOk};
+ghost use Rattle.std.specs.Prelude.{length};
 ghost use Rattle.std.specs.Prelude.{slice_index};
 ghost use Rattle.packet.specs.declared.kinds.Reply.{Reply};
 ghost use Rattle.trace_laws.specs.Traces.{IsTrace, TraceIssuesAt, TraceAnswersAt};
@@ -111,9 +112,11 @@ impl<A: Allocator + Copy> Search<A> {
         requires inside { k < length events.now }
         requires issued { TraceIssuesAt events.now k call }
         requires holds { HasSearched opening.now events.now whole.now k self.old }
-        ensures holds { OnOk result (HasSearched opening.now events.now whole.now (k + 1) self.new) }
+        ensures holds { OnOk result (HasSearched opening.now events.now whole.now
+            (k + 1) self.new) }
         ensures undecided { IfErr result (IsUndecided whole.now) }
-        ensures full { IfErr result (λ why. (bound : ℕ) → TellsMany opening.now whole.now bound why) }
+        ensures full { IfErr result (λ why.
+            (bound : ℕ) → TellsMany opening.now whole.now bound why) }
     {
         let promise = promise_of(events, k + 1, call.id);
         if is_unanswered_load(call.operation.op, promise) {
@@ -172,7 +175,8 @@ impl<A: Allocator + Copy> Search<A> {
         requires inside { k < length events.now }
         requires answered { TraceAnswersAt events.now k id reply }
         requires holds { HasSearched opening.now events.now whole.now k self.old }
-        ensures yes { IfOk result (λ b. b ≡ true → HasSearched opening.now events.now whole.now (k + 1) self.new) }
+        ensures yes { IfOk result (λ b. b ≡ true →
+            HasSearched opening.now events.now whole.now (k + 1) self.new) }
         ensures no { IfOk result (λ b. b ≡ false → IsLinearizable opening.now events.now → ⊥) }
         ensures undecided { IfErr result (IsUndecided whole.now) }
         ensures full { IfErr result (TellsMany opening.now whole.now bound) }
@@ -238,7 +242,8 @@ impl<A: Allocator + Copy> Search<A> {
         requires beginning { IsBeginning events.now whole.now }
         requires inside { k < length events.now }
         requires holds { HasSearched opening.now events.now whole.now k self.old }
-        ensures yes { IfOk result (λ b. b ≡ true → HasSearched opening.now events.now whole.now (k + 1) self.new) }
+        ensures yes { IfOk result (λ b. b ≡ true →
+            HasSearched opening.now events.now whole.now (k + 1) self.new) }
         ensures no { IfOk result (λ b. b ≡ false → IsLinearizable opening.now events.now → ⊥) }
         ensures undecided { IfErr result (IsUndecided whole.now) }
         ensures full { IfErr result (TellsMany opening.now whole.now bound) }

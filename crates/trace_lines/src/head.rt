@@ -1,6 +1,7 @@
 //! The head of a trace or a log: its first line, the number of words, and opening words.
 
-ghost use Rattle.std.specs.Prelude.{◌≡◌, ◌≤◌, ◌<◌, ◌^◌, ◌&&◌, true, codes, map, unwrap_or, IfNone, IfOk};
+ghost use Rattle.std.specs.Prelude.{◌≡◌, ◌≤◌, ◌<◌, ◌^◌, ◌&&◌, true, codes, map, unwrap_or, IfNone};
+ghost use Rattle.std.specs.Prelude.{IfOk};
 ghost use Rattle.std.specs.Str.{bytes_eq};
 ghost use Rattle.lexer.specs.Outcome.{Makes};
 ghost use Rattle.trace_lines.specs.Head.{no_head, value_in, after_title, after_words_line};

@@ -2,7 +2,8 @@
 
 ghost use Rattle.std.specs.Prelude.{◌≡◌, ◌==◌, IfOk, map, slice_get};
 ghost use Rattle.std.specs.List.{list_any, slice_index_or};
-ghost use Rattle.trace_table.specs.Cells.{table_cells, cell_in, has_quote, is_in_cell, has_cells, separator_of};
+ghost use Rattle.trace_table.specs.Cells.{table_cells, cell_in, has_quote, is_in_cell, has_cells};
+ghost use Rattle.trace_table.specs.Cells.{separator_of};
 ghost use Rattle.trace_table.specs.Cells.{is_marked_text, without_mark};
 
 use std::alloc::{AllocError, Allocator};

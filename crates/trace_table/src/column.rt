@@ -1,7 +1,8 @@
 //! The columns of a table.
 
 ghost use Rattle.std.specs.Prelude.{◌≡◌, length, map, position};
-ghost use Rattle.trace_table.specs.Columns.{named_columns, column_name, is_named_so, column_place, place_or_why};
+ghost use Rattle.trace_table.specs.Columns.{named_columns, column_name, is_named_so, column_place};
+ghost use Rattle.trace_table.specs.Columns.{place_or_why};
 
 use crate::reason::TableReason;
 use lexer::first_words;

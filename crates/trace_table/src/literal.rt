@@ -1,12 +1,16 @@
 //! Whole numbers as programs, chips and data frames write them.
 
-ghost use Rattle.std.specs.Prelude.{◌≡◌, ◌<◌, ◌≤◌, ◌^◌, ◌==◌, IfSome, drop, false, length, min, position, take};
+ghost use Rattle.std.specs.Prelude.{◌≡◌, ◌<◌, ◌≤◌, ◌^◌, ◌==◌, IfSome, drop, false, length, min};
+ghost use Rattle.std.specs.Prelude.{position, take};
 ghost use Rattle.std.specs.Prelude.{if◌then◌else◌};
 ghost use Rattle.std.specs.List.{list_all};
 ghost use Rattle.std.specs.Str.Parse.{digits_value, without_leading_plus};
-ghost use Rattle.trace_table.specs.Literals.{are_grouped, digits_among, grouped_number, is_digit_of, may_come};
-ghost use Rattle.trace_table.specs.Literals.{is_zero_fraction, literal, plain_word, radix_named, spelled_radix};
-ghost use Rattle.trace_table.specs.Literals.{unsigned_number, whole_part, digit_taken, digits_taken};
+ghost use Rattle.trace_table.specs.Literals.{are_grouped, digits_among, grouped_number};
+ghost use Rattle.trace_table.specs.Literals.{is_digit_of, may_come};
+ghost use Rattle.trace_table.specs.Literals.{is_zero_fraction, literal, plain_word, radix_named};
+ghost use Rattle.trace_table.specs.Literals.{spelled_radix};
+ghost use Rattle.trace_table.specs.Literals.{unsigned_number, whole_part, digit_taken};
+ghost use Rattle.trace_table.specs.Literals.{digits_taken};
 
 use itoa::Buffer;
 

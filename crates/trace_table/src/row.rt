@@ -2,9 +2,11 @@
 
 ghost use Rattle.std.specs.Prelude.{◌≡◌, ◌∷◌, [], map, slice_get};
 ghost use Rattle.trace_lines.specs.Form.{spelled_form};
-ghost use Rattle.trace_table.specs.Row.{answer_in_cell, operation_in_cells, operation_with, processor_in};
+ghost use Rattle.trace_table.specs.Row.{answer_in_cell, operation_in_cells, operation_with};
+ghost use Rattle.trace_table.specs.Row.{processor_in};
 ghost use Rattle.trace_table.specs.Row.{processor_in_cell};
-ghost use Rattle.trace_table.specs.Row.{reply_expected, reply_in_cell, reply_of_word, row_of_cells, row_time};
+ghost use Rattle.trace_table.specs.Row.{reply_expected, reply_in_cell, reply_of_word, row_of_cells};
+ghost use Rattle.trace_table.specs.Row.{row_time};
 ghost use Rattle.trace_table.specs.Row.{says_another, says_found, time_in_cell, word_expected};
 
 use crate::cells::cell_in;

@@ -3,7 +3,8 @@
 ghost use Rattle.std.specs.Prelude.{◌≡◌, ◌⊎◌, [], Err, map};
 ghost use Rattle.std.specs.Str.Lines.{lines};
 ghost use Rattle.lexer.specs.Outcome.{Gives, Makes};
-ghost use Rattle.trace_table.specs.Rows.{after_cells, after_row_line, head_columns, table_rows_from, table_rows};
+ghost use Rattle.trace_table.specs.Rows.{after_cells, after_row_line, head_columns};
+ghost use Rattle.trace_table.specs.Rows.{table_rows_from, table_rows};
 
 use crate::cells::{has_cells, has_quote, separator_of, table_cells, without_mark};
 use crate::column::{Column, Columns, named_columns};
@@ -18,7 +19,8 @@ const MOST_OPERATIONS: usize = 1 << 22;
 
 /// The columns that a first line names.
 fn head_columns<A: Allocator>(alloc: A, line: &[u8]) -> Result<Columns, TableReason>
-    ensures { (result ≡ Err (TableReason.Line LineReason.Memory)) ⊎ (result ≡ head_columns line.now) }
+    ensures { (result ≡ Err (TableReason.Line LineReason.Memory)) ⊎
+        (result ≡ head_columns line.now) }
 {
     if has_quote(line) {
         return Err(TableReason::Quote);
@@ -105,7 +107,8 @@ pub fn read_rows<A: Allocator + Copy>(
     alloc: A,
     text: &[u8],
 ) -> Result<Vec<TableRow, A>, Refusal<TableReason>>
-    ensures { Gives (TableReason.Line LineReason.Memory) (λ rows. rows.items) result (table_rows (lines text.now)) }
+    ensures { Gives (TableReason.Line LineReason.Memory) (λ rows.
+        rows.items) result (table_rows (lines text.now)) }
 {
     let Some((line, rest)) = next_line(text) else {
         return Err(Refusal::at(1, TableReason::Missing(Column::Processor)));

@@ -4,7 +4,8 @@ ghost use Rattle.std.specs.Prelude.{◌≡◌, ◌<◌, ◌^◌, ◌++◌, ◌�
 ghost use Rattle.std.specs.Prelude.{IfErr, slice_get, slice_set};
 ghost use Rattle.lexer.specs.Outcome.{Makes};
 ghost use Rattle.trace_lines.specs.Head.{with_value};
-ghost use Rattle.trace_text.specs.Traced.{add_issue, answer_of_index, add_answer, placed, with_event};
+ghost use Rattle.trace_text.specs.Traced.{add_issue, answer_of_index, add_answer, placed};
+ghost use Rattle.trace_text.specs.Traced.{with_event};
 ghost use Rattle.trace_text.specs.Views.{trace_so_far};
 
 use crate::issued::Issued;

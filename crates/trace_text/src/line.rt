@@ -2,7 +2,8 @@
 
 ghost use Rattle.std.specs.Prelude.{◌≡◌, IfOk, codes, map};
 ghost use Rattle.trace_lines.specs.Head.{after_init_line, after_title};
-ghost use Rattle.trace_text.specs.Lines.{HasProcessor, ReadsLine, answer_given, head_given, issue_given};
+ghost use Rattle.trace_text.specs.Lines.{HasProcessor, ReadsLine, answer_given, head_given};
+ghost use Rattle.trace_text.specs.Lines.{issue_given};
 ghost use Rattle.trace_text.specs.Lines.{issue_of_form, keyword_given, line_given, words_within};
 
 use crate::reason::{Keyword, TraceReason};

@@ -53,7 +53,8 @@ fn grow_one<A: Allocator>(
         → Contains values.new.items (new_word c.call.operation.op value)) }
     ensures only { OnOk result (AreApartAnd (IsLeftOf values.old.items calls.now value)
         values.new.items) }
-    ensures untold { IfErr result (IsOverfullWord (IsLeftOf values.old.items calls.now value) bound) }
+    ensures untold { IfErr result (IsOverfullWord
+        (IsLeftOf values.old.items calls.now value) bound) }
 {
     for found in calls {
         add(values, apply(found.call.operation.op, value).0, bound)?;
@@ -75,7 +76,8 @@ fn grow<A: Allocator + Copy>(
         → Contains calls.now c → Contains values.new.items (new_word c.call.operation.op v)) }
     ensures only { OnOk result (AreApartAnd (IsReachedIn values.old.items calls.now 1)
         values.new.items) }
-    ensures untold { IfErr result (IsOverfullWord (IsReachedIn values.old.items calls.now 1) bound) }
+    ensures untold { IfErr result (IsOverfullWord
+        (IsReachedIn values.old.items calls.now 1) bound) }
 {
     let old = Vec::from_slice(alloc, values)?;
     for value in &old {

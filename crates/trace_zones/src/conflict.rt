@@ -2,7 +2,8 @@
 
 ghost use Rattle.std.specs.Prelude.{◌≡◌, ◌≤◌, ◌<◌, ℕ, true, length};
 ghost use Rattle.std.specs.List.Sorted.{IsNonDecreasing};
-ghost use Rattle.trace_zones.specs.declared.conflict.Conflict.TheVariants.{Crossed, Early, Unwritten, Twice};
+ghost use Rattle.trace_zones.specs.declared.conflict.Conflict.TheVariants.{Crossed, Early};
+ghost use Rattle.trace_zones.specs.declared.conflict.Conflict.TheVariants.{Unwritten, Twice};
 ghost use Rattle.trace_zones.specs.Conflicts.{IsBefore, IsConflict, IsOverBefore};
 ghost use Rattle.trace_zones.specs.Zones.{AreApartSets, is_listed};
 

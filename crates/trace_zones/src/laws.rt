@@ -8,7 +8,8 @@ ghost use Rattle.trace_laws.specs.Orders.{IsLinearizable};
 ghost use Rattle.trace_laws.specs.Traces.{IsTrace};
 ghost use Rattle.trace_zones.specs.declared.conflict.Conflict.{Conflict};
 ghost use Rattle.trace_zones.specs.Conflicts.{IsConflict};
-ghost use Rattle.trace_zones.specs.Zones.{IsZone, AreApartSets, IsSeenBefore, IsFoundEarly, IsFoundUnwritten};
+ghost use Rattle.trace_zones.specs.Zones.{IsZone, AreApartSets, IsSeenBefore, IsFoundEarly};
+ghost use Rattle.trace_zones.specs.Zones.{IsFoundUnwritten};
 ghost use Rattle.trace_zones.specs.Zones.{IsSetLeft, WasTaken, AreDifferent, is_value};
 
 use std::alloc::Allocator;
@@ -57,7 +58,8 @@ pub fn conflicts_have_no_order<A: Allocator>()
 
 /// Where all operations on a word write different words, each word by itself is a zone.
 pub fn different_words_are_zones()
-    ensures { (opening : List ℕ) (trace : List Event) (w v : ℕ) → AreDifferent (slice_index opening w) trace w
+    ensures { (opening : List ℕ) (trace : List Event) (w v : ℕ) →
+        AreDifferent (slice_index opening w) trace w
         → IsZone (slice_index opening w) trace w (is_value v) }
 {}
 

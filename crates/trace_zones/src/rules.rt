@@ -88,7 +88,8 @@ pub(crate) fn finds(set: &[u64], op: Op, told: Option<Told>) -> bool
 
 /// The word that an operation surely left.
 pub(crate) fn left_surely(op: Op, told: Option<Told>) -> Option<u64>
-    ensures { MatchOption result (Unit {0}) (λ v. (u : ℕ) → FitsTold op told u → new_word op u ≡ v) }
+    ensures { MatchOption result (Unit {0}) (λ v.
+        (u : ℕ) → FitsTold op told u → new_word op u ≡ v) }
 {
     match found(op, told) {
         Some(word) => Some(left(op, word)),
@@ -103,7 +104,8 @@ pub(crate) fn left_surely(op: Op, told: Option<Told>) -> Option<u64>
 /// Whether an operation surely left a word of a set.
 pub(crate) fn leaves(set: &[u64], op: Op, told: Option<Told>) -> bool
     requires { IsNonDecreasing set.now }
-    ensures { result ≡ true → (u : ℕ) → FitsTold op told u → is_listed set.now (new_word op u) ≡ true }
+    ensures { result ≡ true → (u : ℕ) → FitsTold op told u →
+        is_listed set.now (new_word op u) ≡ true }
 {
     match left_surely(op, told) {
         Some(word) => has(set, word),
@@ -114,7 +116,8 @@ pub(crate) fn leaves(set: &[u64], op: Op, told: Option<Told>) -> bool
 /// Whether an operation surely left a word outside a set.
 pub(crate) fn avoids(set: &[u64], op: Op, told: Option<Told>) -> bool
     requires { IsNonDecreasing set.now }
-    ensures { result ≡ true → (u : ℕ) → FitsTold op told u → is_listed set.now (new_word op u) ≡ false }
+    ensures { result ≡ true → (u : ℕ) → FitsTold op told u →
+        is_listed set.now (new_word op u) ≡ false }
 {
     match left_surely(op, told) {
         Some(word) => !has(set, word),

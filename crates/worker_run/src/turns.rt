@@ -124,7 +124,8 @@ pub(crate) fn tile_turns<A: Allocator, G: Gate>(
     requires tile { tile < 64 }
     requires ports { ports < 32 }
     ensures own { IsSeatOf fabric.now seat.new }
-    ensures leads { LeadsSeats (G.stops gate.now worker) ports run.old seat.old (at_place tile 0) run.new
+    ensures leads { LeadsSeats (G.stops gate.now worker) ports run.old seat.old
+        (at_place tile 0) run.new
         seat.new (at_place tile (8 + 3 * ports)) }
 {
     processor_turns(fabric, seat, gate, worker, run, tile);

@@ -27,7 +27,8 @@ pub trait Watch: Sync {
 
     /// A worker has ended, with so many turns made in all.
     fn ended(&self, worker: usize, kept: Self::Kept, turns: u64)
-        ensures { HearsOfWorkers (heard self.now worker kept) (over self.now worker) (Ended turns ∷ []) };
+        ensures { HearsOfWorkers (heard self.now worker kept) (over self.now worker)
+            (Ended turns ∷ []) };
 }
 
 /// Watches nothing.

@@ -5,7 +5,7 @@ use Rattle.network_judge.specs.Table.{ejects}
 use Rattle.network_adaptive.specs.Travel.{step_to}
 use Rattle.network_answer.specs.Totals.{pairs_to}
 use Rattle.network_answer.specs.Reached.{AreReached}
-use Rattle.network_answer.proofs.reached.reached.Given as goal
+use Rattle.network_answer.proofs.reached.reach_all.Given as goal
 
 -- those to the channels so far
 abbrev pub invariant-loop-to : goal.invariant-loop-to
