@@ -143,7 +143,7 @@ static void bytes_that_make_none(void) {
   memcpy(again, bytes, length);
   put_number(again + acts, 6, 4);
   MUST(says(sealed(again, length), TORUSMEM_BAD_ACTION, 0));
-  put_number(again + acts, 14, 4);
+  put_number(again + acts, 15, 4);
   MUST(says(sealed(again, length), TORUSMEM_BAD_ACTION, 0));
   memcpy(again, bytes, length);
   put_number(again + acts + 8, 16 * 2 + 10, 4);
