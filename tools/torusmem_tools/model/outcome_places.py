@@ -24,7 +24,7 @@ def places(case: campaign_cases.Case) -> Iterator[Place]:
 
 
 def placed(case: campaign_cases.Case, place: Place) -> campaign_cases.Case:
-    """The same with each address at the bank of a tile: word k becomes the word k of that bank."""
+    """A script with each address at the bank of a tile: word k becomes the word k of that bank."""
     new = {a: k * case.tiles() + tile for k, (a, tile) in enumerate(zip(addresses(case), place))}
     lines = []
     for p, text in case.lines:
@@ -40,7 +40,7 @@ def fences(case: campaign_cases.Case) -> List[int]:
 
 
 def without(case: campaign_cases.Case, line: int) -> campaign_cases.Case:
-    """The same without a line."""
+    """A script without one of its lines."""
     return case.with_(lines=[it for at, it in enumerate(case.lines) if at != line])
 
 
