@@ -13,6 +13,7 @@ use crate::edges::{pair_edges, with_replies};
 use crate::travel::travel_of;
 use crate::verdict::Verdict;
 use crate::waits::{Waits, waits_of};
+use network_judge::shorter::shortened;
 use network_judge::{Join, Kind, Reply};
 use rising::chains::{Chains, chains_of};
 use rising::{Edge, Searched, find};
@@ -47,9 +48,12 @@ fn judge_waits<'a, A: Allocator + Copy>(
     let all = with_replies(alloc, waits, replies)?;
     let graph = chains_of(alloc, kinds.len(), &all)?;
     match find(alloc, &graph)? {
-        Searched::Circuit(looks) => Ok(Verdict::Cycle(dependencies_of(
-            alloc, kinds, joins, pairs, replies, choices, ways, marks, none, waits, &looks,
-        )?)),
+        Searched::Circuit(looks) => {
+            let short = shortened(alloc, &graph, looks)?;
+            Ok(Verdict::Cycle(dependencies_of(
+                alloc, kinds, joins, pairs, replies, choices, ways, marks, none, waits, &short,
+            )?))
+        }
         Searched::Rising(numbers) => Ok(Verdict::Rising(
             numbers,
             travel_of(alloc, kinds, joins, pairs, choices, ways, none)?,
@@ -61,7 +65,8 @@ fn judge_waits<'a, A: Allocator + Copy>(
 /// between, on which injection channels packets from an ejection channel are answered, the routers'
 /// choices, and which channels are escapes. The choices have a block for each ejection channel as destination,
 /// in channel order, in it a row for each channel, and in it so many places: a number that is no channel's
-/// is no choice.
+/// is no choice. A cycle is the shortest that searches in breadth find, which end where they came to many
+/// channels.
 ///
 /// Errors: out of memory, and no other.
 pub fn judge<A: Allocator + Copy>(

@@ -5,5 +5,4 @@ pub mod Counted
 mod Mapped
 mod OneFlit
 pub mod Sized
-mod Shorter
 mod Reaching

@@ -4,5 +4,4 @@ pub mod OneFlit
 pub mod Routing
 pub mod Causes
 pub mod Totals
-pub mod Shorter
 pub mod Reached

@@ -7,8 +7,7 @@ ghost use Rattle.network_answer.specs.Answer.{Answers, SaysNoPair, TellsFixedRou
 
 use crate::causes::{Cause, one_cause, verdict_causes};
 use crate::jam::judged_text;
-use crate::short_cycle::judge_table;
-use network_judge::{Kind, Verdict};
+use network_judge::{Kind, Verdict, judge};
 use network_text::network::{Network, read_network};
 use script::LineFault;
 use std::alloc::{AllocError, Allocator, Global};
@@ -48,7 +47,7 @@ pub fn judge_network<A: Allocator + Copy>(
 ) -> Result<Verdict<A>, AllocError>
     ensures { IfOk result (IsVerdict network.now.table network.now.replies) }
 {
-    judge_table(
+    judge(
         alloc,
         network.kinds(),
         network.joins(),

@@ -1,21 +1,13 @@
 //! The judgement of a network whose routers choose, by its lists.
 
-ghost use Rattle.std.specs.Prelude.{◌≡◌, ◌||◌, ◌*◌, ◌≤◌, true, length, IfOk, OnOk};
-ghost use Rattle.std.specs.List.{count_by};
-ghost use Rattle.network_judge.specs.Table.{ejects};
-ghost use Rattle.network_judge.specs.Replies.{AreReplies};
-ghost use Rattle.network_adaptive.specs.Choosing.{choosing_of, table};
-ghost use Rattle.network_adaptive.specs.Shape.{EndsAreMarked, IsJudgedNet};
-ghost use Rattle.network_adaptive.specs.declared.accepting.JudgedNet.TheVariants.{Judged};
+ghost use Rattle.std.specs.Prelude.{◌≡◌, ◌||◌, true, IfOk, OnOk};
 ghost use Rattle.network_text.specs.ChoosingRead.{choosing_text_of, IsChoosingRead};
 ghost use Rattle.network_text.specs.ChoiceLists.{choice_list};
 ghost use Rattle.network_answer.specs.Judging.{IsMarkedJudgement};
 ghost use Rattle.network_answer.specs.Judging.{judgement_rises, verdict_rises};
 
-use crate::short_cycle::shorter_dependencies;
 use network_adaptive::Verdict;
 use network_adaptive::accepting::{JudgedNet, judge_lists, marks_of};
-use network_judge::{Join, Kind, Reply};
 use network_text::choosing::Choosing;
 use std::alloc::{AllocError, Allocator};
 
@@ -25,65 +17,6 @@ pub(crate) struct Judgement<A: Allocator> {
     pub(crate) judged: JudgedNet<A>,
     pub(crate) choices: Vec<u32, A>,
     pub(crate) marks: Vec<bool, A>,
-}
-
-/// A verdict, whose cycle is the shortest that searches in breadth find.
-///
-/// Errors: out of memory.
-fn shortened<A: Allocator + Copy>(
-    alloc: A,
-    kinds: &[Kind],
-    joins: &[Join],
-    replies: &[Reply],
-    ways: usize,
-    choices: &[u32],
-    marks: &[bool],
-    verdict: Verdict<A>,
-) -> Result<Verdict<A>, AllocError>
-    requires replies { AreReplies
-        (table (choosing_of kinds.now joins.now ways choices.now marks.now)) replies.now }
-    requires judged { IsJudgedNet
-        (choosing_of kinds.now joins.now ways choices.now marks.now) replies.now (Judged verdict) }
-    ensures { IfOk result (λ new. IsJudgedNet
-        (choosing_of kinds.now joins.now ways choices.now marks.now) replies.now (Judged new)) }
-{
-    match verdict {
-        Verdict::Rising(numbers, travel) => Ok(Verdict::Rising(numbers, travel)),
-        Verdict::NoEscape(fault) => Ok(Verdict::NoEscape(fault)),
-        Verdict::Cycle(edges) => Ok(Verdict::Cycle(shorter_dependencies(
-            alloc, kinds, joins, replies, ways, choices, marks, edges,
-        )?)),
-    }
-}
-
-/// Judges lists as `judge_lists` does; a cycle is the shortest that searches in breadth find, which end where
-/// they came to many channels.
-///
-/// Errors: out of memory.
-fn lists_judged<A: Allocator + Copy>(
-    alloc: A,
-    kinds: &[Kind],
-    joins: &[Join],
-    replies: &[Reply],
-    ways: usize,
-    choices: &[u32],
-    marks: &[bool],
-) -> Result<JudgedNet<A>, AllocError>
-    requires full { count_by ejects kinds.now * (length kinds.now * ways) ≤ length choices.now }
-    requires marks { length marks.now ≡ length kinds.now }
-    requires ends { EndsAreMarked kinds.now marks.now }
-    requires replies { AreReplies
-        (table (choosing_of kinds.now joins.now ways choices.now marks.now)) replies.now }
-    ensures { IfOk result (IsJudgedNet
-        (choosing_of kinds.now joins.now ways choices.now marks.now) replies.now) }
-{
-    match judge_lists(alloc, kinds, joins, replies, ways, choices, marks)? {
-        JudgedNet::WrongPair(fault) => Ok(JudgedNet::WrongPair(fault)),
-        JudgedNet::WrongChoice(choice) => Ok(JudgedNet::WrongChoice(choice)),
-        JudgedNet::Judged(verdict) => Ok(JudgedNet::Judged(shortened(
-            alloc, kinds, joins, replies, ways, choices, marks, verdict,
-        )?)),
-    }
 }
 
 /// Judges the network of a text. It gives up its further choices, which then stand in the list that is
@@ -109,7 +42,7 @@ pub(crate) fn judgement_of<A: Allocator + Copy>(
     let choices = network.choices(alloc)?;
     network.further = Vec::new(alloc);
     let fixed = &network.fixed;
-    let judged = lists_judged(
+    let judged = judge_lists(
         alloc,
         &fixed.kinds,
         &fixed.joins,

@@ -13,7 +13,6 @@ mod lengths;
 pub mod one_flit;
 mod reached;
 pub mod routing;
-pub mod short_cycle;
 pub mod totals;
 pub mod verdict;
 

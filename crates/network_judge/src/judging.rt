@@ -8,6 +8,7 @@ ghost use Rattle.network_judge.specs.Verdicts.{IsVerdict};
 use crate::columns::{columns_of, ends_of};
 use crate::dependencies::Dependencies;
 use crate::links::links_of;
+use crate::shorter::shortened;
 use crate::table::{Join, Kind, Reply, Verdict};
 use crate::walk::trace_all;
 use rising::{Searched, find};
@@ -17,7 +18,8 @@ use std::alloc::{AllocError, Allocator};
 /// between, and the routers' choices. These have a row for each channel, and in it a column for each
 /// ejection channel, both in channel order: the channel that comes next for packets which go there. A
 /// number that is no channel's stands for no choice. The replies say on which injection channels packets
-/// from an ejection channel are answered.
+/// from an ejection channel are answered. A cycle is the shortest that searches in breadth find, which end
+/// where they came to many channels.
 ///
 /// Errors: out of memory, and no other.
 pub fn judge<A: Allocator + Copy>(
@@ -47,7 +49,10 @@ pub fn judge<A: Allocator + Copy>(
         replies,
     };
     match find(alloc, &graph)? {
-        Searched::Circuit(looks) => Ok(Verdict::Cycle(links_of(alloc, &ends, &looks)?)),
+        Searched::Circuit(looks) => {
+            let short = shortened(alloc, &graph, looks)?;
+            Ok(Verdict::Cycle(links_of(alloc, &ends, &short)?))
+        }
         Searched::Rising(numbers) => Ok(Verdict::Rising(numbers)),
     }
 }

@@ -14,6 +14,7 @@ pub mod laws;
 pub mod links;
 pub mod progress_laws;
 pub mod search;
+pub mod shorter;
 pub mod spans;
 pub mod table;
 pub mod tangles;

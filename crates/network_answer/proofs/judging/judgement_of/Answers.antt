@@ -8,14 +8,14 @@ use Rattle.network_answer.proofs.Counted.{choices_length}
 use Rattle.network_adaptive.specs.Choosing.{choosing_of, table}
 use Rattle.network_answer.proofs.judging.judgement_of.Goals as goal
 
-pub lists_judged-requires-clause-full : goal.lists_judged-requires-clause-full
-lists_judged-requires-clause-full g c =
+pub judge_lists-requires-clause-full : goal.judge_lists-requires-clause-full
+judge_lists-requires-clause-full g c =
     let n = c.args.network.now in
     let size = ap length (c.deref-6.ensures.value ∙ c.in_ok-choices.ensures) ∙ choices_length (choosing_text_of n) in
     subst (λ k. count_by ejects k * (length k * (n.layers + 1)) ≤ length c.deref-6.result.now) (sym c.deref-3.ensures.value) (omega (arith, size))
 
-pub lists_judged-requires-clause-replies : goal.lists_judged-requires-clause-replies
-lists_judged-requires-clause-replies g c =
+pub judge_lists-requires-clause-replies : goal.judge_lists-requires-clause-replies
+judge_lists-requires-clause-replies g c =
     let n = c.args.network.now in
     moved (reading_of n.fixed).table
     (table (choosing_of c.deref-3.result.now c.deref-4.result.now (n.layers + 1) c.deref-6.result.now c.deref-7.result.now))

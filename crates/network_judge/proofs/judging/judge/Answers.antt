@@ -1,5 +1,5 @@
 use Rattle.std.proofs.Common.{rules, ◌≡◌, ◌*◌, length, ◌∙◌, sym, ap, subst, arith}
-use Rattle.rising.specs.declared.finding.Searched.TheVariants.{Rising, Circuit}
+use Rattle.rising.specs.declared.finding.Searched.TheVariants.{Rising}
 use Rattle.rising.specs.Graph.{Digraph}
 use Rattle.rising.specs.Search.{LeadsWithin}
 use Rattle.rising.specs.Found.{IsOrderOrCircuit}
@@ -38,12 +38,9 @@ returns-in-Circuit g c =
     c.deref-2.ensures.value
     ∙ written c.in_ok-used.used.len c.trace_all.new.used c.in_ok-used.used.items
     (omega (arith, c.in_ok-used.used.ok.0, c.trace_all.auto.used, ap length c.deref_mut.ensures.value)) in
-    let graph : Digraph = graph_of (length c.args.kinds.now) c.len-width.result c.args.choices.now c.deref-2.result.now c.args.replies.now in
-    let found : IsOrderOrCircuit {A = g.row.A.Denot} graph (Circuit c.in-Circuit.looks) =
-    subst (λ z. IsOrderOrCircuit {A = g.row.A.Denot} graph z) c.in-Circuit.is c.in_ok-looks.ensures in
     cycle_judged t c.args.replies.now c.len-width.result c.deref-2.result.now c.trace_all.new.used c.in_ok-ends.ends.items c.deref-in-Circuit.result.now
-    c.in-Circuit.looks.items c.deref-in-Circuit-2.result.now c.in_ok-links_of-in-Circuit.field-0.items wide same c.in-Ok.ensures.marked
-    c.in_ok-ends.ensures c.deref-in-Circuit.ensures.value found c.deref-in-Circuit-2.ensures.value c.in_ok-links_of-in-Circuit.ensures
+    c.in_ok-short-in-Circuit.short.items c.deref-in-Circuit-2.result.now c.in_ok-links_of-in-Circuit.field-0.items wide same c.in-Ok.ensures.marked
+    c.in_ok-ends.ensures c.deref-in-Circuit.ensures.value c.in_ok-short-in-Circuit.ensures.circuit c.deref-in-Circuit-2.ensures.value c.in_ok-links_of-in-Circuit.ensures
 
 pub returns : goal.returns
 returns g c =
