@@ -1,3 +1,4 @@
+pub mod Below
 pub mod Kept
 pub mod Edges
 pub mod Exact
