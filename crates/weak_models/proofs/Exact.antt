@@ -26,7 +26,7 @@ use Rattle.weak_models.specs.Preserved.{IsPreserved, IsPreservedBy}
 use Rattle.weak_models.specs.Order.{IsRvwmo, IsBehindPair, ArePairsAtomic}
 use Rattle.weak_models.specs.Arcs.{IsReason, IsRvwmoArc, AreRvwmoArcs, AreWordArcs, AreOtherArcs, RisesByProgram, RisesOverPairs, reasoned_at, AreReasoned}
 use Rattle.weak_models.specs.Verdict.{AreAround}
-use Rattle.weak_models.specs.Checked.{AreReasonedSteps}
+use Rattle.weak_models.specs.Around.{AreStepsAround}
 
 write_uses : (kind : Kind) → is_write kind ≡ true → uses_word kind ≡ true
 write_uses Load e = cc
@@ -161,7 +161,7 @@ rvwmo_of words notes dependencies ops writes edges number t o pairs up program =
   atomic = pairs_atomic words notes ops writes edges number t o pairs up;
 }
 
--- the same by the arcs of all pairs that preserved program order keeps
+-- turns that rise along the arcs of all pairs that preserved program order keeps are an order that explains the trace
 pub is_rvwmo : (words : ℕ) (notes : List Note) (dependencies : List Dependency) (ops : List Operation) (writes : List ℕ) (arcs edges : List Edge)
     (number : ℕ → ℕ) → IsMemoryTrace words ops writes → AreOtherArcs notes ops writes arcs → ExtendsEdges arcs edges
     → RisesByProgram notes dependencies ops writes (length ops) edges
@@ -180,26 +180,43 @@ no_rvwmo words notes dependencies ops writes edges cycle t are c turn o =
     no_rise edges cycle c turn (λ k low. (let a = are.each k low in
     reason_rises words notes dependencies ops writes turn (edge_at edges k).from (edge_at edges k).to a.why t o a.from a.to a.is))
 
--- nor where steps go around, each for its reason
-pub no_order_around : (words : ℕ) (notes : List Note) (dependencies : List Dependency) (ops : List Operation) (writes : List ℕ) (steps : List ReasonedStep)
-    → IsMemoryTrace words ops writes → AreReasonedSteps notes dependencies ops writes steps → AreAround notes dependencies ops writes steps
+-- steps around a circle lead around
+pub led_around : (notes : List Note) (dependencies : List Dependency) (ops : List Operation) (writes circle : List ℕ) (steps : List ReasonedStep)
+    → AreStepsAround notes dependencies ops writes circle steps → AreAround notes dependencies ops writes steps
+led_around notes dependencies ops writes circle steps s =
+    let size = s.size in
+    let some = s.some in
+    let last_is : length circle - 1 ≡ length steps - 1 = omega arith in
+    record {
+      some = omega arith;
+      each = λ k l. (s.each k (omega arith)).is.is;
+      joined = λ k l. (s.each k (omega arith)).next (omega arith) ∙ sym (s.each (k + 1) (omega arith)).from;
+      last = subst (λ z. (reasoned_at steps z).to ≡ (reasoned_at steps 0).from) last_is
+          ((s.each (length circle - 1) (omega arith)).last (omega arith) ∙ sym (s.each 0 (omega arith)).from);
+    }
+
+-- nor where steps lead around a circle, each for its reason
+pub no_order_around : (words : ℕ) (notes : List Note) (dependencies : List Dependency) (ops : List Operation) (writes circle : List ℕ)
+    (steps : List ReasonedStep) → IsMemoryTrace words ops writes → AreStepsAround notes dependencies ops writes circle steps
     → (turn : ℕ → ℕ) → IsRvwmo notes dependencies ops writes turn → ⊥
-no_order_around words notes dependencies ops writes steps t are a turn o =
-    let some = a.some in
+no_order_around words notes dependencies ops writes circle steps t s turn o =
+    let some = s.some in
+    let size = s.size in
+    let a = led_around notes dependencies ops writes circle steps s in
     let back = ap turn a.last in
-    let rises = reach (length steps - 1) (omega (arith, some)) in
+    let rises = reach (length steps - 1) (omega arith) in
     omega (arith, back, rises)
   where
     goes : (k : ℕ) → k < length steps → turn (reasoned_at steps k).from < turn (reasoned_at steps k).to
     goes k low =
-        let r = are k low in
+        let r = (s.each k (subst (λ n. k < n) s.size low)).is in
         reason_rises words notes dependencies ops writes turn (reasoned_at steps k).from (reasoned_at steps k).to (reasoned_at steps k).why t o r.from r.to r.is
 
     reach : (k : ℕ) → k < length steps → turn (reasoned_at steps 0).from < turn (reasoned_at steps k).to
     reach zero low = goes 0 low
     reach (suc k) low =
         let before = reach k (omega (arith, low)) in
-        let joined = ap turn (a.joined k (omega (arith, low))) in
+        let joined = ap turn ((led_around notes dependencies ops writes circle steps s).joined k (omega (arith, low))) in
         let next = goes (suc k) low in
         let one : suc k ≡ k + 1 = omega arith in
         let same = ap (λ z. turn (reasoned_at steps z).from) one in

@@ -1,3 +1,5 @@
+pub mod Below
+pub mod Behind
 pub mod Kept
 pub mod Edges
 pub mod Exact

@@ -3,7 +3,7 @@ pub mod Preserved
 pub mod Order
 pub mod Arcs
 pub mod Verdict
-pub mod Checked
+pub mod Around
 pub mod Bounds
 pub mod Laws
 pub mod Equal

@@ -1,12 +1,12 @@
 //! Bounds of turns along programs: a guess, which is checked.
 
 use crate::bounds::{Bounds, ByKind, bound_of};
-use crate::lists::{at, raise_at};
+use crate::lists::at;
 use crate::notes::{Dependency, DependencyKind, FenceOrder, Note, is_rcsc, note_of, orders};
 use memory_models::{Kind, Operation};
-use std::alloc::{AllocError, Allocator, Global};
+use std::alloc::{AllocError, Allocator};
 
-/// The same bound for each kind.
+/// Bounds that are the same number for each kind.
 fn of_each(bound: usize) -> ByKind {
     ByKind {
         load: bound,
@@ -81,10 +81,9 @@ fn over_fence(fence: FenceOrder, seen: ByKind) -> ByKind {
     )
 }
 
-/// The bounds behind an operation, below the number of which stands its turn, and below the other one
-/// what its address depends on.
-fn after(bounds: Bounds, kind: Kind, note: Note, above: usize, address: usize) -> Bounds {
-    let mut ahead = higher(bounds.ahead, of_writes(address));
+/// The bounds behind an operation, below the number of which stands its turn.
+fn after(bounds: Bounds, kind: Kind, note: Note, above: usize) -> Bounds {
+    let mut ahead = bounds.ahead;
     if kind == Kind::Fence {
         ahead = higher(ahead, over_fence(note.fence, bounds.seen));
     }
@@ -99,57 +98,73 @@ fn after(bounds: Bounds, kind: Kind, note: Note, above: usize, address: usize) -
     }
 }
 
-/// Below what number the turns stand of all that each operation depends on; 0 where there is nothing.
-#[derive(Drop)]
-struct Rows<A: Allocator = Global> {
-    /// By its address.
-    address: Vec<usize, A>,
-    /// By its address or data.
-    through: Vec<usize, A>,
-    /// As the first one behind a branch.
-    branch: Vec<usize, A>,
-}
-
-/// Raises the bounds of an operation by one of its dependencies.
-fn raise<A: Allocator>(rows: &mut Rows<A>, turns: &[usize], dependency: Dependency) {
-    let Dependency {
-        on,
-        operation,
-        kind,
-    } = dependency;
-    let above = at(turns, on).saturating_add(1);
-    match kind {
-        DependencyKind::Address => {
-            raise_at(&mut rows.address, operation, above);
-            raise_at(&mut rows.through, operation, above);
-        }
-        DependencyKind::Data => raise_at(&mut rows.through, operation, above),
-        DependencyKind::Control => raise_at(&mut rows.branch, operation, above),
+/// Raises the bounds of an operation for its own input, and for what writes from it on.
+fn raise(list: &mut [Bounds], y: usize, through: usize, writes: usize) {
+    if y < list.len() {
+        let bounds = list[y];
+        list[y] = Bounds {
+            through: bounds.through.max(through),
+            ahead: higher(bounds.ahead, of_writes(writes)),
+            ..bounds
+        };
     }
-}
-
-/// The bounds by dependencies.
-///
-/// Errors: out of memory.
-fn rows_of<A: Allocator + Copy>(
-    alloc: A,
-    dependencies: &[Dependency],
-    turns: &[usize],
-) -> Result<Rows<A>, AllocError> {
-    let mut rows = Rows {
-        address: vec![in alloc; 0; turns.len()]?,
-        through: vec![in alloc; 0; turns.len()]?,
-        branch: vec![in alloc; 0; turns.len()]?,
-    };
-    for k in 0..dependencies.len() {
-        raise(&mut rows, turns, dependencies[k]);
-    }
-    Ok(rows)
 }
 
 /// Whether an operation is the first one of its program.
 fn is_first(operations: &[Operation], y: usize) -> bool {
     y == 0 || y >= operations.len() || operations[y - 1].processor != operations[y].processor
+}
+
+/// Raises bounds by dependencies: by an address also those of the next operation of the program.
+fn raise_each(
+    dependencies: &[Dependency],
+    operations: &[Operation],
+    turns: &[usize],
+    list: &mut [Bounds],
+) {
+    for k in 0..dependencies.len() {
+        let Dependency {
+            on,
+            operation,
+            kind,
+        } = dependencies[k];
+        let above = at(turns, on).saturating_add(1);
+        let is_branch = kind == DependencyKind::Control;
+        raise(
+            list,
+            operation,
+            wanted(!is_branch, above),
+            wanted(is_branch, above),
+        );
+        let next = operation.saturating_add(1);
+        let goes_on = kind == DependencyKind::Address && !is_first(operations, next);
+        raise(list, next, 0, wanted(goes_on, above));
+    }
+}
+
+/// The bounds before an operation: those behind the one before it, and its own by dependencies.
+fn joined(bounds: Bounds, own: Bounds) -> Bounds {
+    Bounds {
+        ahead: higher(bounds.ahead, own.ahead),
+        through: own.through,
+        ..bounds
+    }
+}
+
+/// Has bounds by dependencies go on along the programs.
+fn go_along(notes: &[Note], operations: &[Operation], turns: &[usize], list: &mut [Bounds]) {
+    let mut bounds = no_bounds();
+    for y in 0..operations.len() {
+        if is_first(operations, y) {
+            bounds = no_bounds();
+        }
+        if y < list.len() {
+            bounds = joined(bounds, list[y]);
+            list[y] = bounds;
+        }
+        let above = at(turns, y).saturating_add(1);
+        bounds = after(bounds, operations[y].kind, note_of(notes, y), above);
+    }
 }
 
 /// The bounds before each operation.
@@ -162,28 +177,8 @@ pub fn bounds_of<A: Allocator + Copy>(
     operations: &[Operation],
     turns: &[usize],
 ) -> Result<Vec<Bounds, A>, AllocError> {
-    let rows = rows_of(alloc, dependencies, turns)?;
-    let mut list = Vec::with_capacity(alloc, operations.len())?;
-    let mut bounds = no_bounds();
-    for y in 0..operations.len() {
-        if is_first(operations, y) {
-            bounds = no_bounds();
-        }
-        let before = Bounds {
-            ahead: higher(bounds.ahead, of_writes(at(&rows.branch, y))),
-            through: at(&rows.through, y),
-            ..bounds
-        };
-        list.push(before)?;
-        let above = at(turns, y).saturating_add(1);
-        let address = at(&rows.address, y);
-        bounds = after(
-            before,
-            operations[y].kind,
-            note_of(notes, y),
-            above,
-            address,
-        );
-    }
+    let mut list = vec![in alloc; no_bounds(); operations.len()]?;
+    raise_each(dependencies, operations, turns, &mut list);
+    go_along(notes, operations, turns, &mut list);
     Ok(list)
 }

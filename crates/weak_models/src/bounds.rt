@@ -1,5 +1,5 @@
 //! Bounds of turns that preserved program order sets before an operation, and how they go on along a
-//! program.
+//! program. They are guessed: a look at them proves what it says by true, and by false it says nothing.
 
 ghost use Rattle.std.specs.Prelude.{◌≡◌, ◌<◌, ◌≤◌, true};
 ghost use Rattle.weak_models.specs.Bounds.{bound_of, AreUnder, AreAtMost, IsBelowAll, IsBelowWrites};
@@ -69,7 +69,7 @@ fn is_below_all(turn: usize, bounds: ByKind) -> bool
     turn < bounds.load && turn < bounds.store && turn < bounds.atomic
 }
 
-/// Whether a turn is below the bounds of what writes.
+/// Whether a turn is below the bounds of what writes. True is proved, and false says nothing.
 pub fn is_below_writes(turn: usize, bounds: ByKind) -> bool
     ensures { result ≡ true → IsBelowWrites turn bounds }
 {
@@ -129,7 +129,8 @@ fn go_on(old: Bounds, new: Bounds) -> bool
     are_under(old.seen, new.seen) && are_under(old.ahead, new.ahead) && old.rcsc <= new.rcsc
 }
 
-/// Whether bounds go on behind an operation of this kind, note and turn.
+/// Whether bounds go on behind an operation of this kind, note and turn. True is proved, and false says
+/// nothing.
 pub fn are_behind(kind: Kind, note: Note, turn: usize, old: Bounds, new: Bounds) -> bool
     ensures { result ≡ true → AreBehind kind note turn old new }
 {
@@ -140,7 +141,8 @@ pub fn are_behind(kind: Kind, note: Note, turn: usize, old: Bounds, new: Bounds)
         && is_rcsc_set(note, turn, new.rcsc)
 }
 
-/// Whether the turn of an operation of this kind and note is no lower than the bounds before it.
+/// Whether the turn of an operation of this kind and note is no lower than the bounds before it. True is
+/// proved, and false says nothing.
 pub fn is_behind_bounds(kind: Kind, note: Note, turn: usize, bounds: Bounds) -> bool
     ensures { result ≡ true → IsBehindBounds kind note turn bounds }
 {

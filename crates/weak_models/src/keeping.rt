@@ -102,7 +102,8 @@ fn is_chained_at(
         || are_behind(kind, note_of(notes, y), turns[y], bounds[y], bounds[y + 1])
 }
 
-/// Whether each operation comes behind those of its program that it has to.
+/// Whether each operation comes behind those of its program that it has to. True is proved, and false
+/// says nothing: behind this guess `judge_by_pairs` decides.
 pub fn are_kept(
     notes: &[Note],
     operations: &[Operation],
@@ -123,7 +124,8 @@ pub fn are_kept(
     true
 }
 
-/// Whether bounds go on from each operation to the next one of its program.
+/// Whether bounds go on from each operation to the next one of its program. True is proved, and false
+/// says nothing: behind this guess `judge_by_pairs` decides.
 pub fn are_chained(
     notes: &[Note],
     operations: &[Operation],
@@ -206,7 +208,8 @@ fn is_dependency_kept(
     }
 }
 
-/// Whether each dependency between operations is kept.
+/// Whether each dependency between operations is kept. True is proved, and false
+/// says nothing: behind this guess `judge_by_pairs` decides.
 pub fn are_dependencies_kept(
     dependencies: &[Dependency],
     operations: &[Operation],

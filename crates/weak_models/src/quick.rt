@@ -2,6 +2,7 @@
 //! graph, and checked.
 
 ghost use Rattle.std.specs.Prelude.{◌≡◌, true, length, IfOk, IfSome};
+ghost use Rattle.rising.specs.Found.{IsPermutationBelow};
 ghost use Rattle.memory_models.specs.Models.{coherent};
 ghost use Rattle.memory_models.specs.Trace.{IsMemoryTrace};
 ghost use Rattle.weak_models.specs.Arcs.{AreOtherArcs};
@@ -10,13 +11,13 @@ ghost use Rattle.weak_models.specs.Verdict.{IsOrderOf, IsRvwmoVerdict};
 
 use crate::bounding::bounds_of;
 use crate::bounds::Bounds;
-use crate::circling::{are_within, circle_over, steps_around};
+use crate::circling::{are_within, operations_around};
 use crate::keeping::{are_chained, are_dependencies_kept, are_kept};
 use crate::notes::{Dependency, Note};
-use crate::reasoned::go_around;
-use crate::thin::{Thin, thin_nodes};
-use crate::thinning::add_program;
-use crate::turns::{are_turns, order_of, rise_along, turns_of};
+use crate::reasoned::steps_around;
+use crate::thin::thin_nodes;
+use crate::thinning::thin_edges;
+use crate::turns::{are_turns, rise_along, turns_of};
 use crate::verdict::RvwmoVerdict;
 use memory_models::{Kinds, Operation, Rule, Verdict, judge};
 use rising::{Edge, Found, rise};
@@ -51,7 +52,7 @@ fn is_coherent<A: Allocator + Copy>(
     }
 }
 
-/// Whether turns are an order of a coherent trace, by the order and bounds that were guessed.
+/// Whether turns are an order of a coherent trace, by bounds that were guessed.
 fn are_order(
     notes: &[Note],
     dependencies: &[Dependency],
@@ -59,19 +60,17 @@ fn are_order(
     writes: &[usize],
     words: usize,
     arcs: &[Edge],
-    order: &[usize],
     turns: &[usize],
     bounds: &[Bounds],
 ) -> bool
     requires trace { IsMemoryTrace words operations.now writes.now }
     requires arcs { AreOtherArcs notes.now operations.now writes.now arcs.now }
     requires coherent { HasOrder coherent operations.now writes.now }
-    requires turns { length turns.now ≡ length operations.now }
-    requires bounds { length bounds.now ≡ length operations.now }
+    requires turns { IsPermutationBelow (length turns.now) turns.now }
     ensures { result ≡ true → IsOrderOf notes.now dependencies.now operations.now writes.now
         turns.now }
 {
-    if !are_turns(order, turns) {
+    if turns.len() != operations.len() || bounds.len() != operations.len() {
         return false;
     }
     if !rise_along(arcs, turns) {
@@ -86,7 +85,45 @@ fn are_order(
     are_dependencies_kept(dependencies, operations, turns, bounds)
 }
 
-/// The order of a coherent trace by numbers of a thin graph's nodes, if it is one.
+/// Whether turns are an order of a trace, by bounds that are guessed. True is proved, and false says
+/// nothing: what stands behind this guess is `judge_by_pairs`, which decides.
+///
+/// Errors: out of memory.
+fn is_order<A: Allocator + Copy>(
+    alloc: A,
+    notes: &[Note],
+    dependencies: &[Dependency],
+    operations: &[Operation],
+    writes: &[usize],
+    words: usize,
+    arcs: &[Edge],
+    turns: &[usize],
+) -> Result<bool, AllocError>
+    requires trace { IsMemoryTrace words operations.now writes.now }
+    requires arcs { AreOtherArcs notes.now operations.now writes.now arcs.now }
+    ensures { IfOk result (λ is. is ≡ true
+        → IsOrderOf notes.now dependencies.now operations.now writes.now turns.now) }
+{
+    if !is_coherent(alloc, operations, writes, words)? {
+        return Ok(false);
+    }
+    if !are_turns(alloc, turns)? {
+        return Ok(false);
+    }
+    let bounds = bounds_of(alloc, notes, dependencies, operations, turns)?;
+    Ok(are_order(
+        notes,
+        dependencies,
+        operations,
+        writes,
+        words,
+        arcs,
+        turns,
+        &bounds,
+    ))
+}
+
+/// The order of a trace by numbers of a thin graph's nodes, if it is one.
 ///
 /// Errors: out of memory.
 fn ordered<A: Allocator + Copy>(
@@ -104,67 +141,24 @@ fn ordered<A: Allocator + Copy>(
     ensures { IfOk result (λ found. IfSome found
         (IsRvwmoVerdict notes.now dependencies.now operations.now writes.now)) }
 {
-    if !is_coherent(alloc, operations, writes, words)? {
-        return Ok(None);
-    }
-    let count = operations.len();
-    let order = order_of(alloc, numbers, count)?;
-    let turns = turns_of(alloc, &order, count)?;
-    let bounds = bounds_of(alloc, notes, dependencies, operations, &turns)?;
-    if turns.len() != count || bounds.len() != count {
-        return Ok(None);
-    }
-    if are_order(
+    let turns = turns_of(alloc, numbers, operations.len())?;
+    let explains = is_order(
+        alloc,
         notes,
         dependencies,
         operations,
         writes,
         words,
         arcs,
-        &order,
         &turns,
-        &bounds,
-    ) {
+    )?;
+    if explains {
         return Ok(Some(RvwmoVerdict::Ordered(turns)));
     }
     Ok(None)
 }
 
-/// The nodes that edges of a list lead from, which are told by their places.
-///
-/// Errors: out of memory.
-fn nodes_on<A: Allocator + Copy>(
-    alloc: A,
-    edges: &[Edge],
-    cycle: &[usize],
-) -> Result<Vec<usize, A>, AllocError> {
-    let mut nodes = Vec::new(alloc);
-    for k in 0..cycle.len() {
-        if cycle[k] < edges.len() {
-            nodes.push(edges[cycle[k]].from)?;
-        }
-    }
-    Ok(nodes)
-}
-
-/// The first of some nodes, so many: those that are operations.
-///
-/// Errors: out of memory.
-fn operations_of<A: Allocator + Copy>(
-    alloc: A,
-    nodes: &[usize],
-    count: usize,
-) -> Result<Vec<usize, A>, AllocError> {
-    let mut list = Vec::new(alloc);
-    for k in 0..nodes.len() {
-        if nodes[k] < count {
-            list.push(nodes[k])?;
-        }
-    }
-    Ok(list)
-}
-
-/// The steps of a circle of a trace, by a circle of a thin graph, if they go around.
+/// The steps of a circle of a trace, by some operations, if they lead around.
 ///
 /// Errors: out of memory.
 fn circled<A: Allocator + Copy>(
@@ -174,39 +168,69 @@ fn circled<A: Allocator + Copy>(
     operations: &[Operation],
     writes: &[usize],
     words: usize,
-    nodes: &[usize],
+    around: &[usize],
 ) -> Result<Option<RvwmoVerdict<A>>, AllocError>
     requires { IsMemoryTrace words operations.now writes.now }
     ensures { IfOk result (λ found. IfSome found
         (IsRvwmoVerdict notes.now dependencies.now operations.now writes.now)) }
 {
-    let around = operations_of(alloc, nodes, operations.len())?;
-    let steps = steps_around(alloc, notes, dependencies, operations, writes, &around)?;
-    if go_around(notes, dependencies, operations, writes, &steps) {
-        return Ok(Some(RvwmoVerdict::Cycle(steps)));
+    match steps_around(alloc, notes, dependencies, operations, writes, around)? {
+        Some(steps) => Ok(Some(RvwmoVerdict::Cycle(steps))),
+        None => Ok(None),
     }
-    Ok(None)
 }
 
-/// The nodes of a short circle of a thin graph: of the one that is told by its edges, or of a shorter one.
+/// Judges a trace by edges of a thin graph of so many nodes: an order or a circle that is checked, or none.
 ///
 /// Errors: out of memory.
-fn shorter<A: Allocator + Copy>(
+fn judge_over<A: Allocator + Copy>(
     alloc: A,
+    notes: &[Note],
+    dependencies: &[Dependency],
+    operations: &[Operation],
+    writes: &[usize],
+    words: usize,
+    arcs: &[Edge],
     nodes: usize,
     edges: &[Edge],
-    cycle: &[usize],
-) -> Result<Vec<usize, A>, AllocError> {
-    let first = nodes_on(alloc, edges, cycle)?;
-    let found = circle_over(alloc, nodes, edges, &first, first.len())?;
-    if found.is_empty() {
-        return Ok(first);
+) -> Result<Option<RvwmoVerdict<A>>, AllocError>
+    requires trace { IsMemoryTrace words operations.now writes.now }
+    requires arcs { AreOtherArcs notes.now operations.now writes.now arcs.now }
+    ensures { IfOk result (λ found. IfSome found
+        (IsRvwmoVerdict notes.now dependencies.now operations.now writes.now)) }
+{
+    if !are_within(nodes, edges) {
+        return Ok(None);
     }
-    Ok(found)
+    match rise(alloc, nodes, edges)? {
+        Found::Rising(numbers) => ordered(
+            alloc,
+            notes,
+            dependencies,
+            operations,
+            writes,
+            words,
+            arcs,
+            &numbers,
+        ),
+        Found::Cycle(cycle) => {
+            let around = operations_around(alloc, operations.len(), nodes, edges, cycle)?;
+            circled(
+                alloc,
+                notes,
+                dependencies,
+                operations,
+                writes,
+                words,
+                &around,
+            )
+        }
+    }
 }
 
 /// Judges a trace by a thin graph, with arcs for what isn't preserved program order: an order or a circle
-/// that is checked, or none.
+/// that is checked, or none. What is answered is proved, and none says nothing: behind this guess
+/// `judge_by_pairs` decides.
 ///
 /// Errors: out of memory.
 pub fn judge_quickly<A: Allocator + Copy>(
@@ -226,41 +250,16 @@ pub fn judge_quickly<A: Allocator + Copy>(
     let Some(nodes) = thin_nodes(operations.len()) else {
         return Ok(None);
     };
-    let mut thin = Thin::of(operations.len(), Vec::from_slice(alloc, arcs)?);
-    add_program(
+    let edges = thin_edges(alloc, notes, dependencies, operations, writes, words, arcs)?;
+    judge_over(
         alloc,
-        &mut thin,
         notes,
         dependencies,
         operations,
         writes,
         words,
-    )?;
-    if !are_within(nodes, &thin.edges) {
-        return Ok(None);
-    }
-    match rise(alloc, nodes, &thin.edges)? {
-        Found::Rising(numbers) => ordered(
-            alloc,
-            notes,
-            dependencies,
-            operations,
-            writes,
-            words,
-            arcs,
-            &numbers,
-        ),
-        Found::Cycle(cycle) => {
-            let around = shorter(alloc, nodes, &thin.edges, &cycle)?;
-            circled(
-                alloc,
-                notes,
-                dependencies,
-                operations,
-                writes,
-                words,
-                &around,
-            )
-        }
-    }
+        arcs,
+        nodes,
+        &edges,
+    )
 }

@@ -1,15 +1,15 @@
-//! Whether steps go around, each for its reason.
+//! Steps around circles, each with its reason.
 
-ghost use Rattle.std.specs.Prelude.{◌≡◌, ◌<◌, true, length, IfSome};
+ghost use Rattle.std.specs.Prelude.{◌≡◌, ◌+◌, ◌<◌, ◌≤◌, length, slice_index, IfOk, IfSome};
 ghost use Rattle.weak_models.specs.Arcs.{IsReason};
-ghost use Rattle.weak_models.specs.Verdict.{AreAround};
-ghost use Rattle.weak_models.specs.Checked.{IsReasonedStep, AreReasonedSteps, AreJoinedSteps};
+ghost use Rattle.weak_models.specs.Around.{IsStepAround, AreStepsAround};
 
 use crate::notes::{Dependency, Note};
 use crate::pairs::is_behind_pair;
 use crate::preserved::rule_of;
 use crate::verdict::{Reason, ReasonedStep};
 use memory_models::{Operation, Why};
+use std::alloc::{AllocError, Allocator};
 
 /// Why one operation comes before another, if it does.
 pub fn reason_between(
@@ -39,73 +39,67 @@ pub fn reason_between(
     }
 }
 
-/// Whether a step has its reason.
-fn is_reasoned(
+/// What stands behind a place of a list around a circle.
+fn next_around(around: &[usize], k: usize) -> usize
+    requires { k < length around.now }
+    ensures next { k + 1 < length around.now → result ≡ slice_index around.now (k + 1) }
+    ensures last { length around.now ≤ k + 1 → result ≡ slice_index around.now 0 }
+{
+    if k + 1 < around.len() {
+        around[k + 1]
+    } else {
+        around[0]
+    }
+}
+
+/// The step from an operation to the next one around a circle, if that comes behind it for a reason.
+fn step_around(
     notes: &[Note],
     dependencies: &[Dependency],
     operations: &[Operation],
     writes: &[usize],
-    step: ReasonedStep,
-) -> bool
-    ensures { result ≡ true
-        → IsReasonedStep notes.now dependencies.now operations.now writes.now step }
+    around: &[usize],
+    k: usize,
+) -> Option<ReasonedStep>
+    requires { k < length around.now }
+    ensures { IfSome result
+        (IsStepAround notes.now dependencies.now operations.now writes.now around.now k) }
 {
-    let count = operations.len();
-    if step.from >= count || step.to >= count {
-        return false;
+    let from = around[k];
+    let to = next_around(around, k);
+    if from >= operations.len() || to >= operations.len() {
+        return None;
     }
-    match reason_between(notes, dependencies, operations, writes, step.from, step.to) {
-        Some(why) => why == step.why,
-        None => false,
+    match reason_between(notes, dependencies, operations, writes, from, to) {
+        Some(why) => Some(ReasonedStep { from, to, why }),
+        None => None,
     }
 }
 
-/// Whether each step has its reason.
-fn are_reasoned(
+/// The steps around some operations, if each comes before the next one for a reason, and the last before
+/// the first.
+///
+/// Errors: out of memory.
+pub fn steps_around<A: Allocator + Copy>(
+    alloc: A,
     notes: &[Note],
     dependencies: &[Dependency],
     operations: &[Operation],
     writes: &[usize],
-    steps: &[ReasonedStep],
-) -> bool
-    ensures { result ≡ true
-        → AreReasonedSteps notes.now dependencies.now operations.now writes.now steps.now }
+    around: &[usize],
+) -> Result<Option<Vec<ReasonedStep, A>>, AllocError>
+    ensures { IfOk result (λ found. IfSome found (λ steps. AreStepsAround notes.now
+        dependencies.now operations.now writes.now around.now steps.items)) }
 {
-    for k in 0..steps.len() {
-        if !is_reasoned(notes, dependencies, operations, writes, steps[k]) {
-            return false;
-        }
+    if around.is_empty() {
+        return Ok(None);
     }
-    true
-}
-
-/// Whether each step leads to the next, and the last one to the first.
-fn are_joined(steps: &[ReasonedStep]) -> bool
-    ensures { result ≡ true → AreJoinedSteps steps.now }
-{
-    if steps.is_empty() {
-        return false;
+    let mut steps = Vec::with_capacity(alloc, around.len())?;
+    for k in 0..around.len() {
+        let Some(step) = step_around(notes, dependencies, operations, writes, around, k) else {
+            return Ok(None);
+        };
+        steps.push(step)?;
     }
-    for k in 1..steps.len() {
-        if steps[k - 1].to != steps[k].from {
-            return false;
-        }
-    }
-    steps[steps.len() - 1].to == steps[0].from
-}
-
-/// Whether each step has its reason and leads to the next, and the last one to the first.
-pub fn go_around(
-    notes: &[Note],
-    dependencies: &[Dependency],
-    operations: &[Operation],
-    writes: &[usize],
-    steps: &[ReasonedStep],
-) -> bool
-    ensures around { result ≡ true
-        → AreAround notes.now dependencies.now operations.now writes.now steps.now }
-    ensures reasons { result ≡ true
-        → AreReasonedSteps notes.now dependencies.now operations.now writes.now steps.now }
-{
-    are_joined(steps) && are_reasoned(notes, dependencies, operations, writes, steps)
+    Ok(Some(steps))
 }

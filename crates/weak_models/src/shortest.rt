@@ -1,42 +1,40 @@
 //! A shortest cycle among some operations: in breadth from each of them, over all reasons.
 
-ghost use Rattle.std.specs.Prelude.{◌≤◌, length, IfOk};
+ghost use Rattle.std.specs.Prelude.{◌≤◌, length, IfOk, IfSome};
 ghost use Rattle.weak_models.specs.Verdict.{AreAround};
 
-use crate::circling::{circle_over, steps_around};
-use crate::lists::at;
+use crate::circling::circle_over;
+use crate::lists::{at, numbers_below, set_at};
 use crate::notes::{Dependency, Note};
-use crate::reasoned::{go_around, reason_between};
+use crate::reasoned::{reason_between, steps_around};
 use crate::verdict::ReasonedStep;
 use memory_models::Operation;
+use memory_models::program::push_if;
 use rising::Edge;
 use std::alloc::{AllocError, Allocator};
 
 /// Among how many operations at most a shortest cycle is sought.
 pub const MOST: usize = 256;
 
-/// Adds an edge between the places of two operations, if the one comes before the other for a reason.
-fn add_edge<A: Allocator + Copy>(
+/// Whether the operation at a place of a list comes before that at another for a reason.
+fn comes_before(
     notes: &[Note],
     dependencies: &[Dependency],
     operations: &[Operation],
     writes: &[usize],
     among: &[usize],
     edge: Edge,
-    edges: &mut Vec<Edge, A>,
-) -> Result<(), AllocError> {
+) -> bool {
     let x = at(among, edge.from);
     let y = at(among, edge.to);
-    if x >= operations.len() || y >= operations.len() {
-        return Ok(());
-    }
-    if reason_between(notes, dependencies, operations, writes, x, y).is_some() {
-        edges.push(edge)?;
-    }
-    Ok(())
+    x < operations.len()
+        && y < operations.len()
+        && reason_between(notes, dependencies, operations, writes, x, y).is_some()
 }
 
-/// An edge for each two of some operations of which one comes before the other for a reason.
+/// An edge for each two places of a list where the one operation comes before the other for a reason.
+///
+/// Errors: out of memory.
 fn edges_among<A: Allocator + Copy>(
     alloc: A,
     notes: &[Note],
@@ -49,58 +47,94 @@ fn edges_among<A: Allocator + Copy>(
     for from in 0..among.len() {
         for to in 0..among.len() {
             let edge = Edge { from, to };
-            add_edge(
-                notes,
-                dependencies,
-                operations,
-                writes,
-                among,
-                edge,
-                &mut edges,
-            )?;
+            let comes = comes_before(notes, dependencies, operations, writes, among, edge);
+            push_if(&mut edges, comes, edge)?;
         }
     }
     Ok(edges)
 }
 
+/// How many operations are looked at, where so many are judged and a cycle of so many is found: all where
+/// they are few, else those of the cycle.
+fn size_of(count: usize, steps: usize) -> usize {
+    if count <= MOST {
+        count
+    } else if steps <= MOST {
+        steps
+    } else {
+        0
+    }
+}
+
+/// Puts the operations that steps lead from into a list.
+fn set_from(steps: &[ReasonedStep], list: &mut [usize]) {
+    for k in 0..steps.len() {
+        set_at(list, k, steps[k].from);
+    }
+}
+
 /// The operations that are looked at: all where they are few, else those of a cycle.
+///
+/// Errors: out of memory.
 fn looked_at<A: Allocator + Copy>(
     alloc: A,
     count: usize,
     first: &[ReasonedStep],
 ) -> Result<Vec<usize, A>, AllocError> {
-    if count <= MOST {
-        return numbers_below(alloc, count);
-    }
-    let mut among = Vec::new(alloc);
-    if first.len() <= MOST {
-        for k in 0..first.len() {
-            among.push(first[k].from)?;
-        }
+    let mut among = numbers_below(alloc, size_of(count, first.len()))?;
+    if count > MOST {
+        set_from(first, &mut among);
     }
     Ok(among)
 }
 
-/// The operations at some places of a list.
-fn picked<A: Allocator + Copy>(
-    alloc: A,
-    among: &[usize],
-    places: &[usize],
-) -> Result<Vec<usize, A>, AllocError> {
-    let mut list = Vec::with_capacity(alloc, places.len())?;
+/// Puts in place of each place of a list what stands there.
+fn set_named(among: &[usize], places: &mut [usize]) {
     for k in 0..places.len() {
-        list.push(at(among, places[k]))?;
+        places[k] = at(among, places[k]);
     }
-    Ok(list)
 }
 
-/// So many numbers, from 0 on.
-fn numbers_below<A: Allocator + Copy>(alloc: A, count: usize) -> Result<Vec<usize, A>, AllocError> {
-    let mut list = Vec::with_capacity(alloc, count)?;
-    for x in 0..count {
-        list.push(x)?;
+/// A circle of fewer than so many of some operations; none where none is found.
+///
+/// Errors: out of memory.
+fn circle_among<A: Allocator + Copy>(
+    alloc: A,
+    notes: &[Note],
+    dependencies: &[Dependency],
+    operations: &[Operation],
+    writes: &[usize],
+    among: &[usize],
+    size: usize,
+) -> Result<Vec<usize, A>, AllocError> {
+    let edges = edges_among(alloc, notes, dependencies, operations, writes, among)?;
+    let starts = numbers_below(alloc, among.len())?;
+    let mut circle = circle_over(alloc, among.len(), &edges, &starts, size)?;
+    set_named(among, &mut circle);
+    Ok(circle)
+}
+
+/// A shorter cycle of the operations that are looked at, if one is found.
+///
+/// Errors: out of memory.
+fn shorter<A: Allocator + Copy>(
+    alloc: A,
+    notes: &[Note],
+    dependencies: &[Dependency],
+    operations: &[Operation],
+    writes: &[usize],
+    first: &[ReasonedStep],
+) -> Result<Option<Vec<ReasonedStep, A>>, AllocError>
+    ensures { IfOk result (λ found. IfSome found (λ steps. AreAround notes.now
+        dependencies.now operations.now writes.now steps.items)) }
+{
+    let among = looked_at(alloc, operations.len(), first)?;
+    let size = first.len();
+    let around = circle_among(alloc, notes, dependencies, operations, writes, &among, size)?;
+    match steps_around(alloc, notes, dependencies, operations, writes, &around)? {
+        Some(steps) => Ok(Some(steps)),
+        None => Ok(None),
     }
-    Ok(list)
 }
 
 /// A shortest cycle of up to 256 operations, or of more of those of a cycle that was found, if that has
@@ -120,14 +154,8 @@ pub fn shortest<A: Allocator + Copy>(
         writes.now steps.items) }
     ensures shorter { IfOk result (λ steps. length steps.items ≤ length first.items) }
 {
-    let among = looked_at(alloc, operations.len(), &first)?;
-    let edges = edges_among(alloc, notes, dependencies, operations, writes, &among)?;
-    let starts = numbers_below(alloc, among.len())?;
-    let places = circle_over(alloc, among.len(), &edges, &starts, first.len())?;
-    let around = picked(alloc, &among, &places)?;
-    let steps = steps_around(alloc, notes, dependencies, operations, writes, &around)?;
-    if steps.len() <= first.len() && go_around(notes, dependencies, operations, writes, &steps) {
-        return Ok(steps);
+    match shorter(alloc, notes, dependencies, operations, writes, &first)? {
+        Some(steps) if steps.len() <= first.len() => Ok(steps),
+        _ => Ok(first),
     }
-    Ok(first)
 }

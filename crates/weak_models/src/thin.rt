@@ -1,25 +1,24 @@
-//! A thin graph of preserved program order: helper nodes collect operations, and lead to those behind
-//! them. A guess, which is checked.
+//! The nodes and the edges of a thin graph of preserved program order: helper nodes collect operations,
+//! and lead to those behind them. A guess, which is checked.
 
 use crate::notes::{Dependency, DependencyKind, FenceOrder, Note, orders, reads};
 use memory_models::Kind;
 use memory_models::kinds::is_write;
 use rising::Edge;
-use std::alloc::{AllocError, Allocator, Global};
 
-/// A node that helps an operation.
+/// The nodes that help an operation.
 #[derive(Clone, Copy)]
-pub enum Helper {
-    /// What reads before it in its program leads to it.
-    ReadsBefore,
+pub struct Helpers {
+    /// What reads before the operation in its program leads to it.
+    pub reads_before: usize,
     /// What writes before it does.
-    WritesBefore,
+    pub writes_before: usize,
     /// It leads to what reads from the operation on.
-    ReadsBehind,
+    pub reads_behind: usize,
     /// It leads to what writes from the operation on.
-    WritesBehind,
+    pub writes_behind: usize,
     /// What a store's address or data depends on leads to it, and it to loads of the store.
-    Through,
+    pub through: usize,
 }
 
 /// How many helpers an operation has.
@@ -30,159 +29,106 @@ pub fn thin_nodes(count: usize) -> Option<usize> {
     count.checked_mul(HELPERS + 1)
 }
 
-/// The edges of a thin graph.
-#[derive(Drop)]
-pub struct Thin<A: Allocator = Global> {
-    /// How many operations there are.
-    count: usize,
-    /// The edges.
-    pub edges: Vec<Edge, A>,
+/// The helpers of an operation among so many.
+pub fn helpers_of(count: usize, x: usize) -> Helpers {
+    Helpers {
+        reads_before: count.saturating_add(x),
+        writes_before: count.saturating_mul(2).saturating_add(x),
+        reads_behind: count.saturating_mul(3).saturating_add(x),
+        writes_behind: count.saturating_mul(4).saturating_add(x),
+        through: count.saturating_mul(5).saturating_add(x),
+    }
 }
 
-impl<A: Allocator + Copy> Thin<A> {
-    /// A graph of so many operations with these edges.
-    pub fn of(count: usize, edges: Vec<Edge, A>) -> Thin<A> {
-        Thin { count, edges }
+/// An edge, if it is wanted.
+pub fn when(wanted: bool, from: usize, to: usize) -> Option<Edge> {
+    if wanted {
+        Some(Edge { from, to })
+    } else {
+        None
     }
+}
 
-    /// The node of an operation's helper.
-    fn helper(&self, helper: Helper, x: usize) -> usize {
-        let place = match helper {
-            Helper::ReadsBefore => 1,
-            Helper::WritesBefore => 2,
-            Helper::ReadsBehind => 3,
-            Helper::WritesBehind => 4,
-            Helper::Through => 5,
-        };
-        self.count.saturating_mul(place).saturating_add(x)
-    }
+/// Joins the helpers of an operation to those of the one before it in its program, of some kind.
+pub fn follow(kind: Kind, x: usize, from: Helpers, to: Helpers) -> [Option<Edge>; 6] {
+    [
+        when(true, from.reads_before, to.reads_before),
+        when(true, from.writes_before, to.writes_before),
+        when(true, from.reads_behind, to.reads_behind),
+        when(true, from.writes_behind, to.writes_behind),
+        when(reads(kind), x, to.reads_before),
+        when(is_write(kind), x, to.writes_before),
+    ]
+}
 
-    /// Leads from one operation to another.
-    ///
-    /// Errors: out of memory.
-    pub fn lead(&mut self, from: usize, to: usize) -> Result<(), AllocError> {
-        self.edges.push(Edge { from, to })?;
-        Ok(())
-    }
+/// Leads through a fence.
+pub fn through(fence: FenceOrder, here: Helpers) -> [Option<Edge>; 8] {
+    let load_load = orders(fence, Kind::Load, Kind::Load);
+    let load_store = orders(fence, Kind::Load, Kind::Store);
+    let store_load = orders(fence, Kind::Store, Kind::Load);
+    let store_store = orders(fence, Kind::Store, Kind::Store);
+    [
+        when(load_load, here.reads_before, here.reads_behind),
+        when(load_store, here.reads_before, here.writes_behind),
+        when(store_load, here.writes_before, here.reads_behind),
+        when(store_store, here.writes_before, here.writes_behind),
+        None,
+        None,
+        None,
+        None,
+    ]
+}
 
-    /// Leads from a helper of an operation to the same one of another.
-    fn chain(&mut self, helper: Helper, x: usize, y: usize) -> Result<(), AllocError> {
-        let from = self.helper(helper, x);
-        let to = self.helper(helper, y);
-        self.lead(from, to)
+/// Leads to a store conditional from the load reserved that it is paired with.
+fn by_pair(note: Note, y: usize) -> Option<Edge> {
+    match note.pair {
+        Some(reserved) => when(true, reserved, y),
+        None => None,
     }
+}
 
-    /// Leads from an operation to a helper of another.
-    ///
-    /// Errors: out of memory.
-    pub fn collect(&mut self, x: usize, helper: Helper, y: usize) -> Result<(), AllocError> {
-        let to = self.helper(helper, y);
-        self.lead(x, to)
-    }
+/// Leads to an operation of a kind from what is to be before that, and by its annotations from all before
+/// it and to the helpers of the next one, if there is one.
+pub fn by_note(
+    kind: Kind,
+    note: Note,
+    y: usize,
+    rcsc: Option<Edge>,
+    here: Helpers,
+    next: Helpers,
+    has_next: bool,
+) -> [Option<Edge>; 8] {
+    [
+        when(reads(kind), here.reads_behind, y),
+        when(is_write(kind), here.writes_behind, y),
+        rcsc,
+        when(note.acquire && has_next, y, next.reads_behind),
+        when(note.acquire && has_next, y, next.writes_behind),
+        when(note.release, here.reads_before, y),
+        when(note.release, here.writes_before, y),
+        by_pair(note, y),
+    ]
+}
 
-    /// Leads from a helper of an operation to another.
-    ///
-    /// Errors: out of memory.
-    pub fn spread(&mut self, helper: Helper, x: usize, y: usize) -> Result<(), AllocError> {
-        let from = self.helper(helper, x);
-        self.lead(from, y)
+/// Leads from what an operation depends on.
+pub fn by_dependency(
+    dependency: Dependency,
+    here: Helpers,
+    next: Helpers,
+    has_next: bool,
+) -> [Option<Edge>; 3] {
+    let Dependency {
+        on,
+        operation,
+        kind,
+    } = dependency;
+    if kind == DependencyKind::Control {
+        return [when(true, on, here.writes_behind), None, None];
     }
-
-    /// Joins an operation's helpers to those of the one before it in its program, of some kind.
-    ///
-    /// Errors: out of memory.
-    pub fn follow(&mut self, kind: Kind, x: usize, y: usize) -> Result<(), AllocError> {
-        self.chain(Helper::ReadsBefore, x, y)?;
-        self.chain(Helper::WritesBefore, x, y)?;
-        self.chain(Helper::ReadsBehind, x, y)?;
-        self.chain(Helper::WritesBehind, x, y)?;
-        if reads(kind) {
-            self.collect(x, Helper::ReadsBefore, y)?;
-        }
-        if is_write(kind) {
-            self.collect(x, Helper::WritesBefore, y)?;
-        }
-        Ok(())
-    }
-
-    /// Leads to an operation of a kind from what is to be before that.
-    ///
-    /// Errors: out of memory.
-    pub fn arrive(&mut self, kind: Kind, y: usize) -> Result<(), AllocError> {
-        if reads(kind) {
-            self.spread(Helper::ReadsBehind, y, y)?;
-        }
-        if is_write(kind) {
-            self.spread(Helper::WritesBehind, y, y)?;
-        }
-        Ok(())
-    }
-
-    /// Leads through a fence from one helper to another, if it is wanted.
-    fn cross(
-        &mut self,
-        wanted: bool,
-        y: usize,
-        before: Helper,
-        behind: Helper,
-    ) -> Result<(), AllocError> {
-        if !wanted {
-            return Ok(());
-        }
-        let from = self.helper(before, y);
-        let to = self.helper(behind, y);
-        self.lead(from, to)
-    }
-
-    /// Leads through a fence.
-    ///
-    /// Errors: out of memory.
-    pub fn fence(&mut self, fence: FenceOrder, y: usize) -> Result<(), AllocError> {
-        let load_load = orders(fence, Kind::Load, Kind::Load);
-        let load_store = orders(fence, Kind::Load, Kind::Store);
-        let store_load = orders(fence, Kind::Store, Kind::Load);
-        let store_store = orders(fence, Kind::Store, Kind::Store);
-        self.cross(load_load, y, Helper::ReadsBefore, Helper::ReadsBehind)?;
-        self.cross(load_store, y, Helper::ReadsBefore, Helper::WritesBehind)?;
-        self.cross(store_load, y, Helper::WritesBefore, Helper::ReadsBehind)?;
-        self.cross(store_store, y, Helper::WritesBefore, Helper::WritesBehind)
-    }
-
-    /// Leads from an operation to all behind it, or to it from all before it, by its annotations.
-    ///
-    /// Errors: out of memory.
-    pub fn annotate(&mut self, note: Note, y: usize, has_next: bool) -> Result<(), AllocError> {
-        if note.acquire && has_next {
-            self.collect(y, Helper::ReadsBehind, y.saturating_add(1))?;
-            self.collect(y, Helper::WritesBehind, y.saturating_add(1))?;
-        }
-        if note.release {
-            self.spread(Helper::ReadsBefore, y, y)?;
-            self.spread(Helper::WritesBefore, y, y)?;
-        }
-        if let Some(reserved) = note.pair {
-            self.lead(reserved, y)?;
-        }
-        Ok(())
-    }
-
-    /// Leads from what an operation depends on.
-    ///
-    /// Errors: out of memory.
-    pub fn depend(&mut self, dependency: Dependency, has_next: bool) -> Result<(), AllocError> {
-        let Dependency {
-            on,
-            operation,
-            kind,
-        } = dependency;
-        if kind == DependencyKind::Control {
-            return self.collect(on, Helper::WritesBehind, operation);
-        }
-        self.lead(on, operation)?;
-        self.collect(on, Helper::Through, operation)?;
-        if kind == DependencyKind::Address && has_next {
-            self.collect(on, Helper::WritesBehind, operation.saturating_add(1))?;
-        }
-        Ok(())
-    }
+    let is_address = kind == DependencyKind::Address;
+    [
+        when(true, on, operation),
+        when(true, on, here.through),
+        when(is_address && has_next, on, next.writes_behind),
+    ]
 }

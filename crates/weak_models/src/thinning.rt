@@ -5,10 +5,48 @@ ghost use Rattle.std.specs.Prelude.{◌≡◌, ◌<◌, true, length};
 use crate::lists::{at, set_at};
 use crate::notes::{Dependency, Note, is_rcsc, note_of, reads};
 use crate::rules::{is_atomic_source, read_of};
-use crate::thin::{Helper, Thin};
+use crate::thin::{by_dependency, by_note, follow, helpers_of, through, when};
 use memory_models::kinds::{is_write, uses_word};
 use memory_models::{Kind, Operation};
+use rising::Edge;
 use std::alloc::{AllocError, Allocator};
+
+/// How many edges of the thin graph an operation is the reason of, at most.
+const MOST_OF_OPERATION: usize = 18;
+
+/// How many a dependency is the reason of, at most.
+const MOST_OF_DEPENDENCY: usize = 3;
+
+/// How many edges the thin graph has at most, with so many edges that are there already.
+fn most_edges(edges: usize, operations: usize, dependencies: usize) -> usize {
+    edges
+        .saturating_add(operations.saturating_mul(MOST_OF_OPERATION))
+        .saturating_add(dependencies.saturating_mul(MOST_OF_DEPENDENCY))
+}
+
+/// Puts the edges that are wanted into a list, from a place on, as far as the list has places. The place
+/// behind them is answered.
+fn put(list: &mut [Edge], end: usize, found: &[Option<Edge>]) -> usize {
+    let mut end = end;
+    for k in 0..found.len() {
+        if let Some(edge) = found[k]
+            && end < list.len()
+        {
+            list[end] = edge;
+            end += 1;
+        }
+    }
+    end
+}
+
+/// Puts edges at the front of a list. The place behind them is answered.
+fn put_all(list: &mut [Edge], edges: &[Edge]) -> usize {
+    let mut end = 0;
+    for k in 0..edges.len() {
+        end = put(list, end, &[Some(edges[k])]);
+    }
+    end
+}
 
 /// Whether two operations are of one processor, the first one before the other; not so beyond the list.
 fn is_own(operations: &[Operation], x: usize, y: usize) -> bool
@@ -17,155 +55,209 @@ fn is_own(operations: &[Operation], x: usize, y: usize) -> bool
     x < y && y < operations.len() && operations[x].processor == operations[y].processor
 }
 
-/// Leads to an operation by the write that it read, and by the last operation on its word before it.
-fn by_read<A: Allocator + Copy>(
-    thin: &mut Thin<A>,
+/// Leads to what reads by the write that it read, and by the last operation on its word before it.
+fn by_read(
     notes: &[Note],
     operations: &[Operation],
     writes: &[usize],
     last: usize,
     y: usize,
-) -> Result<(), AllocError>
+) -> [Option<Edge>; 3]
     requires { y < length operations.now }
 {
+    if !reads(operations[y].kind) {
+        return [None, None, None];
+    }
     let source = read_of(operations, writes, y);
-    if is_own(operations, source, y) {
-        thin.spread(Helper::Through, source, y)?;
-        if is_atomic_source(notes, operations, writes, source, y) {
-            thin.lead(source, y)?;
-        }
-    }
-    if is_own(operations, last, y)
+    let is_source = is_own(operations, source, y);
+    let is_kept = is_own(operations, source, y)
+        && is_atomic_source(notes, operations, writes, source, y);
+    let is_other = is_own(operations, last, y)
         && reads(operations[last].kind)
-        && read_of(operations, writes, last) != source
-    {
-        thin.lead(last, y)?;
-    }
-    Ok(())
+        && read_of(operations, writes, last) != source;
+    [
+        when(is_source, helpers_of(operations.len(), source).through, y),
+        when(is_kept, source, y),
+        when(is_other, last, y),
+    ]
 }
 
-/// Leads to what reads.
-///
-/// Errors: out of memory.
-fn add_reads<A: Allocator + Copy>(
-    alloc: A,
-    thin: &mut Thin<A>,
+/// Leads to what reads. Of each word the last operation is kept, of which there is none yet.
+fn add_reads(
+    list: &mut [Edge],
+    end: usize,
     notes: &[Note],
     operations: &[Operation],
     writes: &[usize],
-    words: usize,
-) -> Result<(), AllocError> {
-    let mut lasts = vec![in alloc; usize::MAX; words]?;
+    lasts: &mut [usize],
+) -> usize {
+    let mut end = end;
     for y in 0..operations.len() {
         let Operation { kind, word, .. } = operations[y];
-        if reads(kind) {
-            by_read(thin, notes, operations, writes, at(&lasts, word), y)?;
-        }
+        end = put(
+            list,
+            end,
+            &by_read(notes, operations, writes, at(lasts, word), y),
+        );
         if uses_word(kind) {
-            set_at(&mut lasts, word, y);
+            set_at(lasts, word, y);
         }
     }
-    Ok(())
+    end
 }
 
-/// Leads from each operation to the next write of its program on its word.
-///
-/// Errors: out of memory.
-fn add_next_writes<A: Allocator + Copy>(
-    alloc: A,
-    thin: &mut Thin<A>,
+/// Leads from an operation to a write of its program on its word behind it.
+fn to_write(operations: &[Operation], x: usize, next: usize) -> [Option<Edge>; 1]
+    requires { x < length operations.now }
+{
+    [when(
+        uses_word(operations[x].kind) && is_own(operations, x, next),
+        x,
+        next,
+    )]
+}
+
+/// Leads from each operation to the next write of its program on its word. Of each word the first write
+/// is kept, of which there is none yet.
+fn add_next_writes(
+    list: &mut [Edge],
+    end: usize,
     operations: &[Operation],
-    words: usize,
-) -> Result<(), AllocError> {
-    let count = operations.len();
-    let mut nexts = vec![in alloc; usize::MAX; words]?;
-    for k in 0..count {
-        let x = count - 1 - k;
+    nexts: &mut [usize],
+) -> usize {
+    let mut end = end;
+    for k in 0..operations.len() {
+        let x = operations.len() - 1 - k;
         let Operation { kind, word, .. } = operations[x];
-        let next = at(&nexts, word);
-        if uses_word(kind) && is_own(operations, x, next) {
-            thin.lead(x, next)?;
-        }
+        end = put(list, end, &to_write(operations, x, at(nexts, word)));
         if is_write(kind) {
-            set_at(&mut nexts, word, x);
+            set_at(nexts, word, x);
         }
     }
-    Ok(())
+    end
+}
+
+/// Joins an operation to the one before it in its program.
+fn by_program(operations: &[Operation], y: usize) -> [Option<Edge>; 6] {
+    let count = operations.len();
+    let x = y.saturating_sub(1);
+    if !is_own(operations, x, y) {
+        return [None, None, None, None, None, None];
+    }
+    follow(
+        operations[x].kind,
+        x,
+        helpers_of(count, x),
+        helpers_of(count, y),
+    )
 }
 
 /// Leads to an operation by the fences and the annotations of its program.
-fn by_notes<A: Allocator + Copy>(
-    thin: &mut Thin<A>,
-    notes: &[Note],
-    operations: &[Operation],
-    rcsc: usize,
-    y: usize,
-) -> Result<(), AllocError>
+fn by_notes(notes: &[Note], operations: &[Operation], rcsc: usize, y: usize) -> [Option<Edge>; 8]
     requires { y < length operations.now }
 {
     let kind = operations[y].kind;
     let note = note_of(notes, y);
-    if y > 0 && is_own(operations, y - 1, y) {
-        thin.follow(operations[y - 1].kind, y - 1, y)?;
-    }
+    let here = helpers_of(operations.len(), y);
     if kind == Kind::Fence {
-        return thin.fence(note.fence, y);
+        return through(note.fence, here);
     }
-    thin.arrive(kind, y)?;
-    if is_rcsc(note) && is_own(operations, rcsc, y) {
-        thin.lead(rcsc, y)?;
-    }
-    thin.annotate(note, y, is_own(operations, y, y.saturating_add(1)))
+    let is_last = is_rcsc(note) && is_own(operations, rcsc, y);
+    let next = y.saturating_add(1);
+    by_note(
+        kind,
+        note,
+        y,
+        when(is_last, rcsc, y),
+        here,
+        helpers_of(operations.len(), next),
+        is_own(operations, y, next),
+    )
 }
 
 /// Leads by fences and annotations.
-///
-/// Errors: out of memory.
-fn add_notes<A: Allocator + Copy>(
-    thin: &mut Thin<A>,
-    notes: &[Note],
-    operations: &[Operation],
-) -> Result<(), AllocError> {
+fn add_notes(list: &mut [Edge], end: usize, notes: &[Note], operations: &[Operation]) -> usize {
+    let mut end = end;
     let mut rcsc = usize::MAX;
     for y in 0..operations.len() {
-        by_notes(thin, notes, operations, rcsc, y)?;
+        end = put(list, end, &by_program(operations, y));
+        end = put(list, end, &by_notes(notes, operations, rcsc, y));
         if is_rcsc(note_of(notes, y)) {
             rcsc = y;
         }
     }
-    Ok(())
+    end
+}
+
+/// Leads from what an operation depends on.
+fn by_input(operations: &[Operation], dependency: Dependency) -> [Option<Edge>; 3] {
+    let y = dependency.operation;
+    let next = y.saturating_add(1);
+    let count = operations.len();
+    by_dependency(
+        dependency,
+        helpers_of(count, y),
+        helpers_of(count, next),
+        is_own(operations, y, next),
+    )
 }
 
 /// Leads by dependencies.
-///
-/// Errors: out of memory.
-fn add_dependencies<A: Allocator + Copy>(
-    thin: &mut Thin<A>,
+fn add_dependencies(
+    list: &mut [Edge],
+    end: usize,
     dependencies: &[Dependency],
     operations: &[Operation],
-) -> Result<(), AllocError> {
+) -> usize {
+    let mut end = end;
     for k in 0..dependencies.len() {
-        let Dependency { operation, .. } = dependencies[k];
-        let has_next = is_own(operations, operation, operation.saturating_add(1));
-        thin.depend(dependencies[k], has_next)?;
+        end = put(list, end, &by_input(operations, dependencies[k]));
     }
-    Ok(())
+    end
 }
 
-/// Adds edges for preserved program order.
+/// Puts edges, and those for preserved program order, into a list. The place behind them is answered.
+fn add_program(
+    list: &mut [Edge],
+    lasts: &mut [usize],
+    notes: &[Note],
+    dependencies: &[Dependency],
+    operations: &[Operation],
+    writes: &[usize],
+    edges: &[Edge],
+) -> usize {
+    let end = put_all(list, edges);
+    let end = add_reads(list, end, notes, operations, writes, lasts);
+    lasts.fill(usize::MAX);
+    let end = add_next_writes(list, end, operations, lasts);
+    let end = add_notes(list, end, notes, operations);
+    add_dependencies(list, end, dependencies, operations)
+}
+
+/// The edges of the thin graph: these, and those for preserved program order.
 ///
 /// Errors: out of memory.
-pub fn add_program<A: Allocator + Copy>(
+pub fn thin_edges<A: Allocator + Copy>(
     alloc: A,
-    thin: &mut Thin<A>,
     notes: &[Note],
     dependencies: &[Dependency],
     operations: &[Operation],
     writes: &[usize],
     words: usize,
-) -> Result<(), AllocError> {
-    add_reads(alloc, thin, notes, operations, writes, words)?;
-    add_next_writes(alloc, thin, operations, words)?;
-    add_notes(thin, notes, operations)?;
-    add_dependencies(thin, dependencies, operations)
+    edges: &[Edge],
+) -> Result<Vec<Edge, A>, AllocError> {
+    let most = most_edges(edges.len(), operations.len(), dependencies.len());
+    let mut lasts = vec![in alloc; usize::MAX; words]?;
+    let mut list = vec![in alloc; Edge { from: 0, to: 0 }; most]?;
+    let end = add_program(
+        &mut list,
+        &mut lasts,
+        notes,
+        dependencies,
+        operations,
+        writes,
+        edges,
+    );
+    list.truncate(end);
+    Ok(list)
 }

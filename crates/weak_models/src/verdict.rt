@@ -3,7 +3,7 @@
 use std::alloc::{Allocator, Global};
 
 /// A rule of preserved program order, in the order of the manual's numbers 1 to 13.
-#[derive(Clone, Copy, PartialEq, Eq)]
+#[derive(Clone, Copy)]
 pub enum PreservedRule {
     /// 1: the second is a store on the first's word.
     SameWordStore,
@@ -36,7 +36,7 @@ pub enum PreservedRule {
 }
 
 /// Why one operation comes before another.
-#[derive(Clone, Copy, PartialEq, Eq)]
+#[derive(Clone, Copy)]
 pub enum Reason {
     /// A rule keeps their program order.
     Preserved(PreservedRule),
