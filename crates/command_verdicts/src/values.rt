@@ -20,16 +20,14 @@ use torus::Fault;
 pub enum Decided {
     /// Whether it obeys each model; the answer is printed.
     Models(Decisions),
-    /// These two operations leave the same in one word, so no model is asked, and nothing is printed.
-    Alike(Logged, Logged),
     /// This operation found what no write of its word left, so the log breaks every model, and nothing
     /// is printed.
     Unwritten(Logged),
 }
 
 /// Judges the log of a text by five memory models, by its operations and their replies alone, and prints
-/// a line for each, and, if asked for, an order of the strongest that it obeys. If the replies don't say
-/// who wrote what was found, nothing is written.
+/// a line for each, and, if asked for, an order of the strongest that it obeys. If no write left what
+/// was found, nothing is written.
 ///
 /// Errors: the first fault of the text, or out of memory; and nothing was written then. If the output
 /// fails, a beginning was written.
@@ -49,7 +47,6 @@ pub fn values_text<A: Allocator + Copy, W: Out>(
             Ok(Decided::Models(answer.decisions))
         }
         Err(NoValueAnswer::Refused(refusal)) => Err(ProgramFault::from(LineFault::from(refusal))),
-        Err(NoValueAnswer::Alike(first, second)) => Ok(Decided::Alike(first, second)),
         Err(NoValueAnswer::Unwritten(step)) => Ok(Decided::Unwritten(step)),
         Err(NoValueAnswer::Memory) => Err(ProgramFault::Fault(Fault::Memory)),
     }
@@ -67,7 +64,6 @@ pub fn decided_status(decided: Decided, model: MemoryModel) -> u8
             Decision::Undecided => 5,
             Decision::NotTold => 5,
         },
-        Decided::Alike(_, _) => 5,
         Decided::Unwritten(_) => 1,
     }
 }

@@ -42,8 +42,6 @@ pub struct ValueAnswer<A: Allocator = Global> {
 pub enum NoValueAnswer {
     /// The text is no log, or lacks a reply.
     Refused(Refusal<LogReason>),
-    /// These two operations leave the same in one word, so the replies don't say who wrote what was found.
-    Alike(Logged, Logged),
     /// This operation found what no write of its word left. No order explains that, so the log breaks
     /// every model.
     Unwritten(Logged),
@@ -88,7 +86,6 @@ fn no_answer(steps: &[Logged], why: Unsaid) -> NoValueAnswer
     ensures { result ≡ no_answer_of steps.now why }
 {
     match why {
-        Unsaid::Alike(x, y) => NoValueAnswer::Alike(logged_at(steps, x), logged_at(steps, y)),
         Unsaid::Unwritten(x) => NoValueAnswer::Unwritten(logged_at(steps, x)),
         Unsaid::Memory => NoValueAnswer::Memory,
     }
@@ -97,7 +94,7 @@ fn no_answer(steps: &[Logged], why: Unsaid) -> NoValueAnswer
 /// Which memory models a log obeys by its operations and their replies alone, weakest first; and, if that
 /// is asked, an order of the strongest that it obeys.
 ///
-/// Errors: two writes that leave the same in one word, a reply that no write left, or out of memory.
+/// Errors: a reply that no write left, or out of memory.
 pub fn answer_to_values<A: Allocator + Copy>(
     alloc: A,
     log: &Log<A>,
@@ -131,8 +128,8 @@ pub fn answer_to_values<A: Allocator + Copy>(
 /// Which memory models the log that a text is obeys by its operations and their replies alone, as
 /// `answer_to_values` says it.
 ///
-/// Errors: where and why the text is no log or lacks a reply, two writes that leave the same in one word,
-/// a reply that no write left, or out of memory.
+/// Errors: where and why the text is no log or lacks a reply, a reply that no write left, or out of
+/// memory.
 pub fn value_answer<A: Allocator + Copy>(
     alloc: A,
     text: &[u8],

@@ -12,6 +12,11 @@ pub mod Weights
 pub mod Walked
 pub mod Searching
 pub mod ValuedVerdicts
+pub mod Chosen
+pub mod Choosing
+pub mod Looked
+pub mod Taking
+pub mod Opened
 pub mod Replies
 pub mod Sorted
 pub mod Laid

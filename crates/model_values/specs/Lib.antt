@@ -6,5 +6,7 @@ pub mod Answers
 pub mod Values
 pub mod Sorted
 pub mod Searches
+pub mod Choices
 pub mod ValuedVerdict
+pub mod ChoiceSteps
 pub mod Replies

@@ -65,13 +65,6 @@ pub record IsUnwritten (v : Valued) (x : ℕ) : Type 0 where
   pub reads : IsReader v.operations.now x
   pub none : (s : ℕ) → IsLeftBy v.operations.now v.left.now v.found.now x s → ⊥
 
--- each word that was found shows who wrote it: no two writes left the same in one word, and some
--- write left what each reader found
-pub record HasClearWriters (v : Valued) : Type 0 where
-  pub unlike : (x y : ℕ) → AreAlikeValues v.operations.now v.left.now x y → ⊥
-  pub written : (x : ℕ) → x < length v.operations.now → IsReader v.operations.now x
-      → (s : ℕ) × IsLeftBy v.operations.now v.left.now v.found.now x s
-
 -- the source of an operation: of a reader a write of its word that left what it found, of another
 -- operation 0
 pub record IsKnownSource (v : Valued) (x s : ℕ) : Type 0 where

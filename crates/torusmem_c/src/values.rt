@@ -100,9 +100,6 @@ fn no_values_record(why: NoValueAnswer) -> ValuesRecord
         NoValueAnswer::Refused(refusal) => {
             unvalued_record(fault_outcome(LineFault::from(refusal)), 0)
         }
-        NoValueAnswer::Alike(first, second) => {
-            unvalued_record(Outcome::of(Code::Alike, first.line), second.line)
-        }
         NoValueAnswer::Unwritten(step) => {
             unvalued_record(Outcome::of(Code::Unwritten, reply_line(step)), 0)
         }
