@@ -10,7 +10,7 @@ use Rattle.model_replies.specs.declared.answer.NoValueAnswer.{NoValueAnswer}
 use Rattle.model_replies.specs.declared.answer.ValueAnswer.{ValueAnswer}
 use Rattle.model_replies.specs.declared.answer.ValueOptions.{ValueOptions}
 use Rattle.model_replies.specs.declared.judging.Unsaid.{Unsaid}
-use Rattle.model_replies.specs.declared.judging.Unsaid.TheVariants.{Unwritten, Memory}
+use Rattle.model_replies.specs.declared.judging.Unsaid.TheVariants.{Unwritten, Lost, Memory}
 use Rattle.model_replies.specs.declared.judging.ValueVerdicts.{ValueVerdicts}
 use Rattle.model_replies.specs.declared.steps.ValuedLog.{ValuedLog}
 use Rattle.model_replies.specs.Answers.{HasNoAnswerOn, HasVerdicts, IsValueAnswerOn, no_answer_of}
@@ -46,5 +46,15 @@ unanswered log v steps (Unwritten x) e told is = record {
   unwritten = is.0;
   none = is.1;
   is = ap (λ (s : List Logged). logged_at s x) e;
+}
+unanswered log v steps (Lost x y) e told is = record {
+  valued = v;
+  told = told;
+  first = x;
+  second = y;
+  lost = is.0;
+  none = is.1;
+  first_is = ap (λ (s : List Logged). logged_at s x) e;
+  second_is = ap (λ (s : List Logged). logged_at s y) e;
 }
 unanswered log v steps Memory e told is = tt

@@ -10,10 +10,11 @@ use Rattle.model_text.specs.declared.reason.LogReason.TheVariants as reason
 use Rattle.model_text.specs.Made.{LogLines}
 use Rattle.model_text.specs.Traces.{logged_at, steps_of_log}
 use Rattle.model_values.specs.declared.valued.Valued.{Valued}
+use Rattle.model_values.specs.Lost.{IsLostUpdate}
 use Rattle.model_values.specs.Values.{IsUnwritten}
 use Rattle.model_replies.specs.declared.answer.NoValueAnswer.{NoValueAnswer}
 use Rattle.model_replies.specs.declared.answer.NoValueAnswer.TheVariants.{Refused, Unwritten}
-use Rattle.model_replies.specs.declared.answer.NoValueAnswer.TheVariants.{Memory}
+use Rattle.model_replies.specs.declared.answer.NoValueAnswer.TheVariants.{Lost, Memory}
 use Rattle.model_replies.specs.declared.answer.ValueAnswer.{ValueAnswer}
 use Rattle.model_replies.specs.declared.answer.ValueOptions.{ValueOptions}
 use Rattle.model_replies.specs.declared.judging.Unsaid.{Unsaid}
@@ -54,6 +55,7 @@ pub record IsValueAnswerTo {A : Type 0} (lines : List (List ℕ)) (options : Val
 -- why there is no answer on a log with these steps
 abbrev pub no_answer_of : List Logged → Unsaid → NoValueAnswer
 no_answer_of steps (unsaid.Unwritten x) = Unwritten (logged_at steps x)
+no_answer_of steps (unsaid.Lost x y) = Lost (logged_at steps x) (logged_at steps y)
 no_answer_of steps unsaid.Memory = Memory
 
 -- an operation of a log found what no write of its word left, and no order explains the log
@@ -65,10 +67,23 @@ pub record IsUnwrittenIn (log : LogLines) (a : Logged) : Type 0 where
   pub none : HasNoPlacing valued
   pub is : a ≡ logged_at (steps_of_log log) place
 
--- why there is no answer on a log: a reply is what no write left, or memory was refused
+-- two operations of a log are a lost update, and no order explains the log
+pub record IsLostIn (log : LogLines) (a b : Logged) : Type 0 where
+  pub valued : Valued
+  pub told : IsValuedOf log valued
+  pub first : ℕ
+  pub second : ℕ
+  pub lost : IsLostUpdate valued first second
+  pub none : HasNoPlacing valued
+  pub first_is : a ≡ logged_at (steps_of_log log) first
+  pub second_is : b ≡ logged_at (steps_of_log log) second
+
+-- why there is no answer on a log: a reply is what no write left, or an update is lost, or memory was
+-- refused
 abbrev pub HasNoAnswerOn : LogLines → NoValueAnswer → Type 0
 HasNoAnswerOn log (Refused refusal) = ⊥
 HasNoAnswerOn log (Unwritten a) = IsUnwrittenIn log a
+HasNoAnswerOn log (Lost a b) = IsLostIn log a b
 HasNoAnswerOn log Memory = Unit {0}
 
 -- a log with its replies, of which no model is asked
@@ -82,4 +97,5 @@ abbrev pub HasNoAnswerTo : List (List ℕ) → NoValueAnswer → Type 0
 HasNoAnswerTo lines (Refused refusal) =
     (refusal ≡ refusal_at 0 (reason.Line line.Memory)) ⊎ (values_of lines ≡ Err refusal)
 HasNoAnswerTo lines (Unwritten a) = IsUnaskedIn lines (Unwritten a)
+HasNoAnswerTo lines (Lost a b) = IsUnaskedIn lines (Lost a b)
 HasNoAnswerTo lines Memory = Unit {0}

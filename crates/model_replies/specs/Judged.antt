@@ -9,22 +9,24 @@ use Rattle.model_answer.specs.declared.model.MemoryModel.TheVariants as model
 use Rattle.model_values.specs.declared.question.OrderVerdict.{OrderVerdict}
 use Rattle.model_values.specs.declared.question.OrderVerdict.TheVariants as verdict
 use Rattle.model_values.specs.declared.valued.Valued.{Valued}
+use Rattle.model_values.specs.Lost.{IsLostUpdate}
 use Rattle.model_values.specs.ValuedVerdict.{IsJudgedOn}
 use Rattle.model_values.specs.Values.{IsUnwritten, IsValuedPlacing}
 use Rattle.model_replies.specs.declared.decision.Decision.{Decision}
 use Rattle.model_replies.specs.declared.decision.Decision.TheVariants.{Obeys, Breaks, Undecided, NotTold}
 use Rattle.model_replies.specs.declared.decision.Decisions.{Decisions}
 use Rattle.model_replies.specs.declared.judging.Unsaid.{Unsaid}
-use Rattle.model_replies.specs.declared.judging.Unsaid.TheVariants.{Unwritten, Memory}
+use Rattle.model_replies.specs.declared.judging.Unsaid.TheVariants.{Unwritten, Lost, Memory}
 use Rattle.model_replies.specs.declared.judging.ValueVerdicts.{ValueVerdicts}
 
 -- no order of each word's writes gives the words, so every model is broken
 abbrev pub HasNoPlacing : Valued → Type 0
 HasNoPlacing v = (placed : List Operation) (writes : List ℕ) → IsValuedPlacing v placed writes → ⊥
 
--- why no model is asked: what was found no write left; or memory was refused
+-- why no model is asked: what was found no write left; or an update is lost; or memory was refused
 abbrev pub IsUnsaid : Valued → Unsaid → Type 0
 IsUnsaid v (Unwritten x) = IsUnwritten v x × HasNoPlacing v
+IsUnsaid v (Lost x y) = IsLostUpdate v x y × HasNoPlacing v
 IsUnsaid v Memory = Unit {0}
 
 -- the verdict of each model, by a search of at most so many nodes

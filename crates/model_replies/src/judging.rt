@@ -25,6 +25,9 @@ pub struct ValueVerdicts<A: Allocator = Global> {
 pub enum Unsaid {
     /// This one found what no write of its word left, which breaks every model.
     Unwritten(usize),
+    /// These two atomics found the same in one word, which only one write of it left, which breaks every
+    /// model.
+    Lost(usize, usize),
     /// A request for memory was refused.
     Memory,
 }
@@ -54,13 +57,14 @@ fn verdict_of<A: Allocator + Copy>(
 
 /// What the words show of the sources.
 ///
-/// Errors: an operation that found what no write left, or out of memory.
+/// Errors: an operation that found what no write left, a lost update, or out of memory.
 fn sources_of<A: Allocator + Copy>(alloc: A, valued: &Valued) -> Result<Sources<A>, Unsaid>
     ensures sources { IfOk result (AreSourcesOf valued.now) }
     ensures unsaid { IfErr result (IsUnsaid valued.now) }
 {
     match sources_by_values(alloc, valued) {
         Ok(Sources::Unwritten(x)) => Err(Unsaid::Unwritten(x)),
+        Ok(Sources::Lost(x, y)) => Err(Unsaid::Lost(x, y)),
         Ok(sources) => Ok(sources),
         Err(_) => Err(Unsaid::Memory),
     }

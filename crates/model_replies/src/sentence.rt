@@ -1,4 +1,4 @@
-//! The sentence that says why no model is asked.
+//! The sentences that say why no model is asked.
 
 use crate::steps::found_word;
 use model_text::Logged;
@@ -8,6 +8,13 @@ use std::fmt;
 #[derive(Clone, Copy)]
 pub struct UnwrittenSentence {
     pub step: Logged,
+}
+
+/// A lost update: `lines 3 and 4 both found 0 in address 0: no order`.
+#[derive(Clone, Copy)]
+pub struct LostSentence {
+    pub first: Logged,
+    pub second: Logged,
 }
 
 /// The address of an operation; 0 where it is a fence.
@@ -28,6 +35,18 @@ impl fmt::Display for UnwrittenSentence {
         write!(
             f,
             "reply {word} at line {line}, but no write leaves {word} in address {address}"
+        )
+    }
+}
+
+impl fmt::Display for LostSentence {
+    fn fmt<W: fmt::Write>(&self, f: &mut fmt::Formatter<W>) -> fmt::Result {
+        let first = self.first.line.min(self.second.line);
+        let second = self.first.line.max(self.second.line);
+        let (word, address) = (found_word(self.first), address_of(self.first));
+        write!(
+            f,
+            "lines {first} and {second} both found {word} in address {address}: no order"
         )
     }
 }

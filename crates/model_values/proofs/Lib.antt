@@ -3,6 +3,7 @@ pub mod Explained
 pub mod Settled
 pub mod Split
 pub mod Rivals
+pub mod Concluding
 pub mod Apart
 pub mod Forcing
 pub mod Accepted
@@ -13,6 +14,7 @@ pub mod Walked
 pub mod Searching
 pub mod ValuedVerdicts
 pub mod Chosen
+pub mod LostUpdates
 pub mod Choosing
 pub mod Looked
 pub mod Taking
@@ -20,4 +22,5 @@ pub mod Opened
 pub mod Replies
 pub mod Sorted
 pub mod Laid
+pub mod Grouping
 pub mod Ordered

@@ -4,6 +4,7 @@ pub mod Known
 pub mod Placed
 pub mod Answers
 pub mod Values
+pub mod Followed
 pub mod Sorted
 pub mod Searches
 pub mod Choices

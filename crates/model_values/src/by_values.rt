@@ -36,6 +36,7 @@ pub fn judge_valued<A: Allocator + Copy>(
     let sources = match sources {
         Sources::Told(sources) => sources,
         Sources::Alike(_, _) => return judge_choices(alloc, rules, valued, nodes),
+        Sources::Lost(_, _) => return Ok(OrderVerdict::Breaks),
         Sources::Unwritten(_) => return Ok(OrderVerdict::Breaks),
     };
     let question = Unordered {

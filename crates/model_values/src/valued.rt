@@ -7,6 +7,7 @@ ghost use Rattle.model_values.specs.Values.{AreAlikeValues, AreSourcesOf, IsKnow
 ghost use Rattle.model_values.specs.Values.{IsReader, IsUnwritten};
 
 use crate::by_word::{Writes, are_unlike, sorted_writes};
+use crate::lost::{find_lost, followers_of};
 use memory_models::kinds::is_write;
 use memory_models::{Kind, Operation};
 use std::alloc::{AllocError, Allocator, Global};
@@ -34,6 +35,8 @@ pub enum Sources<A: Allocator = Global> {
     /// Some write left what each operation found, and these two left the same in one word, so a word that
     /// was found may not show who wrote it.
     Alike(usize, usize),
+    /// These two atomics found the same in one word, which only one write of it left.
+    Lost(usize, usize),
     /// This operation found what no write of its word left.
     Unwritten(usize),
 }
@@ -109,7 +112,7 @@ fn find_alike(
 }
 
 /// Whether a write left what an operation found in its word.
-fn is_left_by(valued: &Valued, x: usize, s: usize) -> bool
+pub(crate) fn is_left_by(valued: &Valued, x: usize, s: usize) -> bool
     requires x { x < length valued.now.operations.now }
     requires s { s < length valued.now.operations.now }
     ensures yes { result ≡ true
@@ -134,7 +137,7 @@ pub(crate) fn may_read(valued: &Valued, x: usize, s: usize) -> bool
 }
 
 /// The write that left what an operation found in its word: the likely one, or else any.
-fn source_of(valued: &Valued, x: usize, likely: usize) -> Option<usize>
+pub(crate) fn source_of(valued: &Valued, x: usize, likely: usize) -> Option<usize>
     requires x { x < length valued.now.operations.now }
     ensures some { IfSome result (λ s.
         IsLeftBy valued.now.operations.now valued.now.left.now valued.now.found.now x s) }
@@ -164,8 +167,8 @@ fn source_at<A: Allocator>(valued: &Valued, writes: &Writes<A>, x: usize) -> Opt
     source_of(valued, x, writes.likely_source(valued, x))
 }
 
-/// The sources of loads and atomics; or an operation that found what no write of its word left; or else
-/// two writes that left the same in one word.
+/// The sources of loads and atomics; or an operation that found what no write of its word left; or a lost
+/// update; or else two writes that left the same in one word.
 ///
 /// Errors: out of memory.
 pub fn sources_by_values<A: Allocator + Copy>(
@@ -181,6 +184,10 @@ pub fn sources_by_values<A: Allocator + Copy>(
             return Ok(Sources::Unwritten(x));
         };
         sources.push(source)?;
+    }
+    let followers = followers_of(alloc, valued, &writes)?;
+    if let Some((x, y)) = find_lost(valued, &writes, &followers) {
+        return Ok(Sources::Lost(x, y));
     }
     let (order, places) = (&writes.order, &writes.places);
     match find_alike(valued.operations, valued.left, order, places) {

@@ -11,7 +11,7 @@ use command_verdicts::{
     explain_values, explain_verdict, model_status, status, tried_text, verdict_text,
 };
 use model_answer::WrongSentence;
-use model_replies::UnwrittenSentence;
+use model_replies::{LostSentence, UnwrittenSentence};
 use network_answer::Answer;
 use program_fault::{ProgramFault, Texts, explain, status_of};
 use std::alloc::Global;
@@ -59,6 +59,10 @@ fn put_unasked<W: fmt::Write>(f: &mut fmt::Formatter<W>, decided: Decided) -> fm
     match decided {
         Decided::Unwritten(step) => {
             let sentence = UnwrittenSentence { step };
+            writeln!(f, "{sentence}")
+        }
+        Decided::Lost(first, second) => {
+            let sentence = LostSentence { first, second };
             writeln!(f, "{sentence}")
         }
         Decided::Models(_) => Ok(()),

@@ -1,5 +1,6 @@
 use Rattle.std.proofs.Common.{ℕ, List, arith}
 use Rattle.model_values.proofs.ByValues.{by_values, known_more, one_longer, unwritten}
+use Rattle.model_values.proofs.LostUpdates.{lost}
 use Rattle.model_values.proofs.valued.sources_by_values.Goals as goal
 
 pub returns-in_default : goal.returns-in_default
@@ -25,6 +26,7 @@ returns g c =
       size = omega (arith, i.size, c.loop-x.auto.x-end, c.loop-x-test.false);
       each = λ x low. i.each x (omega (arith, low, c.loop-x-test.false));
       unlike = c.in-None.ensures.none;
+      kept = c.find_lost.ensures.none;
       same = by_values v c.loop-x.sources.items c.in-None.ensures.none
           (λ x low reads. (i.each x (omega (arith, low, c.loop-x-test.false))).left reads);
     }
