@@ -7,11 +7,10 @@ use Rattle.memory_models.specs.declared.kinds.Kind.{Kind}
 use Rattle.memory_models.specs.declared.kinds.Kind.TheVariants.{Load, Store, Atomic, Fence}
 use Rattle.memory_models.specs.declared.kinds.Operation.{Operation}
 use Rattle.memory_models.specs.Trace.{is_load, is_write, uses_word, operation_at, source_at}
-use Rattle.memory_models.proofs.Orders.{load_uses}
 use Rattle.model_values.specs.declared.valued.Valued.{Valued}
 use Rattle.model_values.specs.Choices.{MayRead, source_by, source_in}
 use Rattle.model_values.specs.Unordered.{IsToldAt, IsPlacing}
-use Rattle.model_values.specs.Values.{FindsAt, IsValuedPlacing, IsReader, IsLeftBy}
+use Rattle.model_values.specs.Values.{IsValuedPlacing, IsReader, IsLeftBy}
 use Rattle.model_values.proofs.ByValues.{finds_by}
 use Rattle.model_values.proofs.Explained.{told_same}
 
@@ -35,7 +34,7 @@ pub record StandsBehind (v : Valued) (placed : List Operation) (writes : List �
   pub next : (operation_at placed x).place ≡ (operation_at placed (slice_index writes ((operation_at placed x).place - 1))).place + 1
   pub is : slice_index writes (operation_at placed x).place ≡ x
 
-stands_behind : (v : Valued) (placed : List Operation) (writes : List ℕ) → IsValuedPlacing v placed writes → (x : ℕ) → x < length v.operations.now
+pub stands_behind : (v : Valued) (placed : List Operation) (writes : List ℕ) → IsValuedPlacing v placed writes → (x : ℕ) → x < length v.operations.now
     → (operation_at v.operations.now x).kind ≡ Atomic → StandsBehind v placed writes x
 stands_behind v placed writes i x lx atomic =
     let low-x : x < length placed = subst (λ n. x < n) (sym i.size) lx in

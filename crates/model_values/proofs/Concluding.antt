@@ -1,5 +1,5 @@
 -- What follows for rival writes is noted, until nothing more follows.
-use Rattle.std.proofs.Common.{◌≡◌, ◌⊎◌, inl, inr, ℕ, ◌+◌, ◌*◌, ◌<◌, ◌≤◌, ◌||◌, Bool, true, false, List, length, refl, sym, subst, ap, ◌∙◌, arith}
+use Rattle.std.proofs.Common.{◌≡◌, ◌⊎◌, inl, inr, ℕ, ◌+◌, ◌*◌, ◌<◌, ◌||◌, Bool, true, false, List, length, refl, sym, subst, ◌∙◌, arith}
 use Rattle.std.specs.Prelude.{slice_index}
 use Rattle.std.proofs.lemmas.Bool.{cases_lt}
 use Rattle.std.proofs.lemmas.Nat.{mul-add-lt}
@@ -87,8 +87,8 @@ concluded q level x w early late first last a b c none one more is two also quie
         → HasNoted (length q.operations.now) level e w (slice_index q.sources.now x) a b
         → (is_known a (length q.operations.now) level w x ≡ true) ⊎ IsOwnLoad q.operations.now w x
         → is_known b (length q.operations.now) level w (slice_index q.sources.now x) ≡ true
-    by true no noted fact = noted.known refl
-    by false no noted fact = absurd (no refl fact)
+    by true never noted fact = noted.known refl
+    by false never noted fact = absurd (never refl fact)
 
 -- what held of a table for the numbers so far holds for one more, where the table has not changed
 pub concluded_more : (holds : List ℕ → ℕ → Type 0) (n : ℕ) (m new : Bool) (b c : List ℕ) → (m ≡ false → (v : ℕ) → v < n → holds b v)

@@ -4,7 +4,7 @@ use Rattle.std.specs.Prelude.{slice_index}
 use Rattle.std.proofs.lemmas.Bool.{cases_lt}
 use Rattle.std.proofs.lemmas.List.{length_push, get_or_push, get_or_append_left}
 use Rattle.rising.specs.declared.edge.Edge.{Edge}
-use Rattle.rising.specs.Graph.{EdgesAreWithin, RisesOnEdges, edge_at}
+use Rattle.rising.specs.Graph.{RisesOnEdges, edge_at}
 use Rattle.memory_models.specs.Arcs.{pushed_if}
 use Rattle.model_values.specs.declared.question.Unordered.{Unordered}
 use Rattle.memory_models.specs.Trace.{is_write, operation_at}

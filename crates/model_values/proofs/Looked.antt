@@ -1,5 +1,5 @@
 -- What a look at a path gives.
-use Rattle.std.proofs.Common.{◌≡◌, ◌⊎◌, inl, inr, ℕ, ◌+◌, ◌<◌, ◌≤◌, Bool, true, false, List, [], ◌∷◌, ◌++◌, length, take, drop, refl, sym, ap, subst, ◌∙◌, arith}
+use Rattle.std.proofs.Common.{◌≡◌, ◌⊎◌, inl, inr, ℕ, ◌+◌, ◌<◌, Bool, true, false, List, length, take, refl, sym, ap, subst, ◌∙◌, arith}
 use Rattle.std.specs.Prelude.{Option, None, Some, IfNone, IfSome, IfOk, Result, Ok, Err, is_some, nat_lt, slice_index, slice_set, replicate}
 use Rattle.std.proofs.lemmas.Bool.{cases_eq, cases_lt, ltb-true}
 use Rattle.std.proofs.lemmas.List.{get_or-replicate, get_or-set_same, get_or-set_other, get_or-take, length-take-le, length-set, length-replicate, take_all}
@@ -13,15 +13,13 @@ use Rattle.model_values.specs.declared.question.OrderVerdict.TheVariants.{Obeys,
 use Rattle.model_values.specs.declared.question.Unordered.{Unordered}
 use Rattle.model_values.specs.declared.valued.Valued.{Valued}
 use Rattle.model_values.specs.Answers.{IsExplanation, IsOrderVerdict}
-use Rattle.model_values.specs.Choices.{AreChosen, AreLeft, Asks, Chooses, CutsOffChoices, Explains, Gives, GivesNone, IsChosen, MayRead}
+use Rattle.model_values.specs.Choices.{AreChosen, AreLeft, Asks, Chooses, CutsOffChoices, Gives, GivesNone, IsChosen, MayRead}
 use Rattle.model_values.specs.Choices.{choice_at, source_in}
-use Rattle.model_values.specs.ChoiceSteps.{IsAnswerAt}
 use Rattle.model_values.specs.Forced.{IsOrderWithSome}
-use Rattle.model_values.specs.Searches.{IsCutOff}
 use Rattle.model_values.specs.Unordered.{ExplainsLog, IsOrderOf, IsPlacing}
 use Rattle.model_values.specs.ValuedVerdict.{CutsOffValues, ExplainsValues}
 use Rattle.model_values.specs.Values.{IsLeftBy, IsReader}
-use Rattle.model_values.proofs.Chosen.{all_at, all_size, all_sources, gives_words, keeps_all, keeps_sources, may_read_in}
+use Rattle.model_values.proofs.Chosen.{all_at, all_size, all_sources, gives_words, keeps_all, keeps_sources}
 
 placing_of : (rules : List Rule) (v : Valued) (sources : List ℕ) (q : Unordered) → Asks rules v sources q → (placed : List Operation) (writes : List ℕ)
     → IsPlacing q.operations.now q.sources.now q.words q.openings placed writes → IsPlacing v.operations.now sources v.words v.openings placed writes

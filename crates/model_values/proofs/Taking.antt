@@ -1,15 +1,14 @@
 -- Choices that a search takes, gives up and turns back from.
-use Rattle.std.proofs.Common.{◌≡◌, ◌⊎◌, inl, inr, ℕ, ◌+◌, ◌<◌, ◌≤◌, Bool, true, false, List, [], ◌∷◌, ◌++◌, length, take, drop, refl, sym, ap, subst, ◌∙◌, arith}
+use Rattle.std.proofs.Common.{◌≡◌, inl, inr, ℕ, ◌+◌, ◌<◌, ◌≤◌, true, false, List, [], ◌∷◌, ◌++◌, length, take, drop, refl, sym, subst, arith}
 use Rattle.std.specs.Prelude.{Option, None, Some}
 use Rattle.std.proofs.lemmas.Bool.{cases_lt}
 use Rattle.std.proofs.lemmas.List.{take-append-drop}
-use Rattle.memory_models.specs.declared.kinds.Operation.{Operation}
 use Rattle.memory_models.specs.declared.kinds.Rule.{Rule}
 use Rattle.model_values.specs.declared.looking.Seen.{Seen}
 use Rattle.model_values.specs.declared.question.OrderVerdict.{OrderVerdict}
 use Rattle.model_values.specs.declared.question.OrderVerdict.TheVariants.{Breaks}
 use Rattle.model_values.specs.declared.valued.Valued.{Valued}
-use Rattle.model_values.specs.Choices.{Chooses, Forced, Takes, Refutes, Turns, Closes, CutsOffChoices, Explains, Gives, GivesNone, IsAbove, MayRead}
+use Rattle.model_values.specs.Choices.{Chooses, Forced, Takes, Refutes, Turns, Closes, CutsOffChoices, GivesNone, IsAbove, MayRead}
 use Rattle.model_values.specs.Choices.{source_in}
 use Rattle.model_values.specs.ChoiceSteps.{IsAnswerAt, IsSeen, IsStep, TakesNext, TurnsBack}
 use Rattle.model_values.specs.Values.{IsReader}

@@ -6,6 +6,7 @@ ghost use Rattle.model_values.specs.Known.{IsOwnLoad, IsRival, NotesMore, is_kno
 
 use crate::known::{add, is_before};
 use crate::question::Unordered;
+use crate::valued::is_reader;
 use memory_models::kinds::is_write;
 use memory_models::{Kind, Operation};
 
@@ -17,19 +18,17 @@ pub(crate) fn is_rival(operations: &[Operation], sources: &[usize], x: usize, w:
     if x >= operations.len() || w >= operations.len() || x >= sources.len() {
         return false;
     }
-    let reads = match operations[x].kind {
-        Kind::Load => true,
-        Kind::Atomic => true,
-        _ => false,
-    };
-    reads
-        && sources[x] < operations.len()
-        && is_write(operations[sources[x]].kind)
-        && operations[sources[x]].word == operations[x].word
-        && is_write(operations[w].kind)
-        && operations[x].word == operations[w].word
-        && w != x
-        && w != sources[x]
+    let source = sources[x];
+    if !is_reader(operations, x) || source >= operations.len() {
+        return false;
+    }
+    if !is_write(operations[source].kind) || operations[source].word != operations[x].word {
+        return false;
+    }
+    if !is_write(operations[w].kind) || operations[x].word != operations[w].word {
+        return false;
+    }
+    w != x && w != source
 }
 
 /// Whether the second is a load, and the first of its processor before it.

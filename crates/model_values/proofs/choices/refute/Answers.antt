@@ -1,4 +1,4 @@
-use Rattle.std.proofs.Common.{Bool, true, false, List, subst}
+use Rattle.std.proofs.Common.{true, false, subst}
 use Rattle.model_values.specs.ChoiceSteps.{TurnsBack}
 use Rattle.model_values.proofs.Taking.{goes_back, goes_nowhere}
 use Rattle.model_values.proofs.choices.refute.Goals as goal

@@ -1,4 +1,4 @@
-use Rattle.std.proofs.Common.{◌≡◌, ◌<◌, ℕ, List, false, length, subst}
+use Rattle.std.proofs.Common.{◌<◌, ℕ, List, false, length, subst}
 use Rattle.std.specs.Prelude.{IfOk}
 use Rattle.model_values.specs.declared.looking.Seen.TheVariants.{Answer, Refuted, Open}
 use Rattle.model_values.specs.ChoiceSteps.{IsStep, TakesNext}
@@ -18,10 +18,10 @@ refute-requires-in-Open g c =
     let x : ℕ = c.in-Open.x in
     let seen : (x < length v.operations.now) × IsReader v.operations.now x =
     seen_at {A = g.row.A.Denot} c.args.rules.now v c.deref.result.now c.args.path.now.items c.args.left c.in_ok-verdict.field-0
-        (Open x) c.deref.ensures.value c.in-Open.is c.in_ok-verdict.ensures in
+    (Open x) c.deref.ensures.value c.in-Open.is c.in_ok-verdict.ensures in
     let taken : TakesNext v c.args.path.now.items c.take_next.new.path.items x false =
     subst (λ b. TakesNext v c.args.path.now.items c.take_next.new.path.items x b) c.if-branch.false c.in_ok-take_next-in-Open.ensures in
-    record { none = none_may c.args.rules.now v _ x seen.0 seen.1 taken.1; }
+    record { none = none_may c.args.rules.now v _ x seen.0 seen.1 taken.1 }
 
 pub returns-in-Answer : goal.returns-in-Answer
 returns-in-Answer g c = seen_at {A = g.row.A.Denot} c.args.rules.now c.args.valued.now c.deref.result.now c.args.path.now.items c.args.left

@@ -1,5 +1,4 @@
 use Rattle.std.proofs.Common.{ℕ, false, List, sym, subst}
-use Rattle.memory_models.specs.declared.kinds.Rule.{Rule}
 use Rattle.model_values.specs.Choices.{Chooses, Begins}
 use Rattle.model_values.proofs.choices.take_all.Goals as goal
 

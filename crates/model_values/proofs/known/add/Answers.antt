@@ -1,4 +1,3 @@
-use Rattle.std.proofs.Common.{refl}
 use Rattle.model_values.proofs.Concluding.{notes_none, notes_new}
 use Rattle.model_values.proofs.Table.{known_noted, not_wanted}
 use Rattle.model_values.proofs.known.add.Goals as goal

@@ -10,4 +10,4 @@ returns-clause-explain c rules v groups turn order = ordered rules v turn groups
 
 pub returns-clause-none : goal.returns-clause-none
 returns-clause-none c rules v groups breaks turn order =
-    let e = ordered rules v turn groups order in breaks e.0 e.1.0 turn e.1.1.0 e.1.1.1
+    let e = ordered rules v turn groups order in breaks e.0 e.1 turn e.2 e.3

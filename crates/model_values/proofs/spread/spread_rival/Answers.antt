@@ -1,4 +1,4 @@
-use Rattle.std.proofs.Common.{◌≡◌, Bool, false, ◌||◌, sym, subst, ◌∙◌}
+use Rattle.std.proofs.Common.{Bool, sym, subst, ◌∙◌}
 use Rattle.model_values.specs.Known.{NotesMore}
 use Rattle.model_values.proofs.Concluding.{concluded, notes_then}
 use Rattle.model_values.proofs.Rivals.{rival_more}

@@ -1,5 +1,4 @@
-use Rattle.std.proofs.Common.{◌≡◌, ℕ, Bool, List, sym, subst, ◌∙◌, arith}
-use Rattle.std.specs.Prelude.{slice_index}
+use Rattle.std.proofs.Common.{ℕ, Bool, List, sym, subst, ◌∙◌, arith}
 use Rattle.model_values.specs.Known.{IsConcluded, IsRival, NotesMore}
 use Rattle.model_values.proofs.Concluding.{concluded_more, notes_none, notes_then}
 use Rattle.model_values.proofs.Table.{has_spread, spread_then}

@@ -8,6 +8,11 @@ returns-in_default g c =
     let u = c.in_default.ensures.none in
     (u, unwritten c.args.valued.now c.loop-x.x u.low u.reads u.none)
 
+pub returns-in-Some-find_lost : goal.returns-in-Some-find_lost
+returns-in-Some-find_lost g c =
+    let l = c.in-Some-find_lost.ensures.some in
+    (l, lost c.args.valued.now _ _ l)
+
 pub loop-x-preserved : goal.loop-x-preserved
 loop-x-preserved g c =
     let i = c.loop-x.invariant in
@@ -26,7 +31,7 @@ returns g c =
       size = omega (arith, i.size, c.loop-x.auto.x-end, c.loop-x-test.false);
       each = λ x low. i.each x (omega (arith, low, c.loop-x-test.false));
       unlike = c.in-None.ensures.none;
-      kept = c.find_lost.ensures.none;
+      kept = c.in_default-find_lost.ensures.none;
       same = by_values v c.loop-x.sources.items c.in-None.ensures.none
           (λ x low reads. (i.each x (omega (arith, low, c.loop-x-test.false))).left reads);
     }
