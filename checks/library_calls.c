@@ -534,7 +534,9 @@ static void replies_are_judged(void) {
   said = decided_of(none, 10000, 0, MOST_BYTES);
   MUST(said.code == TORUSMEM_UNWRITTEN && said.value == 4 && said.obeyed == 0 && said.broken == 0 && said.other == 0 && live == 0);
   said = decided_of("log 1\nwords 2\nmade 0 store 1 3\nmade 1 store 1 3\n", 10000, 0, MOST_BYTES);
-  MUST(said.code == TORUSMEM_ALIKE && said.value == 3 && said.other == 4 && written.bytes[0] == 0xAA && live == 0);
+  MUST(said.code == TORUSMEM_OK && said.obeyed == 31 && said.broken == 0 && live == 0);
+  said = decided_of("log 1\nwords 2\nmade 0 add 1 1\nmade 1 add 1 1\nreplied 0 0 0\nreplied 1 0 0\n", 10000, 0, MOST_BYTES);
+  MUST(said.code == TORUSMEM_LOST_UPDATE && said.value == 3 && said.other == 4 && written.bytes[0] == 0xAA && live == 0);
   said = decided_of("log 1\nwords 2\nmade 0 load 1\n", 10000, 0, MOST_BYTES);
   MUST(said.code == TORUSMEM_FAULT_SETTING && said.value == 3 && said.other == 0 && written.bytes[0] == 0xAA && live == 0);
   said = torusmem_model_values(NULL, 0, 10000, 0, NULL, 0);

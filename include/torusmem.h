@@ -142,7 +142,7 @@ enum {
   TORUSMEM_NOT_RISING = 32,  /* the numbers of a network's channels don't rise; value: the length of the answer's text */
   /* Of a log whose replies alone count. */
   TORUSMEM_UNWRITTEN = 33,   /* a reply is what no write of its word left; value: its line */
-  TORUSMEM_ALIKE = 34        /* two writes leave the same in one word; value: the line of the first one */
+  TORUSMEM_LOST_UPDATE = 34  /* two atomics found what only one write of their word left; value: the line of the one */
 };
 
 /* What a code says, in a few words of ASCII, as "an address is not below the number of words". For any number. */
@@ -672,12 +672,12 @@ torusmem_models torusmem_model(uint64_t words, const torusmem_log_entry *entries
 
 /* Which memory models a log obeys by its replies alone. */
 typedef struct torusmem_decided {
-  uint32_t code;   /* OK, SHORT, UNWRITTEN, ALIKE or a fault */
+  uint32_t code;   /* OK, SHORT, UNWRITTEN, LOST_UPDATE or a fault */
   uint32_t obeyed; /* of OK and SHORT: the models that it obeys; else 0 */
   uint32_t broken; /* of OK and SHORT: those that it breaks; else 0. A model is in neither where the search gave up, or
                       annotations or weaker fences leave it open: the text says which */
   uint64_t value;  /* of OK and SHORT: the length of the text; else the line at fault, from 1 */
-  uint64_t other;  /* of ALIKE: the line of the second write; else 0 */
+  uint64_t other;  /* of LOST_UPDATE: the line of the other atomic; else 0 */
 } torusmem_decided;
 
 /* Judges the log of a log text (docs/FORMATS.md, "Log text") by five memory models, by what processors made and what was replied
@@ -687,8 +687,8 @@ typedef struct torusmem_decided {
    nor no; then, unless order is 0, an order of the strongest that it obeys. Each yes and each no is proved.
    OK: the text is the first `value` bytes of out, and the bytes behind them are as they were.
    SHORT: `value` is what the text needs, and out is as it was; so is it on all other codes.
-   UNWRITTEN: no order explains the log, so every model is broken. ALIKE: nothing is decided. A fault: of line `value`,
-   which is refused, or FAULT_MEMORY. */
+   UNWRITTEN, LOST_UPDATE: no order explains the log, so every model is broken. A fault: of line `value`, which is refused,
+   or FAULT_MEMORY. */
 torusmem_decided torusmem_model_values(const uint8_t *log, size_t log_length, uint64_t nodes, uint32_t order, uint8_t *out,
                                        size_t out_length) TORUSMEM_RESULT;
 

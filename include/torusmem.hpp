@@ -441,10 +441,10 @@ inline obeyed model(uint64_t words, span<const torusmem_log_entry> entries, bool
 }
 
 // The verdict on a log text by its replies alone: the models that it obeys, those that it breaks, and the text that the
-// program prints; or the line of a reply that no write left, or the lines of two writes that leave the same. A model is in
-// neither sum where the search gave up, or annotations or weaker fences leave it open.
+// program prints; or the line of a reply that no write left, or the lines of a lost update. A model is in neither sum where
+// the search gave up, or annotations or weaker fences leave it open.
 struct decided {
-  uint32_t code;            // OK, UNWRITTEN or ALIKE
+  uint32_t code;            // OK, UNWRITTEN or LOST_UPDATE
   uint32_t obeyed, broken;  // sums of TORUSMEM_COHERENT to TORUSMEM_SC
   std::string text;
   uint64_t line, other;
@@ -458,7 +458,7 @@ inline decided model_values(text log, uint64_t nodes = 10000, bool order = false
     if (told.code != TORUSMEM_SHORT) break;
     made.resize(static_cast<size_t>(told.value));
   }
-  if (told.code == TORUSMEM_UNWRITTEN || told.code == TORUSMEM_ALIKE) return {told.code, 0, 0, "", told.value, told.other};
+  if (told.code == TORUSMEM_UNWRITTEN || told.code == TORUSMEM_LOST_UPDATE) return {told.code, 0, 0, "", told.value, told.other};
   made.resize(static_cast<size_t>(granted("model_values", {told.code, told.value})));
   return {told.code, told.obeyed, told.broken, made, 0, 0};
 }

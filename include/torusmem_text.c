@@ -39,7 +39,7 @@ static const char *const texts[] = {
   "a network has no source-destination pair",
   "the numbers of a network's channels don't rise",
   "a reply of a log is what no write of its word left",
-  "two writes of a log leave the same in one word",
+  "two atomics of a log found what only one write of their word left",
 };
 
 const char *torusmem_code_text(uint32_t code) {

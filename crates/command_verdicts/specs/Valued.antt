@@ -15,7 +15,7 @@ use Rattle.program_fault.specs.declared.fault.ProgramFault.{ProgramFault}
 use Rattle.program_fault.specs.declared.fault.ProgramFault.TheVariants as program
 use Rattle.program_fault.specs.Done.{Does, Output}
 use Rattle.command_verdicts.specs.declared.values.Decided.{Decided}
-use Rattle.command_verdicts.specs.declared.values.Decided.TheVariants.{Models, Alike, Unwritten}
+use Rattle.command_verdicts.specs.declared.values.Decided.TheVariants.{Models, Unwritten, Lost}
 
 -- what is printed of what a log is judged to be: the answer with these decisions, or, where no model
 -- is asked, nothing
@@ -23,8 +23,8 @@ abbrev pub IsDecided : (A : Type 0) → List (List ℕ) → ValueOptions → Dec
 IsDecided A lines options (Models all) text =
     (answer : ValueAnswer A) × IsValueAnswerTo lines options answer × (all ≡ answer.decisions)
     × (text ≡ answer.text.items)
-IsDecided A lines options (Alike a b) text = IsUnaskedIn lines (none.Alike a b) × (text ≡ [])
 IsDecided A lines options (Unwritten a) text = IsUnaskedIn lines (none.Unwritten a) × (text ≡ [])
+IsDecided A lines options (Lost a b) text = IsUnaskedIn lines (none.Lost a b) × (text ≡ [])
 
 -- the log text has this as its first fault
 abbrev pub IsValuesFault : List (List ℕ) → ProgramFault → Type 0
@@ -45,5 +45,5 @@ decision_status NotTold = 5
 
 abbrev pub decided_status : Decided → MemoryModel → ℕ
 decided_status (Models all) model = decision_status (decision_on model all)
-decided_status (Alike a b) model = 5
 decided_status (Unwritten a) model = 1
+decided_status (Lost a b) model = 1

@@ -1,23 +1,21 @@
 -- Answers on a log by what its replies tell.
 use Rattle.std.proofs.Common.{◌≡◌, ℕ, List, length, ap, subst, Result, Ok, Err, IfOk}
-use Rattle.memory_models.specs.declared.kinds.Operation.{Operation}
 use Rattle.model_text.specs.declared.logged.Logged.{Logged}
 use Rattle.model_text.specs.Made.{LogLines}
 use Rattle.model_text.specs.Traces.{logged_at, steps_of_log}
 use Rattle.model_values.specs.declared.valued.Valued.{Valued}
-use Rattle.model_values.specs.Values.{AreAlikeValues}
 use Rattle.model_answer.specs.declared.weak.Doubts.{Doubts}
 use Rattle.model_answer.specs.Weak.{doubts_on}
 use Rattle.model_replies.specs.declared.answer.NoValueAnswer.{NoValueAnswer}
 use Rattle.model_replies.specs.declared.answer.ValueAnswer.{ValueAnswer}
 use Rattle.model_replies.specs.declared.answer.ValueOptions.{ValueOptions}
 use Rattle.model_replies.specs.declared.judging.Unsaid.{Unsaid}
-use Rattle.model_replies.specs.declared.judging.Unsaid.TheVariants.{Alike, Unwritten, Memory}
+use Rattle.model_replies.specs.declared.judging.Unsaid.TheVariants.{Unwritten, Lost, Memory}
 use Rattle.model_replies.specs.declared.judging.ValueVerdicts.{ValueVerdicts}
 use Rattle.model_replies.specs.declared.steps.ValuedLog.{ValuedLog}
 use Rattle.model_replies.specs.Answers.{HasNoAnswerOn, HasVerdicts, IsValueAnswerOn, no_answer_of}
 use Rattle.model_replies.specs.Judged.{AreValueVerdicts, IsUnsaid}
-use Rattle.model_replies.specs.Steps.{IsValuedOf, TellsValues, unplaced_operations}
+use Rattle.model_replies.specs.Steps.{IsValuedOf, TellsValues}
 
 pub answered : {A : Type 0} (log : LogLines) (options : ValueOptions) (v : Valued) (t : ValuedLog A) (doubts : Doubts) (all : ValueVerdicts A)
     (a : ValueAnswer A) → TellsValues log t → IsValuedOf log v → doubts ≡ doubts_on log → AreValueVerdicts v options.nodes all
@@ -41,14 +39,6 @@ answered_if log options v t doubts all (Err why) tells told e judged is = tt
 
 pub unanswered : (log : LogLines) (v : Valued) (steps : List Logged) (why : Unsaid) → steps ≡ steps_of_log log → IsValuedOf log v → IsUnsaid v why
     → HasNoAnswerOn log (no_answer_of steps why)
-unanswered log v steps (Alike x y) e told is = record {
-  first = x;
-  second = y;
-  alike = subst (λ (l : List ℕ). AreAlikeValues (unplaced_operations log) l x y) told.left
-      (subst (λ (o : List Operation). AreAlikeValues o v.left.now x y) told.operations is);
-  first_is = ap (λ (s : List Logged). logged_at s x) e;
-  second_is = ap (λ (s : List Logged). logged_at s y) e;
-}
 unanswered log v steps (Unwritten x) e told is = record {
   valued = v;
   told = told;
@@ -56,5 +46,15 @@ unanswered log v steps (Unwritten x) e told is = record {
   unwritten = is.0;
   none = is.1;
   is = ap (λ (s : List Logged). logged_at s x) e;
+}
+unanswered log v steps (Lost x y) e told is = record {
+  valued = v;
+  told = told;
+  first = x;
+  second = y;
+  lost = is.0;
+  none = is.1;
+  first_is = ap (λ (s : List Logged). logged_at s x) e;
+  second_is = ap (λ (s : List Logged). logged_at s y) e;
 }
 unanswered log v steps Memory e told is = tt

@@ -1,6 +1,6 @@
 -- The answer to the question which memory models a log obeys by its replies alone (this project's own
 -- format).
-use Rattle.std.specs.Prelude.{◌≡◌, ◌⊎◌, ℕ, List, length, map, Ok, Err}
+use Rattle.std.specs.Prelude.{◌≡◌, ◌⊎◌, ℕ, List, length, Ok, Err}
 use Rattle.lexer.specs.Outcome.{refusal_at}
 use Rattle.trace_lines.specs.declared.reason.LineReason.TheVariants as line
 use Rattle.model_answer.specs.declared.weak.Doubts.{Doubts}
@@ -10,10 +10,11 @@ use Rattle.model_text.specs.declared.reason.LogReason.TheVariants as reason
 use Rattle.model_text.specs.Made.{LogLines}
 use Rattle.model_text.specs.Traces.{logged_at, steps_of_log}
 use Rattle.model_values.specs.declared.valued.Valued.{Valued}
-use Rattle.model_values.specs.Values.{AreAlikeValues, IsUnwritten}
+use Rattle.model_values.specs.Lost.{IsLostUpdate}
+use Rattle.model_values.specs.Values.{IsUnwritten}
 use Rattle.model_replies.specs.declared.answer.NoValueAnswer.{NoValueAnswer}
-use Rattle.model_replies.specs.declared.answer.NoValueAnswer.TheVariants.{Refused, Alike}
-use Rattle.model_replies.specs.declared.answer.NoValueAnswer.TheVariants.{Unwritten, Memory}
+use Rattle.model_replies.specs.declared.answer.NoValueAnswer.TheVariants.{Refused, Unwritten}
+use Rattle.model_replies.specs.declared.answer.NoValueAnswer.TheVariants.{Lost, Memory}
 use Rattle.model_replies.specs.declared.answer.ValueAnswer.{ValueAnswer}
 use Rattle.model_replies.specs.declared.answer.ValueOptions.{ValueOptions}
 use Rattle.model_replies.specs.declared.judging.Unsaid.{Unsaid}
@@ -22,7 +23,7 @@ use Rattle.model_replies.specs.declared.judging.ValueVerdicts.{ValueVerdicts}
 use Rattle.model_replies.specs.Judged.{AreValueVerdicts, HasNoPlacing, decisions_of, told_decisions}
 use Rattle.model_replies.specs.Printed.{verdicts_text}
 use Rattle.model_replies.specs.Reading.{values_of}
-use Rattle.model_replies.specs.Steps.{IsValuedOf, left_word, unplaced_operations}
+use Rattle.model_replies.specs.Steps.{IsValuedOf}
 
 -- an answer has these verdicts, as far as they are certain, and prints them
 pub record HasVerdicts {A : Type 0} (options : ValueOptions) (openings : ℕ) (steps : List Logged)
@@ -53,17 +54,9 @@ pub record IsValueAnswerTo {A : Type 0} (lines : List (List ℕ)) (options : Val
 
 -- why there is no answer on a log with these steps
 abbrev pub no_answer_of : List Logged → Unsaid → NoValueAnswer
-no_answer_of steps (unsaid.Alike x y) = Alike (logged_at steps x) (logged_at steps y)
 no_answer_of steps (unsaid.Unwritten x) = Unwritten (logged_at steps x)
+no_answer_of steps (unsaid.Lost x y) = Lost (logged_at steps x) (logged_at steps y)
 no_answer_of steps unsaid.Memory = Memory
-
--- two operations of a log leave the same in one word
-pub record AreAlikeIn (log : LogLines) (a b : Logged) : Type 0 where
-  pub first : ℕ
-  pub second : ℕ
-  pub alike : AreAlikeValues (unplaced_operations log) (map left_word (steps_of_log log)) first second
-  pub first_is : a ≡ logged_at (steps_of_log log) first
-  pub second_is : b ≡ logged_at (steps_of_log log) second
 
 -- an operation of a log found what no write of its word left, and no order explains the log
 pub record IsUnwrittenIn (log : LogLines) (a : Logged) : Type 0 where
@@ -74,12 +67,23 @@ pub record IsUnwrittenIn (log : LogLines) (a : Logged) : Type 0 where
   pub none : HasNoPlacing valued
   pub is : a ≡ logged_at (steps_of_log log) place
 
--- why there is no answer on a log: two writes leave the same, or a reply is what no write left, or
--- memory was refused
+-- two operations of a log are a lost update, and no order explains the log
+pub record IsLostIn (log : LogLines) (a b : Logged) : Type 0 where
+  pub valued : Valued
+  pub told : IsValuedOf log valued
+  pub first : ℕ
+  pub second : ℕ
+  pub lost : IsLostUpdate valued first second
+  pub none : HasNoPlacing valued
+  pub first_is : a ≡ logged_at (steps_of_log log) first
+  pub second_is : b ≡ logged_at (steps_of_log log) second
+
+-- why there is no answer on a log: a reply is what no write left, or an update is lost, or memory was
+-- refused
 abbrev pub HasNoAnswerOn : LogLines → NoValueAnswer → Type 0
 HasNoAnswerOn log (Refused refusal) = ⊥
-HasNoAnswerOn log (Alike a b) = AreAlikeIn log a b
 HasNoAnswerOn log (Unwritten a) = IsUnwrittenIn log a
+HasNoAnswerOn log (Lost a b) = IsLostIn log a b
 HasNoAnswerOn log Memory = Unit {0}
 
 -- a log with its replies, of which no model is asked
@@ -92,6 +96,6 @@ pub record IsUnaskedIn (lines : List (List ℕ)) (why : NoValueAnswer) : Type 0 
 abbrev pub HasNoAnswerTo : List (List ℕ) → NoValueAnswer → Type 0
 HasNoAnswerTo lines (Refused refusal) =
     (refusal ≡ refusal_at 0 (reason.Line line.Memory)) ⊎ (values_of lines ≡ Err refusal)
-HasNoAnswerTo lines (Alike a b) = IsUnaskedIn lines (Alike a b)
 HasNoAnswerTo lines (Unwritten a) = IsUnaskedIn lines (Unwritten a)
+HasNoAnswerTo lines (Lost a b) = IsUnaskedIn lines (Lost a b)
 HasNoAnswerTo lines Memory = Unit {0}

@@ -1,5 +1,5 @@
 -- The verdicts of the models on words alone.
-use Rattle.std.specs.Prelude.{ℕ, ◌||◌, Bool, true, false, not, List, Some, if◌then◌else◌}
+use Rattle.std.specs.Prelude.{ℕ, ◌||◌, Bool, true, false, not, List, if◌then◌else◌}
 use Rattle.memory_models.specs.declared.kinds.Operation.{Operation}
 use Rattle.memory_models.specs.Models.{sequential, total_store_order, partial_store_order}
 use Rattle.memory_models.specs.Models.{coherent, fenced}
@@ -9,36 +9,34 @@ use Rattle.model_answer.specs.declared.model.MemoryModel.TheVariants as model
 use Rattle.model_values.specs.declared.question.OrderVerdict.{OrderVerdict}
 use Rattle.model_values.specs.declared.question.OrderVerdict.TheVariants as verdict
 use Rattle.model_values.specs.declared.valued.Valued.{Valued}
+use Rattle.model_values.specs.Lost.{IsLostUpdate}
 use Rattle.model_values.specs.ValuedVerdict.{IsJudgedOn}
-use Rattle.model_values.specs.Values.{AreAlikeValues, HasClearWriters, IsUnwritten, IsValuedPlacing}
+use Rattle.model_values.specs.Values.{IsUnwritten, IsValuedPlacing}
 use Rattle.model_replies.specs.declared.decision.Decision.{Decision}
 use Rattle.model_replies.specs.declared.decision.Decision.TheVariants.{Obeys, Breaks, Undecided, NotTold}
 use Rattle.model_replies.specs.declared.decision.Decisions.{Decisions}
 use Rattle.model_replies.specs.declared.judging.Unsaid.{Unsaid}
-use Rattle.model_replies.specs.declared.judging.Unsaid.TheVariants.{Alike, Unwritten, Memory}
+use Rattle.model_replies.specs.declared.judging.Unsaid.TheVariants.{Unwritten, Lost, Memory}
 use Rattle.model_replies.specs.declared.judging.ValueVerdicts.{ValueVerdicts}
 
 -- no order of each word's writes gives the words, so every model is broken
 abbrev pub HasNoPlacing : Valued → Type 0
 HasNoPlacing v = (placed : List Operation) (writes : List ℕ) → IsValuedPlacing v placed writes → ⊥
 
--- why no model is asked: two writes leave the same in one word; or what was found no write left; or
--- memory was refused
+-- why no model is asked: what was found no write left; or an update is lost; or memory was refused
 abbrev pub IsUnsaid : Valued → Unsaid → Type 0
-IsUnsaid v (Alike x y) = AreAlikeValues v.operations.now v.left.now x y
 IsUnsaid v (Unwritten x) = IsUnwritten v x × HasNoPlacing v
+IsUnsaid v (Lost x y) = IsLostUpdate v x y × HasNoPlacing v
 IsUnsaid v Memory = Unit {0}
 
--- each word that was found shows who wrote it, and the verdict of each model is by a search of at most
--- so many nodes
+-- the verdict of each model, by a search of at most so many nodes
 pub record AreValueVerdicts {A : Type 0} (v : Valued) (nodes : ℕ) (all : ValueVerdicts A) : Type 0
   where
-    pub clear : HasClearWriters v
-    pub by_coherent : IsJudgedOn coherent v (Some nodes) all.coherent
-    pub by_fenced : IsJudgedOn fenced v (Some nodes) all.fenced
-    pub by_pso : IsJudgedOn partial_store_order v (Some nodes) all.pso
-    pub by_tso : IsJudgedOn total_store_order v (Some nodes) all.tso
-    pub by_sc : IsJudgedOn sequential v (Some nodes) all.sc
+    pub by_coherent : IsJudgedOn coherent v nodes all.coherent
+    pub by_fenced : IsJudgedOn fenced v nodes all.fenced
+    pub by_pso : IsJudgedOn partial_store_order v nodes all.pso
+    pub by_tso : IsJudgedOn total_store_order v nodes all.tso
+    pub by_sc : IsJudgedOn sequential v nodes all.sc
 
 -- what a verdict decides
 abbrev pub decision_of : {A : Type 0} → OrderVerdict A → Decision

@@ -7,6 +7,7 @@ use Rattle.packet.specs.declared.kinds.Reply.TheVariants.{Old, Ok as Stored}
 use Rattle.packet.specs.Memory.{new_word}
 use Rattle.memory_models.specs.declared.kinds.Operation.{Operation}
 use Rattle.model_values.specs.declared.valued.Valued.{Valued}
+use Rattle.model_values.specs.Replies.{AreGrouped}
 use Rattle.model_text.specs.declared.logged.Logged.{Logged}
 use Rattle.model_text.specs.declared.logged.Told.{Told}
 use Rattle.model_text.specs.Made.{LogLines}
@@ -65,10 +66,13 @@ pub record TellsValues {A : Type 0} (log : LogLines) (t : ValuedLog A) : Type 0 
   pub left : t.left.items ≡ map left_word (steps_of_log log)
   pub found : t.found.items ≡ map found_word (steps_of_log log)
 
--- the trace of which a log tells the words alone: one word more than occur, since fences have one
+-- the trace of which a log tells the words alone: one word more than occur, since fences have one.
+-- The operations of each processor stand together, so where no order of the writes gives the words, the
+-- replies follow along no order of all operations (`replies_follow` of model_values)
 pub record IsValuedOf (log : LogLines) (v : Valued) : Type 0 where
   pub operations : v.operations.now ≡ unplaced_operations log
   pub left : v.left.now ≡ map left_word (steps_of_log log)
   pub found : v.found.now ≡ map found_word (steps_of_log log)
   pub words : v.words ≡ length log.addresses + 1
   pub openings : v.openings ≡ length log.addresses
+  pub grouped : AreGrouped v

@@ -16,7 +16,7 @@ use lexer::Refusal;
 use model_answer::{Doubts, doubts_on};
 use model_text::trace::logged_at;
 use model_text::{Log, LogReason, Logged};
-use model_values::Valued;
+use model_values::{Valued, are_grouped};
 use std::alloc::{Allocator, Global};
 
 /// What is asked.
@@ -42,11 +42,12 @@ pub struct ValueAnswer<A: Allocator = Global> {
 pub enum NoValueAnswer {
     /// The text is no log, or lacks a reply.
     Refused(Refusal<LogReason>),
-    /// These two operations leave the same in one word, so the replies don't say who wrote what was found.
-    Alike(Logged, Logged),
     /// This operation found what no write of its word left. No order explains that, so the log breaks
     /// every model.
     Unwritten(Logged),
+    /// These two atomics found the same in one word, which only one write of it left. No order explains
+    /// that, so the log breaks every model.
+    Lost(Logged, Logged),
     /// A request for memory was refused.
     Memory,
 }
@@ -88,8 +89,8 @@ fn no_answer(steps: &[Logged], why: Unsaid) -> NoValueAnswer
     ensures { result ≡ no_answer_of steps.now why }
 {
     match why {
-        Unsaid::Alike(x, y) => NoValueAnswer::Alike(logged_at(steps, x), logged_at(steps, y)),
         Unsaid::Unwritten(x) => NoValueAnswer::Unwritten(logged_at(steps, x)),
+        Unsaid::Lost(x, y) => NoValueAnswer::Lost(logged_at(steps, x), logged_at(steps, y)),
         Unsaid::Memory => NoValueAnswer::Memory,
     }
 }
@@ -97,7 +98,7 @@ fn no_answer(steps: &[Logged], why: Unsaid) -> NoValueAnswer
 /// Which memory models a log obeys by its operations and their replies alone, weakest first; and, if that
 /// is asked, an order of the strongest that it obeys.
 ///
-/// Errors: two writes that leave the same in one word, a reply that no write left, or out of memory.
+/// Errors: a reply that no write left, a lost update, or out of memory.
 pub fn answer_to_values<A: Allocator + Copy>(
     alloc: A,
     log: &Log<A>,
@@ -119,6 +120,9 @@ pub fn answer_to_values<A: Allocator + Copy>(
         words,
         openings: values.openings,
     };
+    if !are_grouped(&valued) {
+        return Err(NoValueAnswer::Memory);
+    }
     let Ok(doubts) = doubts_on(alloc, log) else {
         return Err(NoValueAnswer::Memory);
     };
@@ -131,8 +135,8 @@ pub fn answer_to_values<A: Allocator + Copy>(
 /// Which memory models the log that a text is obeys by its operations and their replies alone, as
 /// `answer_to_values` says it.
 ///
-/// Errors: where and why the text is no log or lacks a reply, two writes that leave the same in one word,
-/// a reply that no write left, or out of memory.
+/// Errors: where and why the text is no log or lacks a reply, a reply that no write left, a lost update,
+/// or out of memory.
 pub fn value_answer<A: Allocator + Copy>(
     alloc: A,
     text: &[u8],

@@ -14,5 +14,5 @@ pub use answer::{NoValueAnswer, ValueAnswer, ValueOptions, answer_to_values, val
 pub use decision::{Decision, Decisions};
 pub use judging::{Unsaid, ValueVerdicts};
 pub use reading::read_values;
-pub use sentence::{AlikeSentence, UnwrittenSentence};
+pub use sentence::{LostSentence, UnwrittenSentence};
 pub use steps::{ValuedLog, values_of_log};

@@ -1,16 +1,8 @@
 //! The sentences that say why no model is asked.
 
-use crate::steps::{found_word, left_word};
+use crate::steps::found_word;
 use model_text::Logged;
 use std::fmt;
-
-/// Two writes that leave the same in one word: `lines 3 and 5 leave 1 in address 0, so no reply says
-/// which of them it found`.
-#[derive(Clone, Copy)]
-pub struct AlikeSentence {
-    pub first: Logged,
-    pub second: Logged,
-}
 
 /// A reply that no write left: `reply 3 at line 9, but no write leaves 3 in address 0`.
 #[derive(Clone, Copy)]
@@ -18,25 +10,18 @@ pub struct UnwrittenSentence {
     pub step: Logged,
 }
 
+/// A lost update: `lines 3 and 4 both found 0 in address 0: no order`.
+#[derive(Clone, Copy)]
+pub struct LostSentence {
+    pub first: Logged,
+    pub second: Logged,
+}
+
 /// The address of an operation; 0 where it is a fence.
 fn address_of(step: Logged) -> u32 {
     match step.operation {
         None => 0,
         Some(operation) => operation.address,
-    }
-}
-
-impl fmt::Display for AlikeSentence {
-    fn fmt<W: fmt::Write>(&self, f: &mut fmt::Formatter<W>) -> fmt::Result {
-        match self.first.line {
-            0 => write!(f, "the opening word and line {} leave", self.second.line)?,
-            line => write!(f, "lines {line} and {} leave", self.second.line)?,
-        }
-        let (word, address) = (left_word(self.first), address_of(self.first));
-        write!(
-            f,
-            " {word} in address {address}, so no reply says which of them it found"
-        )
     }
 }
 
@@ -50,6 +35,18 @@ impl fmt::Display for UnwrittenSentence {
         write!(
             f,
             "reply {word} at line {line}, but no write leaves {word} in address {address}"
+        )
+    }
+}
+
+impl fmt::Display for LostSentence {
+    fn fmt<W: fmt::Write>(&self, f: &mut fmt::Formatter<W>) -> fmt::Result {
+        let first = self.first.line.min(self.second.line);
+        let second = self.first.line.max(self.second.line);
+        let (word, address) = (found_word(self.first), address_of(self.first));
+        write!(
+            f,
+            "lines {first} and {second} both found {word} in address {address}: no order"
         )
     }
 }

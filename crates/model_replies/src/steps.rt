@@ -51,7 +51,7 @@ pub(crate) fn found_word(step: Logged) -> u64
 }
 
 /// The word that an operation left.
-pub(crate) fn left_word(step: Logged) -> u64
+fn left_word(step: Logged) -> u64
     ensures { result ≡ left_word step }
 {
     let (left, _) = apply(op_of_step(step.operation), found_word(step));

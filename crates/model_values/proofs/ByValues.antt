@@ -61,7 +61,7 @@ told_by v sources placed writes none by i x lx =
       fence = same.fence;
     }
 
-finds_by : (v : Valued) (sources : List ℕ) (placed : List Operation) (writes : List ℕ)
+pub finds_by : (v : Valued) (sources : List ℕ) (placed : List Operation) (writes : List ℕ)
     → ((x : ℕ) → x < length v.operations.now → IsReader v.operations.now x → IsLeftBy v.operations.now v.left.now v.found.now x (slice_index sources x))
     → IsPlacing v.operations.now sources v.words v.openings placed writes → (x : ℕ) → x < length v.operations.now
     → FindsAt v.operations.now v.left.now v.found.now placed writes x

@@ -1,28 +1,75 @@
 -- Pairs that are noted with their reasons.
-use Rattle.std.proofs.Common.{◌≡◌, inl, inr, ℕ, ◌<◌, Bool, true, false, List, [], ◌∷◌, ◌++◌, length, refl, sym, subst, arith}
+use Rattle.std.proofs.Common.{◌≡◌, ◌≢◌, ◌∙◌, inl, inr, ℕ, ◌<◌, Bool, true, false, List, [], ◌∷◌, ◌++◌, length, refl, sym, subst, arith}
 use Rattle.std.specs.Prelude.{slice_index}
 use Rattle.std.proofs.lemmas.Bool.{cases_lt}
 use Rattle.std.proofs.lemmas.List.{length_push, get_or_push, get_or_append_left}
 use Rattle.rising.specs.declared.edge.Edge.{Edge}
-use Rattle.rising.specs.Graph.{EdgesAreWithin, RisesOnEdges, edge_at}
+use Rattle.rising.specs.Graph.{RisesOnEdges, edge_at}
 use Rattle.memory_models.specs.Arcs.{pushed_if}
 use Rattle.model_values.specs.declared.question.Unordered.{Unordered}
-use Rattle.model_values.specs.Forced.{AreForced, IsForced}
-use Rattle.model_values.specs.Known.{IsFirstOf, IsRival}
+use Rattle.memory_models.specs.Trace.{is_write, operation_at}
+use Rattle.model_values.specs.Forced.{AreForced, IsForced, IsOrderWithSome}
+use Rattle.model_values.specs.Known.{IsFirstOf, IsOwnLoad, IsRival}
 use Rattle.model_values.specs.Unordered.{IsOrderOf}
-use Rattle.model_values.proofs.Explained.{later_rises, earlier_rises}
-use Rattle.model_values.proofs.Rivals.{first_rises}
+use Rattle.model_values.proofs.Explained.{kept_rises, opening_rises, read_rises, later_rises, earlier_rises}
+
+some_rival : (q : Unordered) (turn : ℕ → ℕ) (order : IsOrderWithSome q turn) (x w : ℕ) → IsRival q.operations.now q.sources.now x w
+    → IsRival q.operations.now order.sources x w
+some_rival q turn order x w r =
+    let low = r.told in
+    let size = order.size in
+    let same : slice_index q.sources.now x ≡ slice_index order.sources x = sym (order.agrees x r.reader r.source) in
+    record {
+      reader = r.reader;
+      writer = r.writer;
+      source = subst (λ z. z < length q.operations.now) same r.source;
+      told = omega (arith, low, size);
+      written = subst (λ z. is_write (operation_at q.operations.now z).kind ≡ true) same r.written;
+      sourced = subst (λ z. (operation_at q.operations.now z).word ≡ (operation_at q.operations.now x).word) same r.sourced;
+      reads = r.reads;
+      writes = r.writes;
+      word = r.word;
+      other = r.other;
+      unread = subst (λ z. w ≢ z) same r.unread;
+    }
+
+-- what comes first does in each order that explains the trace
+some_first : (q : Unordered) (turn : ℕ → ℕ) (order : IsOrderWithSome q turn) (x y : ℕ) → x < length q.operations.now → y < length q.operations.now
+    → IsFirstOf q.rules.now q.operations.now q.sources.now q.openings x y → turn x < turn y
+some_first q turn order x y lx ly (inl kept) = kept_rises q.rules.now q.operations.now order.sources q.words q.openings turn order.is x y lx ly kept
+some_first q turn order x y lx ly (inr (inl opening)) =
+    opening_rises q.rules.now q.operations.now order.sources q.words q.openings turn order.is x y lx ly opening
+some_first q turn order x y lx ly (inr (inr read)) =
+    let from : slice_index q.sources.now y < length q.operations.now = subst (λ z. z < length q.operations.now) (sym read.source) lx in
+    read_rises q.rules.now q.operations.now order.sources q.words q.openings turn order.is x y lx ly (record {
+      source = order.agrees y ly from ∙ read.source;
+      written = read.written;
+      word = read.word;
+      reads = read.reads;
+    })
 
 pub forced_first : (q : Unordered) (edges : List Edge) (x y : ℕ) → x < length q.operations.now → y < length q.operations.now
     → IsFirstOf q.rules.now q.operations.now q.sources.now q.openings x y → IsForced q edges x y
-forced_first q edges x y lx ly why = record { from = lx; to = ly; rises = λ turn order up. first_rises q x y turn lx ly why order }
+forced_first q edges x y lx ly why = record { from = lx; to = ly; rises = λ turn order up. some_first q turn order x y lx ly why }
 
 pub forced_earlier : (q : Unordered) (edges : List Edge) (x w to : ℕ) → IsRival q.operations.now q.sources.now x w → to ≡ slice_index q.sources.now x
     → ((number : ℕ → ℕ) → RisesOnEdges edges number → number w < number x) → IsForced q edges w to
 forced_earlier q edges x w to rival is leads = subst (λ z. IsForced q edges w z) (sym is) (record {
   from = rival.writer;
   to = rival.source;
-  rises = λ turn order up. earlier_rises q.rules.now q.operations.now q.sources.now q.words q.openings turn order x w rival (inl (leads turn up));
+  rises = λ turn order up. subst (λ z. turn w < turn z) (order.agrees x rival.reader rival.source)
+      (earlier_rises q.rules.now q.operations.now order.sources q.words q.openings turn order.is x w (some_rival q turn order x w rival)
+      (inl (leads turn up)));
+})
+
+-- a write before a load of its own processor
+pub forced_own : (q : Unordered) (edges : List Edge) (x w to : ℕ) → IsRival q.operations.now q.sources.now x w → to ≡ slice_index q.sources.now x
+    → IsOwnLoad q.operations.now w x → IsForced q edges w to
+forced_own q edges x w to rival is own = subst (λ z. IsForced q edges w z) (sym is) (record {
+  from = rival.writer;
+  to = rival.source;
+  rises = λ turn order up. subst (λ z. turn w < turn z) (order.agrees x rival.reader rival.source)
+      (earlier_rises q.rules.now q.operations.now order.sources q.words q.openings turn order.is x w (some_rival q turn order x w rival) (inr own));
 })
 
 pub forced_later : (q : Unordered) (edges : List Edge) (x w from : ℕ) → IsRival q.operations.now q.sources.now x w → from ≡ x
@@ -30,8 +77,14 @@ pub forced_later : (q : Unordered) (edges : List Edge) (x w from : ℕ) → IsRi
 forced_later q edges x w from rival is leads = subst (λ z. IsForced q edges z w) (sym is) (record {
   from = rival.reader;
   to = rival.writer;
-  rises = λ turn order up. later_rises q.rules.now q.operations.now q.sources.now q.words q.openings turn order x w rival (leads turn up);
+  rises = λ turn order up. later_rises q.rules.now q.operations.now order.sources q.words q.openings turn order.is x w
+      (some_rival q turn order x w rival)
+      (subst (λ z. turn z < turn w) (sym (order.agrees x rival.reader rival.source)) (leads turn up));
 })
+
+-- an order with the sources of a question
+pub with_its_own : (q : Unordered) (turn : ℕ → ℕ) → IsOrderOf q turn → IsOrderWithSome q turn
+with_its_own q turn order = record { sources = q.sources.now; size = omega arith; agrees = λ x low source. refl; is = order }
 
 -- a pair more
 each_pushed : (P : Edge → Type 0) (edges : List Edge) (e : Edge) → ((k : ℕ) → k < length edges → P (edge_at edges k)) → P e

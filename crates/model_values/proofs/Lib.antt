@@ -3,6 +3,7 @@ pub mod Explained
 pub mod Settled
 pub mod Split
 pub mod Rivals
+pub mod Concluding
 pub mod Apart
 pub mod Forcing
 pub mod Accepted
@@ -12,7 +13,14 @@ pub mod Weights
 pub mod Walked
 pub mod Searching
 pub mod ValuedVerdicts
+pub mod Chosen
+pub mod LostUpdates
+pub mod Choosing
+pub mod Looked
+pub mod Taking
+pub mod Opened
 pub mod Replies
 pub mod Sorted
 pub mod Laid
+pub mod Grouping
 pub mod Ordered

@@ -3,7 +3,7 @@ use Rattle.std.proofs.Common.{◌≡◌, ℕ, ◌+◌, ◌-◌, ◌*◌, ◌<◌
 use Rattle.std.specs.Prelude.{Option, None, Some}
 use Rattle.model_values.specs.declared.question.Unordered.{Unordered}
 use Rattle.model_values.specs.Answers.{IsRefuted, IsSplit, IsTurned}
-use Rattle.model_values.specs.Known.{AgreesWith, AreRivals, HasSpreadOrder, IsOpenPair}
+use Rattle.model_values.specs.Known.{AgreesWith, AreConcluded, AreRivals, HasSpreadOrder, IsOpenPair}
 use Rattle.model_values.specs.Searches.{IsCutOff}
 use Rattle.model_values.specs.Unordered.{IsOrderOf}
 use Rattle.model_values.proofs.Split.{IsPathOf, path_first, path_spread, path_split, path_turned, path_ended}
@@ -66,12 +66,12 @@ some_more nodes left new count some spent n is =
 
 pub searching_split : (q : Unordered) (nodes left new : Option ℕ) (x y : ℕ) (path next : List (ℕ × ℕ)) (t s u : List ℕ)
     → length path + 1 < 18446744073709551615 → IsSearching q nodes left true t path → IsSpent true left new → HasSpreadOrder q (length path) t s
-    → IsOpenPair q.operations.now s (length path) (x, y) → AreRivals q.operations.now x y → IsSplit (length q.operations.now) x y path s next u
-    → IsSearching q nodes new true u next
-searching_split q nodes left new x y path next t s u small g spent spread o rivals split = record {
+    → IsOpenPair q.operations.now s (length path) (x, y) → AreRivals q.operations.now x y → AreConcluded q s (length path)
+    → IsSplit (length q.operations.now) x y path s next u → IsSearching q nodes new true u next
+searching_split q nodes left new x y path next t s u small g spent spread o rivals all split = record {
   stands = path_split q x y path next s u small (path_spread q t s path spread g.stands) o split;
   count = g.count + 1;
-  at = λ _. searches_split q x y g.count path next t s u small (g.at refl) spread o rivals split;
+  at = λ _. searches_split q x y g.count path next t s u small (g.at refl) spread o rivals all split;
   some = some_more nodes left new g.count g.some spent;
   none = λ is. (spent.none (g.none is)).1;
   ended = λ bad. absurd (let no : true ≡ false = bad in cc);
@@ -125,7 +125,7 @@ searching_back q nodes left new path next t s u false back small go g spent spre
 pub searching_on : (q : Unordered) (nodes left new : Option ℕ) (x y : ℕ) (path next : List (ℕ × ℕ)) (t s u : List ℕ) (more : Bool)
     → length path + 1 < 18446744073709551615 → more ≡ true → IsSearching q nodes left more t path → IsSpent true left new
     → HasSpreadOrder q (length path) t s → IsOpenPair q.operations.now s (length path) (x, y) → AreRivals q.operations.now x y
-    → IsSplit (length q.operations.now) x y path s next u → IsSearching q nodes new more u next
-searching_on q nodes left new x y path next t s u true small go g spent spread o rivals split =
-    searching_split q nodes left new x y path next t s u small g spent spread o rivals split
-searching_on q nodes left new x y path next t s u false small go g spent spread o rivals split = absurd (let no : false ≡ true = go in cc)
+    → AreConcluded q s (length path) → IsSplit (length q.operations.now) x y path s next u → IsSearching q nodes new more u next
+searching_on q nodes left new x y path next t s u true small go g spent spread o rivals all split =
+    searching_split q nodes left new x y path next t s u small g spent spread o rivals all split
+searching_on q nodes left new x y path next t s u false small go g spent spread o rivals all split = absurd (let no : false ≡ true = go in cc)

@@ -1,6 +1,6 @@
 -- The answer on sources is one on the words that were left and found.
-use Rattle.std.proofs.Common.{◌≡◌, ℕ, List, length, sym, subst}
-use Rattle.std.specs.Prelude.{Option, slice_index}
+use Rattle.std.proofs.Common.{◌≡◌, inl, ℕ, List, length, sym, subst}
+use Rattle.std.specs.Prelude.{IfOk, Result, Ok, Err, Some, slice_index}
 use Rattle.rising.specs.Found.{IsPermutationBelow}
 use Rattle.memory_models.specs.declared.kinds.Operation.{Operation}
 use Rattle.memory_models.specs.declared.kinds.Rule.{Rule}
@@ -11,15 +11,8 @@ use Rattle.model_values.specs.declared.question.Unordered.{Unordered}
 use Rattle.model_values.specs.declared.valued.Valued.{Valued}
 use Rattle.model_values.specs.Answers.{IsOrderVerdict}
 use Rattle.model_values.specs.Unordered.{IsPlacing}
-use Rattle.model_values.specs.Values.{AreKnownSources, HasClearWriters, IsValuedPlacing}
+use Rattle.model_values.specs.Values.{IsValuedPlacing}
 use Rattle.model_values.specs.ValuedVerdict.{IsJudgedOn}
-
--- known sources show who wrote what was found
-pub clear_writers : (v : Valued) (sources : List ℕ) → AreKnownSources v sources → HasClearWriters v
-clear_writers v sources known = record {
-  unlike = known.unlike;
-  written = λ x low reads. (slice_index sources x, (known.each x low).left reads);
-}
 
 -- the orders of a question are those that give the words
 abbrev pub AsksValues : Valued → Unordered → Type 0
@@ -27,8 +20,8 @@ AsksValues v q = (placed : List Operation) (writes : List ℕ)
     → (IsValuedPlacing v placed writes → IsPlacing q.operations.now q.sources.now q.words q.openings placed writes)
     × (IsPlacing q.operations.now q.sources.now q.words q.openings placed writes → IsValuedPlacing v placed writes)
 
-pub judged_values : {A : Type 0} (rules : List Rule) (v : Valued) (q : Unordered) (nodes : Option ℕ) (verdict : OrderVerdict A) → q.rules.now ≡ rules
-    → q.operations.now ≡ v.operations.now → AsksValues v q → IsOrderVerdict q nodes verdict → IsJudgedOn rules v nodes verdict
+pub judged_values : {A : Type 0} (rules : List Rule) (v : Valued) (q : Unordered) (nodes : ℕ) (verdict : OrderVerdict A) → q.rules.now ≡ rules
+    → q.operations.now ≡ v.operations.now → AsksValues v q → IsOrderVerdict q (Some nodes) verdict → IsJudgedOn rules v nodes verdict
 judged_values rules v q nodes (Obeys e) same ops asks is = record {
   turns = subst (λ (z : List Operation). IsPermutationBelow (length z) e.turns.items) ops is.turns;
   is = (asks e.operations.items e.writes.items).1 is.is;
@@ -40,4 +33,9 @@ judged_values rules v q nodes Breaks same ops asks is = λ placed writes turn va
   is = (asks placed writes).0 valued;
   order = subst (λ (z : List Rule). IsMemoryOrder z placed writes turn) (sym same) order;
 })
-judged_values rules v q nodes Undecided same ops asks is = record { question = q; asked = same; same = asks; cut = is }
+judged_values rules v q nodes Undecided same ops asks is = inl (record { question = q; asked = same; same = asks; cut = is })
+
+pub judged_ok : {A E : Type 0} (rules : List Rule) (v : Valued) (q : Unordered) (nodes : ℕ) (r : Result (OrderVerdict A) E) → q.rules.now ≡ rules
+    → q.operations.now ≡ v.operations.now → AsksValues v q → IfOk r (IsOrderVerdict q (Some nodes)) → IfOk r (IsJudgedOn rules v nodes)
+judged_ok rules v q nodes (Ok verdict) same ops asks is = judged_values rules v q nodes verdict same ops asks is
+judged_ok rules v q nodes (Err e) same ops asks is = tt

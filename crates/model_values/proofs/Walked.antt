@@ -3,8 +3,8 @@ use Rattle.std.proofs.Common.{◌≡◌, ℕ, zero, suc, ◌+◌, ◌*◌, ◌<�
 use Rattle.std.proofs.lemmas.List.{length-take-le, length_push, get_or-take, get_or_push, get_or_append_left}
 use Rattle.model_values.specs.declared.question.Unordered.{Unordered}
 use Rattle.model_values.specs.Answers.{IsRefuted, IsSplit, IsTurned, split_at}
-use Rattle.model_values.specs.Known.{is_known, AgreesWith, AreRivals, HasSpreadOrder, IsOpenPair}
-use Rattle.model_values.specs.Searches.{Side, First, Second, KeepsSides, LeaveOpen, Searches, Begins, Splits, Refutes, Turns, Closes}
+use Rattle.model_values.specs.Known.{is_known, AgreesWith, AreConcluded, AreRivals, HasSpreadOrder, IsOpenPair}
+use Rattle.model_values.specs.Searches.{Side, First, Second, KeepsSides, KnowsSides, Searches, Begins, Splits, Refutes, Turns, Closes}
 use Rattle.model_values.specs.Unordered.{IsOrderOf}
 use Rattle.model_values.proofs.Table.{known_le, le_known}
 use Rattle.model_values.proofs.Split.{IsPathOf, StayTo, split_below, turned_below}
@@ -46,28 +46,18 @@ along_same size level old new path next stay (First x y ∷ sides) (suc l) low s
 along_same size level old new path next stay (Second x y ∷ sides) l low same along =
     (stays size level l x y old new stay low along.0, along_same size level old new path next stay sides l low same along.1)
 
--- a pair that isn't known is in no side
-known_up : (size l x y : ℕ) (table : List ℕ) → is_known table size l x y ≡ true → is_known table size (suc l) x y ≡ true
-known_up size l x y table known = let at = known_le table size l x y known in le_known table size (suc l) x y (omega (arith, at))
+-- what is known at a level is known at the higher ones, and so are the sides
+known_at : (size l level x y : ℕ) (table : List ℕ) → l ≤ level → is_known table size l x y ≡ true → is_known table size level x y ≡ true
+known_at size l level x y table low known = let at = known_le table size l x y known in le_known table size level x y (omega (arith, at, low))
 
-pub along_open : (size : ℕ) (table : List ℕ) (path : List (ℕ × ℕ)) (x y : ℕ) (sides : List Side) (l : ℕ) → IsAlong size table path sides l
-    → (is_known table size l x y ≡ true → ⊥) → (is_known table size l y x ≡ true → ⊥) → LeaveOpen sides x y
-along_open size table path x y [] l along forth back = tt
-along_open size table path x y (First a b ∷ sides) zero along forth back = absurd along
-along_open size table path x y (First a b ∷ sides) (suc l) along forth back = (
-  (
-    λ one two. forth (subst (λ z. is_known table size (suc l) x z ≡ true) two (subst (λ z. is_known table size (suc l) z b ≡ true) one along.1.0)),
-    λ one two. back (subst (λ z. is_known table size (suc l) y z ≡ true) two (subst (λ z. is_known table size (suc l) z b ≡ true) one along.1.0)),
-  ),
-  along_open size table path x y sides l along.1.1 (λ known. forth (known_up size l x y table known)) (λ known. back (known_up size l y x table known)),
-)
-along_open size table path x y (Second a b ∷ sides) l along forth back = (
-  (
-    λ one two. forth (subst (λ z. is_known table size l x z ≡ true) two (subst (λ z. is_known table size l z b ≡ true) one along.0)),
-    λ one two. back (subst (λ z. is_known table size l y z ≡ true) two (subst (λ z. is_known table size l z b ≡ true) one along.0)),
-  ),
-  along_open size table path x y sides l along.1 forth back,
-)
+pub along_known : (size : ℕ) (table : List ℕ) (path : List (ℕ × ℕ)) (sides : List Side) (l level : ℕ) → l ≤ level → IsAlong size table path sides l
+    → KnowsSides size table level sides
+along_known size table path [] l level low along = tt
+along_known size table path (First a b ∷ sides) zero level low along = absurd along
+along_known size table path (First a b ∷ sides) (suc l) level low along =
+    (known_at size (suc l) level a b table low along.1.0, along_known size table path sides l level (omega (arith, low)) along.1.1)
+along_known size table path (Second a b ∷ sides) l level low along =
+    (known_at size l level a b table low along.0, along_known size table path sides l level low along.1)
 
 -- an order that keeps the sides agrees with the table at their level
 pub along_agrees : (q : Unordered) (table : List ℕ) (path : List (ℕ × ℕ)) (turn : ℕ → ℕ) → IsPathOf q table path → IsOrderOf q turn
@@ -118,8 +108,8 @@ searches_first q table path none = record {
 -- a split
 pub searches_split : (q : Unordered) (x y count : ℕ) (path next : List (ℕ × ℕ)) (t s u : List ℕ) → length path + 1 < 18446744073709551615
     → IsSearchAt q t path count → HasSpreadOrder q (length path) t s → IsOpenPair q.operations.now s (length path) (x, y) → AreRivals q.operations.now x y
-    → IsSplit (length q.operations.now) x y path s next u → IsSearchAt q u next (count + 1)
-searches_split q x y count path next t s u small at spread o rivals g =
+    → AreConcluded q s (length path) → IsSplit (length q.operations.now) x y path s next u → IsSearchAt q u next (count + 1)
+searches_split q x y count path next t s u small at spread o rivals all g =
     let size : ℕ = length q.operations.now in
     let l : ℕ = length path in
     let same = split_below size x y path next s u small g in
@@ -133,7 +123,14 @@ searches_split q x y count path next t s u small at spread o rivals g =
     let long : length next ≡ suc l = (let more = length_push path (x, y) in let is = ap length g.grown in omega (arith, more, is)) in
     record {
       sides = First x y ∷ at.sides;
-      search = Splits at.sides count x y at.search o.first o.second rivals (along_open size s path x y at.sides l spreads o.forth o.back);
+      search = Splits at.sides count x y at.search o.first o.second rivals (record {
+        table = s;
+        level = l;
+        sided = along_known size s path at.sides l l (omega arith) spreads;
+        concluded = all;
+        forth = o.forth;
+        back = o.back;
+      });
       along = subst (λ z. IsAlong size u next (First x y ∷ at.sides) z) (sym long) (new, (known, grown));
     }
 

@@ -1,7 +1,7 @@
 -- What is known of all orders that explain a trace, in a table of all pairs of operations. An entry is
 -- the level of the search at which the pair was noted.
 use Rattle.std.specs.Prelude.{◌≡◌, ◌≢◌, ◌⊎◌, ℕ, ◌+◌, ◌*◌, ◌<◌, ◌≤◌, nat_le, if◌then◌else◌}
-use Rattle.std.specs.Prelude.{Bool, true, List, [], ◌∷◌, length, slice_index}
+use Rattle.std.specs.Prelude.{Bool, true, false, List, [], ◌∷◌, length, slice_index}
 use Rattle.memory_models.specs.declared.kinds.Kind.TheVariants.{Atomic}
 use Rattle.memory_models.specs.declared.kinds.Operation.{Operation}
 use Rattle.memory_models.specs.Trace.{is_load, is_write, operation_at, IsOwn}
@@ -54,6 +54,11 @@ none_if fact = if fact then 0 else 1
 abbrev pub unknown : ℕ → List ℕ → ℕ
 unknown level [] = 0
 unknown level (entry ∷ entries) = none_if (nat_le entry level) + unknown level entries
+
+-- fewer pairs are unknown at a level; or nothing has changed
+pub record NotesMore (level : ℕ) (old new : List ℕ) (more : Bool) : Type 0 where
+  pub same : more ≡ false → new ≡ old
+  pub fewer : more ≡ true → unknown level new < unknown level old
 
 -- a load or an atomic, and a write on its word that is neither its source nor itself
 pub record IsRival (ops : List Operation) (sources : List ℕ) (x w : ℕ) : Type 0 where
@@ -110,6 +115,23 @@ abbrev pub AreSettled : List Operation → List ℕ → ℕ → Type 0
 AreSettled ops table level = (x y : ℕ) → x < length ops → y < length ops → AreRivals ops x y
     → (is_known table (length ops) level x y ≡ true)
     ⊎ (is_known table (length ops) level y x ≡ true)
+
+-- what follows for a reader and a rival write is known: a write before the reader comes before its source,
+-- and one behind the source comes behind the reader
+pub record IsConcluded (q : Unordered) (table : List ℕ) (level x w : ℕ) : Type 0 where
+  pub early : (is_known table (length q.operations.now) level w x ≡ true)
+      ⊎ IsOwnLoad q.operations.now w x
+      → is_known table (length q.operations.now) level w (slice_index q.sources.now x) ≡ true
+  pub late : is_known table (length q.operations.now) level (slice_index q.sources.now x) w ≡ true
+      → is_known table (length q.operations.now) level x w ≡ true
+
+-- so for all writes of a reader, and for all readers: nothing follows that isn't known
+abbrev pub AreConcludedOf : Unordered → List ℕ → ℕ → ℕ → Type 0
+AreConcludedOf q table level x = (w : ℕ) → IsRival q.operations.now q.sources.now x w
+    → IsConcluded q table level x w
+
+abbrev pub AreConcluded : Unordered → List ℕ → ℕ → Type 0
+AreConcluded q table level = (x : ℕ) → AreConcludedOf q table level x
 
 -- what holds in each order that explains the trace is noted at a level
 pub record HasSpreadOrder (q : Unordered) (level : ℕ) (old new : List ℕ) : Type 0 where

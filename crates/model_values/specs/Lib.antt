@@ -4,7 +4,10 @@ pub mod Known
 pub mod Placed
 pub mod Answers
 pub mod Values
+pub mod Followed
 pub mod Sorted
 pub mod Searches
+pub mod Choices
 pub mod ValuedVerdict
+pub mod ChoiceSteps
 pub mod Replies

@@ -1,19 +1,19 @@
 -- The answer on a trace that gives the words that its operations left and found.
-use Rattle.std.specs.Prelude.{◌≡◌, ℕ, List, Option, length, slice_index}
+use Rattle.std.specs.Prelude.{◌≡◌, ◌⊎◌, ℕ, List, Option, Some, length}
+use Rattle.std.specs.Prelude.{slice_index}
 use Rattle.rising.specs.Found.{IsPermutationBelow}
 use Rattle.memory_models.specs.declared.kinds.Operation.{Operation}
 use Rattle.memory_models.specs.declared.kinds.Rule.{Rule}
 use Rattle.memory_models.specs.Order.{IsMemoryOrder}
-use Rattle.model_values.specs.declared.by_values.ValuedVerdict.{ValuedVerdict}
-use Rattle.model_values.specs.declared.by_values.ValuedVerdict.TheVariants.{Judged, Alike, Unwritten}
 use Rattle.model_values.specs.declared.question.Explanation.{Explanation}
 use Rattle.model_values.specs.declared.question.OrderVerdict.{OrderVerdict}
 use Rattle.model_values.specs.declared.question.OrderVerdict.TheVariants.{Obeys, Breaks, Undecided}
 use Rattle.model_values.specs.declared.question.Unordered.{Unordered}
 use Rattle.model_values.specs.declared.valued.Valued.{Valued}
+use Rattle.model_values.specs.Choices.{CutsOffChoices}
 use Rattle.model_values.specs.Searches.{IsCutOff}
 use Rattle.model_values.specs.Unordered.{IsPlacing}
-use Rattle.model_values.specs.Values.{AreAlikeValues, HasClearWriters, IsUnwritten, IsValuedPlacing}
+use Rattle.model_values.specs.Values.{IsValuedPlacing}
 
 -- an order of each word's writes that gives the words, and turns by which the trace obeys the model
 pub record ExplainsValues {A : Type 0} (rules : List Rule) (v : Valued) (e : Explanation A) : Type 0
@@ -41,16 +41,10 @@ pub record CutsOffValues (rules : List Rule) (v : Valued) (nodes : Option ℕ) :
       → IsValuedPlacing v placed writes)
   pub cut : IsCutOff question nodes
 
--- the answer where each word that was found shows who wrote it
-abbrev pub IsJudgedOn : {A : Type 0} → List Rule → Valued → Option ℕ → OrderVerdict A → Type 0
+-- the answer: an order that explains what was found; or that none does; or a search was cut off, for
+-- orders with the sources that the words show, or for sources
+abbrev pub IsJudgedOn : {A : Type 0} → List Rule → Valued → ℕ → OrderVerdict A → Type 0
 IsJudgedOn rules v nodes (Obeys e) = ExplainsValues rules v e
 IsJudgedOn rules v nodes Breaks = BreaksValues rules v
-IsJudgedOn rules v nodes Undecided = CutsOffValues rules v nodes
-
--- the answer, where each word that was found shows who wrote it; or two writes that left the same in
--- one word; or an operation that found what no write left, so that no order obeys the model
-abbrev pub IsValuedVerdict : {A : Type 0} → List Rule → Valued → Option ℕ → ValuedVerdict A → Type 0
-IsValuedVerdict rules v nodes (Judged verdict) =
-    HasClearWriters v × IsJudgedOn rules v nodes verdict
-IsValuedVerdict rules v nodes (Alike x y) = AreAlikeValues v.operations.now v.left.now x y
-IsValuedVerdict rules v nodes (Unwritten x) = IsUnwritten v x × BreaksValues rules v
+IsJudgedOn rules v nodes Undecided =
+    CutsOffValues rules v (Some nodes) ⊎ CutsOffChoices rules v nodes

@@ -4,7 +4,7 @@ use Rattle.memory_models.specs.declared.kinds.Kind.TheVariants.{Atomic}
 use Rattle.memory_models.specs.declared.kinds.Operation.{Operation}
 use Rattle.memory_models.specs.Trace.{is_load, is_write, operation_at, source_at, IsMemoryTrace}
 use Rattle.model_values.specs.declared.valued.Sources.{Sources}
-use Rattle.model_values.specs.declared.valued.Sources.TheVariants.{Told, Alike, Unwritten}
+use Rattle.model_values.specs.declared.valued.Sources.TheVariants.{Told, Alike, Lost, Unwritten}
 use Rattle.model_values.specs.declared.valued.Valued.{Valued}
 use Rattle.model_values.specs.Placed.{IsSame}
 use Rattle.model_values.specs.Unordered.{IsOpeningOf, IsPlacing}
@@ -65,12 +65,25 @@ pub record IsUnwritten (v : Valued) (x : ℕ) : Type 0 where
   pub reads : IsReader v.operations.now x
   pub none : (s : ℕ) → IsLeftBy v.operations.now v.left.now v.found.now x s → ⊥
 
--- each word that was found shows who wrote it: no two writes left the same in one word, and some
--- write left what each reader found
-pub record HasClearWriters (v : Valued) : Type 0 where
-  pub unlike : (x y : ℕ) → AreAlikeValues v.operations.now v.left.now x y → ⊥
-  pub written : (x : ℕ) → x < length v.operations.now → IsReader v.operations.now x
-      → (s : ℕ) × IsLeftBy v.operations.now v.left.now v.found.now x s
+-- two atomics found the same in one word
+pub record AreTwins (v : Valued) (x y : ℕ) : Type 0 where
+  pub first : x < length v.operations.now
+  pub second : y < length v.operations.now
+  pub other : x ≢ y
+  pub atomic : (operation_at v.operations.now x).kind ≡ Atomic
+  pub atomic_too : (operation_at v.operations.now y).kind ≡ Atomic
+  pub word : (operation_at v.operations.now x).word ≡ (operation_at v.operations.now y).word
+  pub same : slice_index v.found.now x ≡ slice_index v.found.now y
+
+-- and no two writes left what they found. Each is the next write behind the one that it found, so no
+-- order of each word's writes has both
+pub record IsLostUpdate (v : Valued) (x y : ℕ) : Type 0 where
+  pub twins : AreTwins v x y
+  pub one : (s t : ℕ) → IsLeftBy v.operations.now v.left.now v.found.now x s
+      → IsLeftBy v.operations.now v.left.now v.found.now x t → s ≡ t
+
+abbrev pub HasNoLostUpdate : Valued → Type 0
+HasNoLostUpdate v = (x y : ℕ) → IsLostUpdate v x y → ⊥
 
 -- the source of an operation: of a reader a write of its word that left what it found, of another
 -- operation 0
@@ -85,16 +98,20 @@ pub record AreKnownSources (v : Valued) (sources : List ℕ) : Type 0 where
   pub size : length sources ≡ length v.operations.now
   pub each : (x : ℕ) → x < length v.operations.now → IsKnownSource v x (slice_index sources x)
   pub unlike : (x y : ℕ) → AreAlikeValues v.operations.now v.left.now x y → ⊥
+  pub kept : HasNoLostUpdate v
   pub same : (placed : List Operation) (writes : List ℕ)
       → (IsValuedPlacing v placed writes
       → IsPlacing v.operations.now sources v.words v.openings placed writes)
       × (IsPlacing v.operations.now sources v.words v.openings placed writes
       → IsValuedPlacing v placed writes)
 
--- the sources; or two writes that left the same in one word; or an operation that found what no write
--- left, and then no order of each word's writes gives the words that were found
+-- the sources; or two writes that left the same in one word, and no update is lost; or a lost update,
+-- or an operation that found what no write left, and then no order of each word's writes gives the words
+-- that were found
 abbrev pub AreSourcesOf : {A : Type 0} → Valued → Sources A → Type 0
 AreSourcesOf v (Told sources) = AreKnownSources v sources.items
-AreSourcesOf v (Alike x y) = AreAlikeValues v.operations.now v.left.now x y
+AreSourcesOf v (Alike x y) = AreAlikeValues v.operations.now v.left.now x y × HasNoLostUpdate v
+AreSourcesOf v (Lost x y) = IsLostUpdate v x y
+    × ((placed : List Operation) (writes : List ℕ) → IsValuedPlacing v placed writes → ⊥)
 AreSourcesOf v (Unwritten x) = IsUnwritten v x
     × ((placed : List Operation) (writes : List ℕ) → IsValuedPlacing v placed writes → ⊥)

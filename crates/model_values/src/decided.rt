@@ -63,7 +63,7 @@ fn operations_at<A: Allocator + Copy>(
 /// The explanation that has the places of a list, if the trace obeys the model with these.
 ///
 /// Errors: out of memory.
-fn explained<A: Allocator + Copy>(
+pub(crate) fn explained<A: Allocator + Copy>(
     alloc: A,
     question: &Unordered,
     places: &[usize],

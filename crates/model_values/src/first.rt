@@ -42,7 +42,9 @@ pub(crate) fn is_opening_of(operations: &[Operation], openings: usize, x: usize,
 fn is_read_by(operations: &[Operation], sources: &[usize], x: usize, y: usize) -> bool
     requires x { x < length operations.now }
     requires y { y < length operations.now }
-    ensures { result ≡ true → IsReadBy operations.now sources.now x y }
+    ensures yes { result ≡ true → IsReadBy operations.now sources.now x y }
+    ensures no { result ≡ false → y < length sources.now → IsReadBy operations.now sources.now x y
+        → ⊥ }
 {
     if y >= sources.len() || sources[y] != x {
         return false;

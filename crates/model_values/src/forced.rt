@@ -3,9 +3,8 @@
 ghost use Rattle.std.specs.Prelude.{◌≡◌, ◌⊎◌, ℕ, ◌<◌, true, length, slice_index, IfOk, OnOk};
 ghost use Rattle.memory_models.specs.Arcs.{pushed_if};
 ghost use Rattle.rising.specs.Graph.{RisesOnEdges};
-ghost use Rattle.model_values.specs.Forced.{AreForced, IsForced};
+ghost use Rattle.model_values.specs.Forced.{AreForced, IsForced, IsOrderWithSome};
 ghost use Rattle.model_values.specs.Known.{IsOwnLoad, IsRival};
-ghost use Rattle.model_values.specs.Unordered.{IsOrderOf};
 
 use crate::first::starts;
 use crate::question::Unordered;
@@ -107,7 +106,7 @@ fn is_right(question: &Unordered, edges: &[Edge], path: &[usize], step: Step) ->
 }
 
 /// A part of a list; nothing where there is none.
-fn part(paths: &[usize], begin: usize, end: usize) -> &[usize] {
+pub(crate) fn part(paths: &[usize], begin: usize, end: usize) -> &[usize] {
     match paths.get(begin..end) {
         Some(path) => path,
         None => &[],
@@ -142,7 +141,8 @@ fn forced_edges<A: Allocator + Copy>(
     Ok(edges)
 }
 
-/// Whether pairs whose reasons hold go around, so that no order explains the trace.
+/// Whether pairs whose reasons hold go around, so that no order explains the trace, with any sources of the operations
+/// to which the question gives none.
 ///
 /// Errors: out of memory.
 pub(crate) fn is_refuted<A: Allocator + Copy>(
@@ -152,7 +152,7 @@ pub(crate) fn is_refuted<A: Allocator + Copy>(
     paths: &[usize],
 ) -> Result<bool, AllocError>
     ensures { IfOk result (λ refuted. refuted ≡ true
-        → (turn : ℕ → ℕ) → IsOrderOf question.now turn → ⊥) }
+        → (turn : ℕ → ℕ) → IsOrderWithSome question.now turn → ⊥) }
 {
     let edges = forced_edges(alloc, question, steps, paths)?;
     match rise(alloc, question.operations.len(), &edges)? {
@@ -161,5 +161,27 @@ pub(crate) fn is_refuted<A: Allocator + Copy>(
             Ok(true)
         }
         Found::Rising(_) => Ok(false),
+    }
+}
+
+/// Pairs that go around, by their places in the list of all, where the reasons of all hold.
+///
+/// Errors: out of memory.
+pub(crate) fn circle_of<A: Allocator + Copy>(
+    alloc: A,
+    question: &Unordered,
+    steps: &[Step],
+    paths: &[usize],
+) -> Result<Option<Vec<usize, A>>, AllocError> {
+    let edges = forced_edges(alloc, question, steps, paths)?;
+    match rise(alloc, question.operations.len(), &edges)? {
+        Found::Cycle(places) => {
+            if edges.len() == steps.len() {
+                Ok(Some(places))
+            } else {
+                Ok(None)
+            }
+        }
+        Found::Rising(_) => Ok(None),
     }
 }

@@ -1,8 +1,8 @@
 //! A table of which operations are known to come before which. An entry is the level of the search at
 //! which the pair was noted, so that what was noted above a level can be forgotten.
 
-ghost use Rattle.std.specs.Prelude.{◌≡◌, ℕ, ◌+◌, ◌*◌, ◌<◌, ◌≤◌, true, length};
-ghost use Rattle.model_values.specs.Known.{AgreesWith, HasNoted, IsForgotten, is_known};
+ghost use Rattle.std.specs.Prelude.{◌≡◌, ℕ, ◌+◌, ◌*◌, ◌<◌, ◌≤◌, true, false, length};
+ghost use Rattle.model_values.specs.Known.{AgreesWith, HasNoted, IsForgotten, NotesMore, is_known};
 
 /// Whether one operation is known at a level to come before another.
 pub(crate) fn is_before(table: &[usize], size: usize, level: usize, x: usize, y: usize) -> bool
@@ -79,13 +79,17 @@ pub(crate) fn add(
     requires size { length table.old ≡ size * size }
     requires x { x < size }
     requires y { y < size }
-    ensures { HasNoted size level wanted x y table.old table.new }
+    ensures noted { HasNoted size level wanted x y table.old table.new }
+    ensures more { NotesMore level table.old table.new result }
 {
+    if !wanted {
+        return false;
+    }
     if is_before(table, size, level, x, y) {
         return false;
     }
-    add_new(table, size, level, wanted, x, y);
-    wanted
+    add_new(table, size, level, true, x, y);
+    true
 }
 
 /// An entry up to a level, and that of an unknown pair in place of a higher one.
@@ -108,7 +112,9 @@ pub(crate) fn forget(table: &mut [usize], level: usize)
 /// Whether an operation would come before itself.
 pub(crate) fn is_around(table: &[usize], size: usize, level: usize) -> bool
     requires size { length table.now ≡ size * size }
-    ensures { result ≡ true → (turn : ℕ → ℕ) → AgreesWith table.now size level turn → ⊥ }
+    ensures yes { result ≡ true → (turn : ℕ → ℕ) → AgreesWith table.now size level turn → ⊥ }
+    ensures no { result ≡ false → (x : ℕ) → x < size → is_known table.now size level x x ≡ true
+        → ⊥ }
 {
     for x in 0..size {
         if is_before(table, size, level, x, x) {

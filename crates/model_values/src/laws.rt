@@ -6,6 +6,7 @@ ghost use Rattle.memory_models.specs.declared.kinds.Rule.{Rule};
 ghost use Rattle.memory_models.specs.Order.{IsMemoryOrder};
 ghost use Rattle.model_values.specs.declared.valued.Valued.{Valued};
 ghost use Rattle.model_values.specs.Replies.{AreGrouped, IsReplyOrder};
+ghost use Rattle.model_values.specs.ValuedVerdict.{BreaksValues};
 ghost use Rattle.model_values.specs.Values.{IsValuedPlacing};
 
 /// The replies follow along the order of an explanation. Each load and each atomic found the word that
@@ -20,4 +21,6 @@ pub fn replies_follow()
         → (turn : ℕ → ℕ) → IsReplyOrder rules v turn
         → (placed : List Operation) × (writes : List ℕ) × IsValuedPlacing v placed writes
         × IsMemoryOrder rules placed writes turn }
+    ensures none { (rules : List Rule) (v : Valued) → AreGrouped v → BreaksValues rules v
+        → (turn : ℕ → ℕ) → IsReplyOrder rules v turn → ⊥ }
 {}

@@ -1,40 +1,42 @@
 //! What follows from a table: the source of a load is the last write before it.
 
-ghost use Rattle.std.specs.Prelude.{◌≡◌, ◌⊎◌, ◌*◌, ◌<◌, true, length};
-ghost use Rattle.model_values.specs.Known.{HasSpreadOrder, IsRival, IsOwnLoad, is_known};
+ghost use Rattle.std.specs.Prelude.{◌≡◌, ◌⊎◌, ◌||◌, ◌*◌, ◌<◌, true, false, length};
+ghost use Rattle.model_values.specs.Known.{AreConcluded, AreConcludedOf, HasSpreadOrder, IsConcluded};
+ghost use Rattle.model_values.specs.Known.{IsOwnLoad, IsRival, NotesMore, is_known};
 
 use crate::known::{add, is_before};
 use crate::question::Unordered;
+use crate::valued::is_reader;
 use memory_models::kinds::is_write;
 use memory_models::{Kind, Operation};
 
 /// Whether a load or an atomic has a write on its word that is neither its source nor itself.
 pub(crate) fn is_rival(operations: &[Operation], sources: &[usize], x: usize, w: usize) -> bool
-    ensures { result ≡ true → IsRival operations.now sources.now x w }
+    ensures yes { result ≡ true → IsRival operations.now sources.now x w }
+    ensures no { result ≡ false → IsRival operations.now sources.now x w → ⊥ }
 {
     if x >= operations.len() || w >= operations.len() || x >= sources.len() {
         return false;
     }
-    let reads = match operations[x].kind {
-        Kind::Load => true,
-        Kind::Atomic => true,
-        _ => false,
-    };
-    reads
-        && sources[x] < operations.len()
-        && is_write(operations[sources[x]].kind)
-        && operations[sources[x]].word == operations[x].word
-        && is_write(operations[w].kind)
-        && operations[x].word == operations[w].word
-        && w != x
-        && w != sources[x]
+    let source = sources[x];
+    if !is_reader(operations, x) || source >= operations.len() {
+        return false;
+    }
+    if !is_write(operations[source].kind) || operations[source].word != operations[x].word {
+        return false;
+    }
+    if !is_write(operations[w].kind) || operations[x].word != operations[w].word {
+        return false;
+    }
+    w != x && w != source
 }
 
 /// Whether the second is a load, and the first of its processor before it.
 pub(crate) fn is_own_load(operations: &[Operation], w: usize, x: usize) -> bool
     requires w { w < length operations.now }
     requires x { x < length operations.now }
-    ensures { result ≡ true → IsOwnLoad operations.now w x }
+    ensures yes { result ≡ true → IsOwnLoad operations.now w x }
+    ensures no { result ≡ false → IsOwnLoad operations.now w x → ⊥ }
 {
     match operations[x].kind {
         Kind::Load => operations[w].processor == operations[x].processor && w < x,
@@ -47,8 +49,10 @@ fn is_early(operations: &[Operation], table: &[usize], level: usize, x: usize, w
     requires size { length table.now ≡ length operations.now * length operations.now }
     requires x { x < length operations.now }
     requires w { w < length operations.now }
-    ensures { result ≡ true → (is_known table.now (length operations.now) level w x ≡ true)
+    ensures yes { result ≡ true → (is_known table.now (length operations.now) level w x ≡ true)
         ⊎ IsOwnLoad operations.now w x }
+    ensures no { result ≡ false → (is_known table.now (length operations.now) level w x ≡ true)
+        ⊎ IsOwnLoad operations.now w x → ⊥ }
 {
     if is_own_load(operations, w, x) {
         return true;
@@ -57,7 +61,9 @@ fn is_early(operations: &[Operation], table: &[usize], level: usize, x: usize, w
 }
 
 /// Whether one of two facts holds.
-fn either(first: bool, second: bool) -> bool {
+fn either(first: bool, second: bool) -> bool
+    ensures { result ≡ (first || second) }
+{
     first || second
 }
 
@@ -67,7 +73,9 @@ fn spread_rival(question: &Unordered, table: &mut [usize], level: usize, x: usiz
     requires size { length table.old
         ≡ length question.now.operations.now * length question.now.operations.now }
     requires rival { IsRival question.now.operations.now question.now.sources.now x w }
-    ensures { HasSpreadOrder question.now level table.old table.new }
+    ensures spread { HasSpreadOrder question.now level table.old table.new }
+    ensures more { NotesMore level table.old table.new result }
+    ensures concluded { result ≡ false → IsConcluded question.now table.new level x w }
 {
     let size = question.operations.len();
     let source = question.sources[x];
@@ -82,7 +90,11 @@ fn spread_rival(question: &Unordered, table: &mut [usize], level: usize, x: usiz
 fn spread_pair(question: &Unordered, table: &mut [usize], level: usize, x: usize, w: usize) -> bool
     requires size { length table.old
         ≡ length question.now.operations.now * length question.now.operations.now }
-    ensures { HasSpreadOrder question.now level table.old table.new }
+    ensures spread { HasSpreadOrder question.now level table.old table.new }
+    ensures more { NotesMore level table.old table.new result }
+    ensures concluded { result ≡ false
+        → IsRival question.now.operations.now question.now.sources.now x w
+        → IsConcluded question.now table.new level x w }
 {
     if !is_rival(question.operations, question.sources, x, w) {
         return false;
@@ -94,12 +106,14 @@ fn spread_pair(question: &Unordered, table: &mut [usize], level: usize, x: usize
 fn spread_row(question: &Unordered, table: &mut [usize], level: usize, x: usize) -> bool
     requires size { length table.old
         ≡ length question.now.operations.now * length question.now.operations.now }
-    ensures { HasSpreadOrder question.now level table.old table.new }
+    ensures spread { HasSpreadOrder question.now level table.old table.new }
+    ensures more { NotesMore level table.old table.new result }
+    ensures concluded { result ≡ false → AreConcludedOf question.now table.new level x }
 {
     let mut more = false;
     for w in 0..question.operations.len() {
         let new = spread_pair(question, table, level, x, w);
-        more = new || more;
+        more = either(more, new);
     }
     more
 }
@@ -108,12 +122,14 @@ fn spread_row(question: &Unordered, table: &mut [usize], level: usize, x: usize)
 fn spread_once(question: &Unordered, table: &mut [usize], level: usize) -> bool
     requires size { length table.old
         ≡ length question.now.operations.now * length question.now.operations.now }
-    ensures { HasSpreadOrder question.now level table.old table.new }
+    ensures spread { HasSpreadOrder question.now level table.old table.new }
+    ensures more { NotesMore level table.old table.new result }
+    ensures concluded { result ≡ false → AreConcluded question.now table.new level }
 {
     let mut more = false;
     for x in 0..question.operations.len() {
         let new = spread_row(question, table, level, x);
-        more = new || more;
+        more = either(more, new);
     }
     more
 }
@@ -122,9 +138,10 @@ fn spread_once(question: &Unordered, table: &mut [usize], level: usize) -> bool
 pub(crate) fn spread(question: &Unordered, table: &mut [usize], level: usize)
     requires size { length table.old
         ≡ length question.now.operations.now * length question.now.operations.now }
-    ensures { HasSpreadOrder question.now level table.old table.new }
+    ensures spread { HasSpreadOrder question.now level table.old table.new }
+    ensures concluded { AreConcluded question.now table.new level }
 {
-    for pass in 0..table.len() {
+    'passes: loop {
         if !spread_once(question, table, level) {
             return;
         }

@@ -140,12 +140,18 @@ impl<A: Allocator + Copy> Nexts<A> {
         };
         let is_own = is_beside(question.operations, source, y) && source < y;
         let own_step = at(&self.own_step, last);
+        let (other, other_step) = (at(&self.atomic, source), at(&self.atomic_step, source));
+        let step = arcs.steps.len();
         if !is_load {
             put(&mut self.atomic, source, y);
-            put(&mut self.atomic_step, source, arcs.steps.len());
+            put(&mut self.atomic_step, source, step);
         }
         if !is_load || !is_own {
             arcs.add_first(source, y, Reason::First)?;
+        }
+        if !is_load && other != NONE {
+            arcs.add_behind(step, other, y, Reason::Later(other))?;
+            arcs.add_behind(other_step, y, other, Reason::Later(y))?;
         }
         if last == NONE || last == source {
             return Ok(());

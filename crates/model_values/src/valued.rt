@@ -2,10 +2,12 @@
 
 ghost use Rattle.std.specs.Prelude.{◌≡◌, ℕ, ◌<◌, true, false, length, slice_index};
 ghost use Rattle.std.specs.Prelude.{IfNone, IfOk, IfSome};
+ghost use Rattle.model_values.specs.Choices.{MayRead};
 ghost use Rattle.model_values.specs.Values.{AreAlikeValues, AreSourcesOf, IsKnownSource, IsLeftBy};
 ghost use Rattle.model_values.specs.Values.{IsReader, IsUnwritten};
 
 use crate::by_word::{Writes, are_unlike, sorted_writes};
+use crate::lost::{find_lost, followers_of};
 use memory_models::kinds::is_write;
 use memory_models::{Kind, Operation};
 use std::alloc::{AllocError, Allocator, Global};
@@ -30,8 +32,11 @@ pub struct Valued<'a> {
 pub enum Sources<A: Allocator = Global> {
     /// The source of each operation: the write that left what a load or an atomic found, and else 0.
     Told(Vec<usize, A>),
-    /// These two writes left the same in one word, so a word that was found may not show who wrote it.
+    /// Some write left what each operation found, and these two left the same in one word, so a word that
+    /// was found may not show who wrote it.
     Alike(usize, usize),
+    /// These two atomics found the same in one word, which only one write of it left.
+    Lost(usize, usize),
     /// This operation found what no write of its word left.
     Unwritten(usize),
 }
@@ -44,7 +49,7 @@ pub(crate) fn word_at(words: &[u64], x: usize) -> u64
 }
 
 /// Whether an operation reads its word.
-fn is_reader(operations: &[Operation], x: usize) -> bool
+pub(crate) fn is_reader(operations: &[Operation], x: usize) -> bool
     requires { x < length operations.now }
     ensures yes { result ≡ true → IsReader operations.now x }
     ensures no { result ≡ false → IsReader operations.now x → ⊥ }
@@ -107,7 +112,7 @@ fn find_alike(
 }
 
 /// Whether a write left what an operation found in its word.
-fn is_left_by(valued: &Valued, x: usize, s: usize) -> bool
+pub(crate) fn is_left_by(valued: &Valued, x: usize, s: usize) -> bool
     requires x { x < length valued.now.operations.now }
     requires s { s < length valued.now.operations.now }
     ensures yes { result ≡ true
@@ -120,8 +125,19 @@ fn is_left_by(valued: &Valued, x: usize, s: usize) -> bool
         && word_at(valued.left, s) == word_at(valued.found, x)
 }
 
+/// Whether an operation reads its word, and a write left what it found.
+pub(crate) fn may_read(valued: &Valued, x: usize, s: usize) -> bool
+    ensures yes { result ≡ true → MayRead valued.now x s }
+    ensures no { result ≡ false → MayRead valued.now x s → ⊥ }
+{
+    if x >= valued.operations.len() || s >= valued.operations.len() {
+        return false;
+    }
+    is_reader(valued.operations, x) && is_left_by(valued, x, s)
+}
+
 /// The write that left what an operation found in its word: the likely one, or else any.
-fn source_of(valued: &Valued, x: usize, likely: usize) -> Option<usize>
+pub(crate) fn source_of(valued: &Valued, x: usize, likely: usize) -> Option<usize>
     requires x { x < length valued.now.operations.now }
     ensures some { IfSome result (λ s.
         IsLeftBy valued.now.operations.now valued.now.left.now valued.now.found.now x s) }
@@ -151,8 +167,8 @@ fn source_at<A: Allocator>(valued: &Valued, writes: &Writes<A>, x: usize) -> Opt
     source_of(valued, x, writes.likely_source(valued, x))
 }
 
-/// The sources of loads and atomics; or two writes that left the same in one word; or an operation that
-/// found what no write of its word left.
+/// The sources of loads and atomics; or an operation that found what no write of its word left; or a lost
+/// update; or else two writes that left the same in one word.
 ///
 /// Errors: out of memory.
 pub fn sources_by_values<A: Allocator + Copy>(
@@ -162,10 +178,6 @@ pub fn sources_by_values<A: Allocator + Copy>(
     ensures { IfOk result (AreSourcesOf valued.now) }
 {
     let writes = sorted_writes(alloc, valued)?;
-    let (order, places) = (&writes.order, &writes.places);
-    if let Some((x, y)) = find_alike(valued.operations, valued.left, order, places) {
-        return Ok(Sources::Alike(x, y));
-    }
     let mut sources = Vec::new(alloc);
     for x in 0..valued.operations.len() {
         let Some(source) = source_at(valued, &writes, x) else {
@@ -173,5 +185,13 @@ pub fn sources_by_values<A: Allocator + Copy>(
         };
         sources.push(source)?;
     }
-    Ok(Sources::Told(sources))
+    let followers = followers_of(alloc, valued, &writes)?;
+    if let Some((x, y)) = find_lost(valued, &writes, &followers) {
+        return Ok(Sources::Lost(x, y));
+    }
+    let (order, places) = (&writes.order, &writes.places);
+    match find_alike(valued.operations, valued.left, order, places) {
+        Some((x, y)) => Ok(Sources::Alike(x, y)),
+        None => Ok(Sources::Told(sources)),
+    }
 }

@@ -11,7 +11,7 @@ use command_verdicts::{
     explain_values, explain_verdict, model_status, status, tried_text, verdict_text,
 };
 use model_answer::WrongSentence;
-use model_replies::{AlikeSentence, UnwrittenSentence};
+use model_replies::{LostSentence, UnwrittenSentence};
 use network_answer::Answer;
 use program_fault::{ProgramFault, Texts, explain, status_of};
 use std::alloc::Global;
@@ -57,12 +57,12 @@ fn put_judged<W: fmt::Write>(
 /// Puts why no model is asked of a log by its replies alone, where that is so.
 fn put_unasked<W: fmt::Write>(f: &mut fmt::Formatter<W>, decided: Decided) -> fmt::Result {
     match decided {
-        Decided::Alike(first, second) => {
-            let sentence = AlikeSentence { first, second };
-            writeln!(f, "{sentence}")
-        }
         Decided::Unwritten(step) => {
             let sentence = UnwrittenSentence { step };
+            writeln!(f, "{sentence}")
+        }
+        Decided::Lost(first, second) => {
+            let sentence = LostSentence { first, second };
             writeln!(f, "{sentence}")
         }
         Decided::Models(_) => Ok(()),

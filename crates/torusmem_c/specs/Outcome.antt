@@ -47,7 +47,7 @@ c_code code.WrongReply = 30
 c_code code.NoPair = 31
 c_code code.NotRising = 32
 c_code code.Unwritten = 33
-c_code code.Alike = 34
+c_code code.LostUpdate = 34
 
 -- a code, and the number that goes with it
 abbrev pub c_outcome : Code → ℕ → Outcome

@@ -6,8 +6,8 @@ use Rattle.model_text.specs.declared.logged.Told.{Told}
 use Rattle.model_text.specs.Reasons.{log_fault_of}
 use Rattle.model_answer.specs.declared.judged.Obeys.{Obeys}
 use Rattle.model_replies.specs.declared.answer.NoValueAnswer.{NoValueAnswer}
-use Rattle.model_replies.specs.declared.answer.NoValueAnswer.TheVariants.{Refused, Alike}
-use Rattle.model_replies.specs.declared.answer.NoValueAnswer.TheVariants.{Unwritten, Memory}
+use Rattle.model_replies.specs.declared.answer.NoValueAnswer.TheVariants.{Refused}
+use Rattle.model_replies.specs.declared.answer.NoValueAnswer.TheVariants.{Unwritten, Lost, Memory}
 use Rattle.model_replies.specs.declared.answer.ValueAnswer.{ValueAnswer}
 use Rattle.model_replies.specs.declared.answer.ValueOptions.{ValueOptions}
 use Rattle.model_replies.specs.declared.decision.Decisions.{Decisions}
@@ -69,9 +69,9 @@ reply_line step = line_told step.line step.told
 abbrev pub no_values_record : NoValueAnswer → ValuesRecord
 no_values_record (Refused refusal) =
     unvalued_record (fault_outcome (fault_of_refusal log_fault_of refusal)) 0
-no_values_record (Alike first second) =
-    unvalued_record (c_outcome code.Alike first.line) second.line
 no_values_record (Unwritten step) = unvalued_record (c_outcome code.Unwritten (reply_line step)) 0
+no_values_record (Lost first second) =
+    unvalued_record (c_outcome code.LostUpdate first.line) second.line
 no_values_record Memory = unvalued_record no_memory 0
 
 -- the text of the answer to a log of these lines is put into a buffer, and what is decided is told

@@ -52,8 +52,8 @@ pub enum Code {
     NotRising,
     /// A reply of a log is what no write of its word left.
     Unwritten,
-    /// Two writes of a log leave the same in one word.
-    Alike,
+    /// Two atomics of a log found what only one write of their word left.
+    LostUpdate,
 }
 
 impl Code {
@@ -84,7 +84,7 @@ impl Code {
             Code::NoPair => 31,
             Code::NotRising => 32,
             Code::Unwritten => 33,
-            Code::Alike => 34,
+            Code::LostUpdate => 34,
         }
     }
 }

@@ -19,7 +19,7 @@ use std::alloc::Global;
 /// Which models a log obeys by its replies alone: the number of a code; the sums of the numbers of the
 /// models that it obeys and of those that it breaks (a model is in neither where the search gave up, or
 /// annotations or weaker fences leave it open); the length of the text, or the line at fault; and the
-/// line of the other write that leaves the same.
+/// line of the other operation of a lost update.
 #[repr(C)]
 #[derive(Clone, Copy)]
 pub struct ValuesRecord {
@@ -100,11 +100,11 @@ fn no_values_record(why: NoValueAnswer) -> ValuesRecord
         NoValueAnswer::Refused(refusal) => {
             unvalued_record(fault_outcome(LineFault::from(refusal)), 0)
         }
-        NoValueAnswer::Alike(first, second) => {
-            unvalued_record(Outcome::of(Code::Alike, first.line), second.line)
-        }
         NoValueAnswer::Unwritten(step) => {
             unvalued_record(Outcome::of(Code::Unwritten, reply_line(step)), 0)
+        }
+        NoValueAnswer::Lost(first, second) => {
+            unvalued_record(Outcome::of(Code::LostUpdate, first.line), second.line)
         }
         NoValueAnswer::Memory => unvalued_record(no_memory(), 0),
     }
@@ -124,7 +124,7 @@ fn asked_values(nodes: u64, order: u32) -> ValueOptions
 /// most so many nodes for each, and puts the text of the answer into a buffer: a line for each model, and,
 /// unless `order` is 0, an order of the strongest that it obeys.
 ///
-/// Errors: the text's first fault, a reply that no write left, two writes that leave the same, or out of
+/// Errors: the text's first fault, a reply that no write left, a lost update, or out of
 /// memory. The buffer is as it was then.
 #[unsafe(no_mangle)]
 pub extern "C" fn torusmem_model_values(

@@ -764,7 +764,7 @@ class Words(unittest.TestCase):
         names = "OK FAULT_MEMORY BAD_REPORT EMPTY FULL NONE SHORT NO_ROUTE CYCLE".split()
         names += ["NO_TEXT", "MACHINE_TEXT", "SCRIPTS_TEXT", "ISSUE", "ANSWER"]
         names += ["NOT_LINEARIZABLE", "TOO_MANY", "TOO_OPEN", "BEHIND_SPIN", "NOT_YET"]
-        names += ["NO_RECORD", "BAD_RECORD", "BAD_ACTION", "WRONG_REPLY", "NO_PAIR", "NOT_RISING", "UNWRITTEN", "ALIKE", "ISSUED", "SERVED", "ANSWERED"]
+        names += ["NO_RECORD", "BAD_RECORD", "BAD_ACTION", "WRONG_REPLY", "NO_PAIR", "NOT_RISING", "UNWRITTEN", "LOST_UPDATE", "ISSUED", "SERVED", "ANSWERED"]
         names += ["LOG_INIT", "LOG_MADE", "LOG_WROTE", "LOG_READ", "LOG_READ_OPENING", "LOG_SERVED", "LOG_REPLIED"]
         names += ["FENCE", "SPIN", "FIRST_IS_LAST", "SECOND_IS_LAST"]
         codes = {name: getattr(library, name) for name in names}

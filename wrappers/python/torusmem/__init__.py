@@ -34,15 +34,14 @@ from ._judges import Answered, Cycle, Event, Fill, Issued, Judged, Linearizable,
 from ._judges import Rising, Said, Undecided, Verdict, check, linearize, linearize_answer, network, network_answer
 from ._library import LibraryNotFound
 from ._machine import Machine
-from ._models import Alike, Decided, Init, LogEntry, Made, Model, Obeyed, Read, Replied, Served, Unwritten, WrongReply
-from ._models import Wrote, model, model_values
+from ._models import Decided, Init, LogEntry, LostUpdate, Made, Model, Obeyed, Read, Replied, Served, Unwritten
+from ._models import WrongReply, Wrote, model, model_values
 from ._records import Answer, Channel, Choice, Entry, FENCE, Happened, Kind, Line, Operation, Ordered, SPIN, Shape, Spin
 from ._records import Steps
 from ._watch import Watch
 
 __version__ = "0.3.0"
 __all__ = [
-    "Alike",
     "Answer",
     "Answered",
     "BadReport",
@@ -69,6 +68,7 @@ __all__ = [
     "Link",
     "LogEntry",
     "LogFault",
+    "LostUpdate",
     "Machine",
     "Made",
     "Model",

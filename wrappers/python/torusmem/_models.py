@@ -143,8 +143,8 @@ class Unwritten(NamedTuple):
     line: int
 
 
-class Alike(NamedTuple):
-    """The writes of two lines leave the same in one word, so nothing is decided."""
+class LostUpdate(NamedTuple):
+    """The atomics of two lines found what only one write of their word left: every model is broken."""
 
     line: int
     other: int
@@ -152,7 +152,7 @@ class Alike(NamedTuple):
 
 def model_values(
     text: Text, nodes: int = 10_000, order: bool = False, file: str = "log text"
-) -> Union[Decided, Unwritten, Alike]:
+) -> Union[Decided, Unwritten, LostUpdate]:
     """Judges the log of a log text (docs/FORMATS.md, "Log text") by five memory models, by its operations and their replies alone,
     with at most so many nodes for each. With order the text has an order of the strongest that it obeys. TextFault tells the
     first fault of the text; file is how it names the text.
@@ -174,8 +174,8 @@ def model_values(
         return Decided(Model(said.obeyed), Model(said.broken), out.raw[: said.value].decode("ascii"))
     if said.code == _library.UNWRITTEN:
         return Unwritten(said.value)
-    if said.code == _library.ALIKE:
-        return Alike(said.value, said.other)
+    if said.code == _library.LOST_UPDATE:
+        return LostUpdate(said.value, said.other)
     if said.code == _library.FAULT_MEMORY:
         raise MemoryError(f"torusmem: {REASONS[12]} (F12)")
     raise TextFault(file, said.value, said.code, "log", LOG_REASONS.get(said.code, ""))

@@ -65,7 +65,7 @@ pub const TORUSMEM_WRONG_REPLY: u32 = 30;
 pub const TORUSMEM_NO_PAIR: u32 = 31;
 pub const TORUSMEM_NOT_RISING: u32 = 32;
 pub const TORUSMEM_UNWRITTEN: u32 = 33;
-pub const TORUSMEM_ALIKE: u32 = 34;
+pub const TORUSMEM_LOST_UPDATE: u32 = 34;
 
 pub const TORUSMEM_SEND: u32 = 0;
 pub const TORUSMEM_TAKE: u32 = 1;

@@ -130,8 +130,8 @@ pub struct Decided {
 pub enum Undecided {
     /// The reply of this line is what no write of its word left, so every model is broken.
     Unwritten { line: u64 },
-    /// The writes of these lines leave the same in one word.
-    Alike { line: u64, other: u64 },
+    /// The atomics of these lines found what only one write of their word left, so every model is broken.
+    LostUpdate { line: u64, other: u64 },
     /// The text is refused, or memory is.
     Fault(Fault),
 }
@@ -140,7 +140,7 @@ impl fmt::Display for Undecided {
     fn fmt(&self, f: &mut fmt::Formatter) -> fmt::Result {
         match self {
             Undecided::Unwritten { line } => write!(f, "the reply of line {line} is what no write left"),
-            Undecided::Alike { line, other } => write!(f, "lines {line} and {other} leave the same in one word"),
+            Undecided::LostUpdate { line, other } => write!(f, "lines {line} and {other} both found one write"),
             Undecided::Fault(fault) => fault.fmt(f),
         }
     }
@@ -178,7 +178,7 @@ pub fn model_values(log: &[u8], nodes: u64, order: bool) -> Result<Decided, Unde
             text: String::from_utf8_lossy(&room[..value as usize]).into_owned(),
         }),
         sys::TORUSMEM_UNWRITTEN => Err(Undecided::Unwritten { line: value }),
-        sys::TORUSMEM_ALIKE => Err(Undecided::Alike { line: value, other }),
+        sys::TORUSMEM_LOST_UPDATE => Err(Undecided::LostUpdate { line: value, other }),
         sys::TORUSMEM_FAULT_MEMORY => Err(Undecided::Fault(Fault::Memory)),
         fault => Err(Undecided::Fault(Fault::Text { fault, line: value })),
     }

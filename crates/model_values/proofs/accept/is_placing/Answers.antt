@@ -1,6 +1,9 @@
 use Rattle.model_values.proofs.Accepted.{told_of}
 use Rattle.model_values.proofs.accept.is_placing.Goals as goal
 
+pub are_opened-requires : goal.are_opened-requires
+are_opened-requires c = record { trace = record { size = c.requires.size; same = c.requires.same; trace = c.is_trace.ensures.yes c.if-not-is_trace.false } }
+
 pub returns-clause-yes : goal.returns-clause-yes
 returns-clause-yes c e =
     let q = c.args.question.now in

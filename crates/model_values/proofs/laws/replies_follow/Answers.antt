@@ -7,3 +7,7 @@ returns-clause-follow c rules v placed writes i turn order = replies rules v pla
 
 pub returns-clause-explain : goal.returns-clause-explain
 returns-clause-explain c rules v groups turn order = ordered rules v turn groups order
+
+pub returns-clause-none : goal.returns-clause-none
+returns-clause-none c rules v groups breaks turn order =
+    let e = ordered rules v turn groups order in breaks e.0 e.1 turn e.2 e.3
