@@ -10,8 +10,7 @@ use Rattle.model_text.specs.declared.reason.LogReason.TheVariants as reason
 use Rattle.model_text.specs.Made.{LogLines}
 use Rattle.model_text.specs.Traces.{logged_at, steps_of_log}
 use Rattle.model_values.specs.declared.valued.Valued.{Valued}
-use Rattle.model_values.specs.Lost.{IsLostUpdate}
-use Rattle.model_values.specs.Values.{IsUnwritten}
+use Rattle.model_values.specs.Values.{IsLostUpdate, IsUnwritten}
 use Rattle.model_replies.specs.declared.answer.NoValueAnswer.{NoValueAnswer}
 use Rattle.model_replies.specs.declared.answer.NoValueAnswer.TheVariants.{Refused, Unwritten}
 use Rattle.model_replies.specs.declared.answer.NoValueAnswer.TheVariants.{Lost, Memory}

@@ -9,9 +9,8 @@ use Rattle.model_answer.specs.declared.model.MemoryModel.TheVariants as model
 use Rattle.model_values.specs.declared.question.OrderVerdict.{OrderVerdict}
 use Rattle.model_values.specs.declared.question.OrderVerdict.TheVariants as verdict
 use Rattle.model_values.specs.declared.valued.Valued.{Valued}
-use Rattle.model_values.specs.Lost.{IsLostUpdate}
 use Rattle.model_values.specs.ValuedVerdict.{IsJudgedOn}
-use Rattle.model_values.specs.Values.{IsUnwritten, IsValuedPlacing}
+use Rattle.model_values.specs.Values.{IsLostUpdate, IsUnwritten, IsValuedPlacing}
 use Rattle.model_replies.specs.declared.decision.Decision.{Decision}
 use Rattle.model_replies.specs.declared.decision.Decision.TheVariants.{Obeys, Breaks, Undecided, NotTold}
 use Rattle.model_replies.specs.declared.decision.Decisions.{Decisions}
