@@ -49,7 +49,7 @@ claim_none others call reply s k e old there never =
     never (subst (λ (f : Effect). f.reply ≡ reply) same claims.2) (subst (λ (f : Effect). MayBe f call) same claims.3))
 
 -- the others are not enough without it
-pub claim_stuck : {A : Type 0} (others : List Call) (call : Call) (reply : Reply) (s less : State A) (k : ℕ)
+pub claim_stuck : {A B : Type 0} (others : List Call) (call : Call) (reply : Reply) (s : State B) (less : State A) (k : ℕ)
     (es : List Effect) (old : List Config) → config_of less ≡ less_one (config_of s) k → es ≡ less.effects.items
     → (AreDistinctPartners others → FitsPartner (IsIn others) es → ⊥)
     → Gathers others (IsClaimedAt others call reply (config_of s) k) old old
@@ -58,7 +58,7 @@ claim_stuck others call reply s less k es old is read never =
     never apart (fits_back others (config_of less) (less_one (config_of s) k) es read is claims.4))
 
 -- they are
-pub claim_one : {A : Type 0} (others : List Call) (call : Call) (reply : Reply) (s less low : State A) (k : ℕ) (e : Effect)
+pub claim_one : {A B : Type 0} (others : List Call) (call : Call) (reply : Reply) (s : State B) (less low : State A) (k : ℕ) (e : Effect)
     (es : List Effect) (old new : List Config) → slice_get s.effects.items k ≡ Some e → e.reply ≡ reply → MayBe e call
     → config_of less ≡ less_one (config_of s) k → es ≡ less.effects.items → FitsPartner (IsIn others) es
     → IsLowered others (config_of less) (config_of low) → IsOneMore old (config_of low) new
@@ -86,7 +86,7 @@ found_stuck others call reply s es old read never =
     never apart (subst (λ (fs : List Effect). FitsPartner (IsIn others) fs) (sym read) claims.4))
 
 -- one may
-pub found_one : {A : Type 0} (others : List Call) (call : Call) (reply : Reply) (s low : State A) (seen : List Glimpse)
+pub found_one : {A B : Type 0} (others : List Call) (call : Call) (reply : Reply) (s : State B) (low : State A) (seen : List Glimpse)
     (es : List Effect) (old new : List Config) → seen ≡ s.seen.items
     → ((g : Glimpse) × IsIn seen g × MayFind g call × (reply_to call.operation.op g.word ≡ reply))
     → es ≡ s.effects.items → FitsPartner (IsIn others) es → IsLowered others (config_of s) (config_of low)
@@ -226,15 +226,15 @@ each_effect others call reply c i old new all was =
     (k.0, omega arith, k.1)) was
 
 -- both gather the configurations after the answer, as the code reads the others and what was found
-pub answered_by : {A : Type 0} (call : Call) (reply : Reply) (calls others newest : List Call)
-    (first second third fourth also : List Call) (states found read none gained kept : List (State A))
+pub answered_by : {A B : Type 0} (call : Call) (reply : Reply) (calls others newest : List Call)
+    (first second third fourth also : List Call) (states : List (State B)) (found read none gained kept : List (State A))
     → first ≡ others → second ≡ others → third ≡ others → fourth ≡ others → also ≡ newest → read ≡ found → none ≡ []
     → ((c : Call) → IsIn others c ↔ (IsIn calls c × (c.id ≡ call.id → ⊥))) → HasNewest first newest
     → Closes second also (configs_of states) (configs_of found)
     → Gathers third (FromOne (configs_of read) (IsTakenConfig third call reply)) (configs_of none) (configs_of gained)
     → Gathers fourth (FromOne (configs_of states) (MayClaim fourth call reply)) (configs_of gained) (configs_of kept)
     → IsAnsweredBy call reply calls (configs_of states) (configs_of kept)
-answered_by {A} call reply calls others newest first second third fourth also states found read none gained kept a b t f n r
+answered_by {A} {B} call reply calls others newest first second third fourth also states found read none gained kept a b t f n r
     z rest latest closes takes claims =
     let by_others : Gathers others (FromOne (configs_of read) (IsTakenConfig others call reply)) (configs_of none)
     (configs_of gained) = subst (λ (os : List Call). Gathers os (FromOne (configs_of read) (IsTakenConfig os call reply))

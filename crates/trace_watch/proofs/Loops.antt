@@ -117,8 +117,8 @@ pub catch_all : {A : Type 0} (from : ℕ) (calls newest : List Call) (begun : Li
 catch_all from calls newest begun next found all was =
     catching_all from calls newest begun next (configs_of found) (let e = long_configs found in omega arith) was
 
-pub close_more : {A : Type 0} (calls newest : List Call) (states : List (State A)) (i from : ℕ)
-    (found more later : List (State A)) (s copy : State A) → from ≡ length found → slice_get states i ≡ Some s
+pub close_more : {A B : Type 0} (calls newest : List Call) (states : List (State B)) (i from : ℕ)
+    (found more later : List (State A)) (s : State B) (copy : State A) → from ≡ length found → slice_get states i ≡ Some s
     → config_of copy ≡ config_of s → IsOneMore (configs_of found) (config_of copy) (configs_of more)
     → CatchesUp from calls newest (configs_of more) (configs_of later)
     → Closing calls newest (configs_of states) i (configs_of found)
@@ -129,7 +129,7 @@ close_more calls newest states i from found more later s copy long there same on
     (subst (λ (n : ℕ). CatchesUp n calls newest (configs_of more) (configs_of later))
     (long ∙ sym (long_configs found)) next) was
 
-pub close_all : {A : Type 0} (calls newest : List Call) (states : List (State A)) (i : ℕ) (found : List (State A))
+pub close_all : {A B : Type 0} (calls newest : List Call) (states : List (State B)) (i : ℕ) (found : List (State A))
     → length states ≤ i → Closing calls newest (configs_of states) i (configs_of found)
     → Closes calls newest (configs_of states) (configs_of found)
 close_all calls newest states i found all was =

@@ -107,10 +107,10 @@ fn lowered_seen<A: Allocator>(
 }
 
 /// The state with each bound lowered to the newest of these operations.
-pub(crate) fn lowered<A: Allocator + Copy>(
+pub(crate) fn lowered<A: Allocator + Copy, B: Allocator>(
     alloc: A,
     calls: &[Call],
-    state: &State<A>,
+    state: &State<B>,
 ) -> Result<State<A>, AllocError>
     ensures { IfOk result (λ s. IsLowered calls.now (config_of state.now) (config_of s)) }
 {

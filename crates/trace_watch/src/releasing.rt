@@ -40,9 +40,9 @@ fn may_reply(effect: Effect, call: Call, reply: Reply) -> bool
 }
 
 /// The state without the effect at this place, where it may be of the answered operation.
-fn claim<A: Allocator + Copy>(
+fn claim<A: Allocator + Copy, B: Allocator>(
     alloc: A,
-    state: &State<A>,
+    state: &State<B>,
     at: usize,
     calls: &[Call],
     call: Call,
@@ -72,9 +72,9 @@ fn claim<A: Allocator + Copy>(
 }
 
 /// The states without an effect each that may be of the answered operation.
-fn claim_each<A: Allocator + Copy>(
+fn claim_each<A: Allocator + Copy, B: Allocator>(
     alloc: A,
-    state: &State<A>,
+    state: &State<B>,
     calls: &[Call],
     call: Call,
     reply: Reply,
@@ -120,9 +120,9 @@ fn has_found(seen: &[Glimpse], call: Call, reply: Reply) -> bool
 }
 
 /// The state, where the answered operation may have found a word that was there.
-fn claim_idle<A: Allocator + Copy>(
+fn claim_idle<A: Allocator + Copy, B: Allocator>(
     alloc: A,
-    state: &State<A>,
+    state: &State<B>,
     calls: &[Call],
     call: Call,
     reply: Reply,
@@ -148,9 +148,9 @@ fn claim_idle<A: Allocator + Copy>(
 }
 
 /// The states in which the answered operation may have taken effect.
-fn claim_all<A: Allocator + Copy>(
+fn claim_all<A: Allocator + Copy, B: Allocator>(
     alloc: A,
-    state: &State<A>,
+    state: &State<B>,
     calls: &[Call],
     call: Call,
     reply: Reply,
@@ -169,9 +169,9 @@ fn claim_all<A: Allocator + Copy>(
 }
 
 /// Those of some states that the answered operation has taken effect in.
-fn claims<A: Allocator + Copy>(
+fn claims<A: Allocator + Copy, B: Allocator>(
     alloc: A,
-    states: &[State<A>],
+    states: &[State<B>],
     calls: &[Call],
     call: Call,
     reply: Reply,
@@ -244,10 +244,10 @@ fn takes<A: Allocator + Copy>(
     Ok(())
 }
 
-/// The states of a word after one of its open operations was answered so.
-pub(crate) fn answered<A: Allocator + Copy>(
+/// The states of a word after one of its open operations was answered so, where these are its states before.
+pub(crate) fn gathered<A: Allocator + Copy, B: Allocator>(
     alloc: A,
-    states: &[State<A>],
+    states: &[State<B>],
     calls: &[Call],
     call: Call,
     reply: Reply,

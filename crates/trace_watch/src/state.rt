@@ -175,9 +175,9 @@ fn effects_with<A: Allocator>(
 }
 
 /// A copy of a state.
-pub(crate) fn copy_of<A: Allocator + Copy>(
+pub(crate) fn copy_of<A: Allocator + Copy, B: Allocator>(
     alloc: A,
-    state: &State<A>,
+    state: &State<B>,
 ) -> Result<State<A>, AllocError>
     ensures { IfOk result (λ s. config_of s ≡ config_of state.now) }
 {
@@ -245,9 +245,9 @@ pub(crate) fn taken<A: Allocator + Copy>(
 }
 
 /// The state without the effect at this place.
-pub(crate) fn without<A: Allocator + Copy>(
+pub(crate) fn without<A: Allocator + Copy, B: Allocator>(
     alloc: A,
-    state: &State<A>,
+    state: &State<B>,
     at: usize,
 ) -> Result<State<A>, AllocError>
     requires { at < length state.now.effects.items }
