@@ -50,6 +50,13 @@ fn may_still_be(taken: &[u64], effect: Effect, call: Call) -> bool
     may_be(effect, call) && !is_taken(taken, call.id)
 }
 
+/// Whether an operation is none of those of these numbers, and the newest that an effect may be of.
+fn is_newest_left(taken: &[u64], effect: Effect, call: Call) -> bool
+    ensures { result ≡ true → MayStillBe taken.now effect call × (call.id ≡ effect.newest) }
+{
+    call.id == effect.newest && may_still_be(taken, effect, call)
+}
+
 /// Of some operations but for those of these numbers the newest one that an effect may be of.
 pub(crate) fn newest_left(calls: &[Call], taken: &[u64], effect: Effect) -> Option<Call>
     ensures { MatchOption result
@@ -57,8 +64,12 @@ pub(crate) fn newest_left(calls: &[Call], taken: &[u64], effect: Effect) -> Opti
         (λ c. IsNewestOf calls.now (MayStillBe taken.now effect) c) }
 {
     let mut newest = None;
-    for i in 0..calls.len() {
-        let call = calls[i];
+    let count = calls.len();
+    for i in 0..count {
+        let call = calls[count - 1 - i];
+        if is_newest_left(taken, effect, call) {
+            return Some(call);
+        }
         if may_still_be(taken, effect, call) {
             newest = newer(newest, call);
         }
