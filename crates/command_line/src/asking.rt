@@ -63,6 +63,8 @@ pub fn request_told<'a, R: Print + Eprint + AllocGlobal, S: AsStr>(
         (λ r. IfSome (rows_by (map S.text words.entry.now)) (IsFlag (codes "explain") r.explain)) }
     ensures json { IfOk result
         (λ r. IfSome (rows_by (map S.text words.entry.now)) (IsGiven (codes "json") r.json)) }
+    ensures names { IfOk result
+        (λ r. IfSome (rows_by (map S.text words.entry.now)) (IsGiven (codes "names") r.names)) }
     ensures limits { IfOk result (λ r. AreJobLimits r.job) }
     ensures refused { IfErr result (TellsNoRequest (map S.text words.entry.now)) }
 {

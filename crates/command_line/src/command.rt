@@ -151,13 +151,14 @@ pub enum Job<'a> {
     },
 }
 
-/// What the command line asks for, whether more is to be said of what is wrong, and whether the answer is to
-/// be a JSON object.
+/// What the command line asks for, whether more is to be said of what is wrong, whether the answer is to be
+/// a JSON object, and whether a verdict is to name channels.
 #[derive(Clone, Copy)]
 pub struct Request<'a> {
     pub job: Job<'a>,
     pub explain: bool,
     pub json: bool,
+    pub names: bool,
 }
 
 /// The word of the subcommand of a job.
@@ -202,7 +203,7 @@ pub fn read_command<'a, S: AsStr>(alloc: Global, words: &'a [S]) -> Result<Job<'
     Ok(read_request(alloc, words)?.job)
 }
 
-/// Does what `read_command` does, and tells also whether the words have `--explain`, and `--json`.
+/// Does what `read_command` does, and tells also whether the words have `--explain`, `--json` and `--names`.
 ///
 /// Errors: as `read_command`.
 pub fn read_request<'a, S: AsStr>(alloc: Global, words: &'a [S]) -> Result<Request<'a>, NoRequest>
@@ -214,6 +215,8 @@ pub fn read_request<'a, S: AsStr>(alloc: Global, words: &'a [S]) -> Result<Reque
         (λ r. IfSome (rows_by (map S.text words.entry.now)) (IsFlag (codes "explain") r.explain)) }
     ensures json { IfOk result
         (λ r. IfSome (rows_by (map S.text words.entry.now)) (IsGiven (codes "json") r.json)) }
+    ensures names { IfOk result
+        (λ r. IfSome (rows_by (map S.text words.entry.now)) (IsGiven (codes "names") r.names)) }
     ensures limits { IfOk result (λ r. AreJobLimits r.job) }
     ensures refused { IfErr result (TellsNoRequest (map S.text words.entry.now)) }
 {
@@ -239,7 +242,7 @@ fn parsed<'a, S: AsStr>(alloc: Global, words: &'a [S]) -> Result<ArgMatches<'a>,
     command.try_get_matches_from_mut(words)
 }
 
-/// The job that the matches name, and whether they have `--explain`, and `--json`.
+/// The job that the matches name, and whether they have `--explain`, `--json` and `--names`.
 ///
 /// Errors: options are misused, or a value is missing.
 fn request_of<'a>(matches: &ArgMatches<'a>) -> Result<Request<'a>, NoJob>
@@ -250,6 +253,8 @@ fn request_of<'a>(matches: &ArgMatches<'a>) -> Result<Request<'a>, NoJob>
         (IsFlag (codes "explain") r.explain)) }
     ensures json { IfOk result
         (λ r. IfSome (rows_in (subcommand_rows_of matches.now)) (IsGiven (codes "json") r.json)) }
+    ensures names { IfOk result (λ r. IfSome (rows_in (subcommand_rows_of matches.now))
+        (IsGiven (codes "names") r.names)) }
     ensures limits { IfOk result (λ r. AreJobLimits r.job) }
     ensures refused { IfErr result (TellsNoJob (subcommand_name_of matches.now)
         (rows_in (subcommand_rows_of matches.now))) }
@@ -264,8 +269,14 @@ fn request_of<'a>(matches: &ArgMatches<'a>) -> Result<Request<'a>, NoJob>
         return Err(NoJob::Missing);
     };
     let json = is_given(given, "json");
+    let names = is_given(given, "names");
     match answer {
-        Ok(job) => Ok(Request { job, explain, json }),
+        Ok(job) => Ok(Request {
+            job,
+            explain,
+            json,
+            names,
+        }),
         Err(misuse) => Err(NoJob::Options(misuse)),
     }
 }

@@ -1,34 +1,66 @@
 //! The judge of networks, from a text to an output.
 
+ghost use Rattle.std.specs.Prelude.{◌≡◌, IfOk, IfErr};
 ghost use Rattle.std.specs.Str.Lines.{lines};
 ghost use Rattle.program_fault.specs.Done.{output};
-ghost use Rattle.command_verdicts.specs.Printed.{AnswersNetwork, PrintsNetwork};
+ghost use Rattle.command_verdicts.specs.Printed.{named_answer, AnswersNetwork, PrintsNetwork};
 
+use network_answer::named::{is_chosen, named};
 use network_answer::{Answer, routing_answer, routing_answer_once};
 use program_fault::ProgramFault;
 use report_lines::Out;
 use report_lines::output::put_all;
 use std::alloc::Allocator;
+use torus::Fault;
+
+/// Routers and channels have numbers below this.
+const MOST_NUMBERS: usize = 65536;
+
+/// The text of an answer to the text of a network, with the names of channels.
+///
+/// Errors: out of memory.
+fn named_text<A: Allocator + Copy>(
+    alloc: A,
+    network: &[u8],
+    answer: &Answer<A>,
+) -> Result<Vec<u8, A>, ProgramFault>
+    ensures value { IfOk result (λ text. text.items ≡ named_answer network.now answer.now) }
+    ensures memory { IfErr result (λ e. e ≡ ProgramFault.Fault Fault.Memory) }
+{
+    let chosen = is_chosen(&answer.causes);
+    let kinds = &answer.kinds;
+    match named(alloc, network, MOST_NUMBERS, kinds, chosen, &answer.text) {
+        Ok(text) => Ok(text),
+        Err(_) => Err(ProgramFault::Fault(Fault::Memory)),
+    }
+}
 
 /// Judges the network of a text, and prints the verdict: the numbers of its channels if they can rise, so
 /// that it never deadlocks; or the first pair without a route; or a cycle of channels, and behind it the
 /// channels that fill up where the network deadlocks. Where routers choose among several channels,
 /// the numbers come with a line on how far packets can go, and the verdict may also be the first
-/// channel without an escape, or the first choice that can't stand. Answers with what was printed, whether
-/// the numbers rise, and why the verdict is so.
+/// channel without an escape, or the first choice that can't stand. Behind each number of a channel stands
+/// what the text calls it, where `names` are asked for. Answers with the verdict without them, whether the
+/// numbers rise, and why the verdict is so.
 ///
 /// Errors: the text's first fault, or out of memory; and nothing was written then. If the output
 /// fails, a beginning was written.
 pub fn network_text<A: Allocator + Copy, W: Out>(
     alloc: A,
     network: &[u8],
+    names: bool,
     out: &mut W,
 ) -> Result<Answer<A>, ProgramFault>
-    ensures { AnswersNetwork A (lines network.now) (output (W.taken out.old) (W.failures out.old))
+    ensures { AnswersNetwork A network.now names (output (W.taken out.old) (W.failures out.old))
         (output (W.taken out.new) (W.failures out.new)) result }
 {
     let answer = routing_answer(alloc, network)?;
-    put_all(out, &answer.text)?;
+    if !names {
+        put_all(out, &answer.text)?;
+        return Ok(answer);
+    }
+    let text = named_text(alloc, network, &answer)?;
+    put_all(out, &text)?;
     Ok(answer)
 }
 

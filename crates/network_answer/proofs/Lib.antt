@@ -6,3 +6,5 @@ mod Mapped
 mod OneFlit
 pub mod Sized
 mod Reaching
+mod WordByWord
+mod Titles

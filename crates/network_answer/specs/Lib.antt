@@ -5,3 +5,6 @@ pub mod Routing
 pub mod Causes
 pub mod Totals
 pub mod Reached
+pub mod Called
+pub mod Titles
+pub mod Named

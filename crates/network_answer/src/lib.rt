@@ -3,6 +3,7 @@
 #![tactic(auto)]
 
 pub mod answer;
+pub mod called;
 pub mod cause_sentence;
 pub mod causes;
 mod going;
@@ -10,6 +11,7 @@ pub mod jam;
 pub mod judgement;
 mod judging;
 mod lengths;
+pub mod named;
 pub mod one_flit;
 mod reached;
 pub mod routing;

@@ -4,7 +4,7 @@ ghost use Rattle.command_line.specs.Job.{AreJobLimits};
 use crate::running::by_workers;
 use crate::within::{Wanted, judged_with, judged_within};
 use command_jobs::Ended;
-use command_line::{AskedPace, Job};
+use command_line::{AskedPace, Job, Request};
 use command_run::Ending;
 use command_schedule::{
     clocked_schedule_text, draw_text, fair_schedule_text, moves_text, schedule_text,
@@ -53,19 +53,22 @@ pub(crate) enum Outcome {
 /// `told` then.
 pub(crate) fn answer<R: Eprint + Clock + AllocGlobal + Threads + Wait + Sync, W: Out, E: Ending>(
     rt: &R,
-    job: &Job,
+    request: &Request,
     texts: &Texts,
     is_seen: bool,
     out: &mut W,
     ending: &mut E,
     told: &mut Option<Answer<Global>>,
 ) -> Result<Outcome, ProgramFault>
-    requires { AreJobLimits job.now }
+    requires { AreJobLimits request.now.job }
 {
     let alloc = rt.alloc();
+    let job = &request.job;
     let first = texts.first.as_slice();
     match *job {
-        Job::Network { .. } => network_sound(network_text(alloc, first, out), told),
+        Job::Network { .. } => {
+            network_sound(network_text(alloc, first, request.names, out), told)
+        }
         Job::LockUp { depth, .. } => {
             network_sound(lock_up_text(alloc, first, u64::from(depth), out), told)
         }

@@ -6,7 +6,7 @@ use crate::answering::{Outcome, answer};
 use crate::judging::Judging;
 use crate::telling::{OutcomeLine, explain_fault, explain_outcome, outcome_status};
 use command_jobs::{RunEnd, all_printed, fault_told, texts_read, unread_told};
-use command_line::{Job, Request};
+use command_line::Request;
 use command_verdicts::{
     Verdict, decided_status, json_object, judged_verdict, model_verdict, verdict_of_status,
 };
@@ -107,19 +107,19 @@ fn put_line(alloc: Global, text: &mut Vec<u8, Global>, outcome: Outcome) -> Resu
 /// Errors: as `answer`, and out of memory.
 fn gathered<R: Eprint + Clock + AllocGlobal + Threads + Wait + Sync>(
     rt: &R,
-    job: &Job,
+    request: &Request,
     texts: &Texts,
     is_seen: bool,
     text: &mut Vec<u8, Global>,
     told: &mut Option<Answer<Global>>,
 ) -> Result<Outcome, ProgramFault>
-    requires { AreJobLimits job.now }
+    requires { AreJobLimits request.now.job }
 {
     let mut end = RunEnd::new(rt.alloc(), &texts.first, &texts.second);
-    let mut judging = Judging::begin(rt, &mut *text, job, texts, is_seen);
+    let mut judging = Judging::begin(rt, &mut *text, &request.job, texts, is_seen);
     let outcome = answer(
         rt,
-        job,
+        request,
         texts,
         is_seen,
         &mut Piped::new(&mut judging),
@@ -169,7 +169,7 @@ fn texts_as_json<R: Print + Eprint + Clock + AllocGlobal + Threads + Wait + Sync
     let is_explained = request.explain || is_seen;
     let mut text = Vec::new(rt.alloc());
     let mut told = None;
-    match gathered(rt, &request.job, texts, is_seen, &mut text, &mut told) {
+    match gathered(rt, request, texts, is_seen, &mut text, &mut told) {
         Ok(outcome) => {
             let status = outcome_status(&outcome);
             let status = object_told(rt, command, verdict_of(&outcome), &text, status);

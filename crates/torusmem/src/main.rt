@@ -141,6 +141,7 @@ fn other_done<R: Files + Input + Print + Eprint + Clock + AllocGlobal + Threads 
     };
     if let Job::Network { .. } = request.job
         && !is_explained
+        && !request.names
     {
         return network_told(rt, texts.first);
     }
@@ -213,7 +214,7 @@ fn printed<R: Input + Print + Eprint + Clock + AllocGlobal + Threads + Wait + Sy
     let mut writer = writer(rt)?;
     let mut judging = Judging::begin(rt, &mut writer, &request.job, texts, is_seen);
     let mut out = Piped::new(&mut judging);
-    let outcome = answer(rt, &request.job, texts, is_seen, &mut out, &mut end, told);
+    let outcome = answer(rt, request, texts, is_seen, &mut out, &mut end, told);
     judging.end();
     let outcome = outcome?;
     flushed(&mut writer)?;
