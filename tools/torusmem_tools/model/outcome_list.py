@@ -13,7 +13,7 @@ from torusmem_tools.model.outcome_states import Outcome, Reply
 
 # The first line of what a tool prints of outcomes that the plain search has found.
 NOTE = "# by a plain model of the machine: nothing of this is proved"
-LINE = re.compile("outcome ([0-9]+) : (.*) ;(.*)")
+LINE = re.compile("outcome ([0-9]+) :(.*) ;(.*)")
 EXACT = re.compile("exact, ([0-9]+) states")
 
 
