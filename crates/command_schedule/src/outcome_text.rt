@@ -1,8 +1,8 @@
 //! The line of an outcome.
 
-ghost use Rattle.std.specs.Prelude.{◌≡◌, ◌∷◌, ◌++◌, [], IfOk, OnOk, Option, codes, decimal, map};
+ghost use Rattle.std.specs.Prelude.{◌≡◌, ◌∷◌, ◌++◌, [], IfOk, OnOk, Option, codes, decimal, flat_map, map};
 ghost use Rattle.lexer.specs.Joined.{joined_on};
-ghost use Rattle.command_schedule.specs.Answers.{answer_text, replies_of, told};
+ghost use Rattle.command_schedule.specs.Answers.{answer_text, replies_behind, replies_of, told};
 ghost use Rattle.command_schedule.specs.OutcomeTexts.{held_words, memory_words, outcome_line};
 
 use crate::answer_word::AnswerWord;
@@ -65,6 +65,35 @@ fn push_told<A: Allocator>(
     Ok(())
 }
 
+/// Adds the replies of a processor behind what parts them from others; nothing where it has none.
+fn push_behind<A: Allocator>(
+    words: &mut Vec<AnswerWord, A>,
+    replies: &[Option<Reply>],
+) -> Result<(), AllocError>
+    ensures { OnOk result (words.new.items ≡ words.old.items ++ replies_behind replies.now) }
+{
+    if replies.is_empty() {
+        return Ok(());
+    }
+    words.push(AnswerWord::Parting)?;
+    push_told(words, replies)
+}
+
+/// The replies of all processors, each processor's behind what parts them.
+fn all_behind<A: Allocator + Copy>(
+    alloc: A,
+    shown: &[Vec<Option<Reply>, A>],
+) -> Result<Vec<AnswerWord, A>, AllocError>
+    ensures { IfOk result (λ words. words.items
+        ≡ flat_map replies_behind (map (λ replies. replies.items) shown.now)) }
+{
+    let mut words = Vec::new(alloc);
+    for replies in shown {
+        push_behind(&mut words, replies.as_slice())?;
+    }
+    Ok(words)
+}
+
 /// The words for the replies of processors: of each that has any, one behind the other.
 ///
 /// Errors: memory.
@@ -75,17 +104,11 @@ pub(crate) fn replies_of<A: Allocator + Copy>(
     ensures { IfOk result (λ words. words.items
         ≡ replies_of (map (λ replies. replies.items) shown.now)) }
 {
-    let mut words = Vec::new(alloc);
-    for replies in shown {
-        if replies.is_empty() {
-            continue;
-        }
-        if !words.is_empty() {
-            words.push(AnswerWord::Parting)?;
-        }
-        push_told(&mut words, replies.as_slice())?;
+    let words = all_behind(alloc, shown)?;
+    match words.as_slice() {
+        [] => Ok(Vec::new(alloc)),
+        [_, rest @ ..] => Vec::from_slice(alloc, rest),
     }
-    Ok(words)
 }
 
 /// Adds a space and a word of an answer.
