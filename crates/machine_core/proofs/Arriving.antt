@@ -1,12 +1,11 @@
 -- The flit that a processor would take next stands in the row.
-use Rattle.std.proofs.Common.{◌≡◌, ◌≢◌, ℕ, ◌==◌, ◌<◌, Bool, true, false, List, length, Option, Some, None, refl, sym, ◌∙◌, ap, subst, arith}
+use Rattle.std.proofs.Common.{◌≡◌, ◌≢◌, ℕ, ne_eqb, ◌<◌, Bool, List, length, Option, Some, None, sym, ◌∙◌, ap, subst, arith}
 use Rattle.std.proofs.Common.{slice_get, slice_index, if◌then◌else◌, vec_len}
 use Rattle.std.specs.Prelude.{option_map}
 use Rattle.std.specs.Option.{IfSome}
-use Rattle.std.proofs.lemmas.Option.{slice_get-map, slice_get_within, same_Some}
+use Rattle.std.proofs.lemmas.Option.{get_or_from_slice_get, slice_get-map, slice_get_within, same_Some}
 use Rattle.torus.specs.Shape.{Shape, tiles_of}
 use Rattle.torus.specs.declared.step.Choice.TheVariants as choice
-use Rattle.torus.specs.declared.step.Step.{Step}
 use Rattle.flit_buffer.specs.Surroundings.{IsWired, granted, ports_of}
 use Rattle.flit_buffer.specs.Wants.{PortEnds, input, outcome}
 use Rattle.flit_buffer.specs.Ends.{take_op}
@@ -72,17 +71,33 @@ module _ {A : Type 0} (a : Inside A) (is : IsMachine a) (t : ℕ) (v : PlacedTil
       (tells (row_of (design_of l) s) l.depth s.around (processor_wiring l.shape t) (Take 0)
       (row_shows l.depth s.around rings.rings) rings.rings wires (omega arith)))
 
-  module _ (c : Core) (view : core_of a ≡ c) (o : WordOp) (asks : Some o ≡ agent_op v.place Processor choice.Take)
-      (flit : ℕ) (found : flit ≡ slice_index a.row.items (word_of o)) where
+  -- so the word that is asked for is
+  pub asked_in : (o : WordOp) → Some o ≡ agent_op v.place Processor choice.Take → (w : ℕ) → w ≡ word_of o → w < vec_len a.row
+  asked_in o asks w is =
+      let same : o ≡ take_op (input v.place.processor.ports 0) = same_Some _ _ asks in
+      subst (λ (k : ℕ). k < vec_len a.row) (sym (is ∙ ap word_of same)) take_word
+
+  module _ (c : Core) (view : core_of a ≡ c) (o : WordOp) (asks : Some o ≡ agent_op v.place Processor choice.Take) (w : ℕ) (is_word : w ≡ word_of o)
+      (flit : ℕ) (found : slice_get a.row.items w ≡ Some flit) where
     now : s ≡ c.state
     now = ap (after l) (all_steps a is) ∙ (sym (state_is a is) ∙ ap (λ (x : Core). x.state) view)
 
     -- the flit that is found is the one that is granted
-    pub arrives : outcome (Take 0) flit ≡ granted c.state.around (processor_wiring c.shape t) (Take 0)
+    arrives : outcome (Take 0) flit ≡ granted c.state.around (processor_wiring c.shape t) (Take 0)
     arrives =
         let same : o ≡ take_op (input v.place.processor.ports 0) = same_Some _ _ asks in
         let shape : l.shape ≡ c.shape = sym is.after.shape ∙ ap (λ (x : Core). x.shape) view in
-        ap (outcome (Take 0)) (found ∙ ap (λ (x : WordOp). slice_index a.row.items (word_of x)) same)
+        ap (outcome (Take 0)) (sym (get_or_from_slice_get a.row.items w flit 0 found)
+        ∙ (ap (slice_index a.row.items) is_word ∙ ap (λ (x : WordOp). slice_index a.row.items (word_of x)) same))
         ∙ (told
         ∙ (ap (λ (x : State). granted x.around (processor_wiring l.shape t) (Take 0)) now
         ∙ ap (λ (x : Shape). granted c.state.around (processor_wiring x t) (Take 0)) shape))
+
+    pub none_arrives : flit ≡ 0 → None ≡ granted c.state.around (processor_wiring c.shape t) (Take 0)
+    none_arrives empty = sym (ap (outcome (Take 0)) empty) ∙ arrives
+
+    pub some_arrives : flit ≢ 0 → Some flit ≡ granted c.state.around (processor_wiring c.shape t) (Take 0)
+    some_arrives some = kept flit some ∙ arrives
+      where
+        kept : (k : ℕ) → k ≢ 0 → Some k ≡ outcome (Take 0) k
+        kept k h = sym (ap (λ (b : Bool). if b then None else Some k) (ne_eqb k 0 h))

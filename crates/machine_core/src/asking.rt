@@ -128,10 +128,8 @@ impl<A: Allocator> Machine<A> {
             (processor_wiring self.now.shape processor) (Take 0) }
     {
         let op = self.tiles[processor].processor_op(Choice::Take)?;
-        match self.row[op.word()] {
-            0 => None,
-            flit => Some(flit),
-        }
+        let flit = self.row[op.word()];
+        if flit == 0 { None } else { Some(flit) }
     }
 
     /// The first step, in the order of a round, that is enabled now; `None` exactly where no step is
