@@ -33,3 +33,4 @@ pub mod LatchAges
 pub mod FairRounds
 pub mod BothRead
 pub mod LawsRounds
+pub mod Arriving

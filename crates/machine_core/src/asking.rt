@@ -3,7 +3,13 @@
 ghost use Rattle.std.specs.Prelude.{◌≡◌, ◌+◌, ◌*◌, ◌<◌, ◌↔◌, IsSome, IsTrue, None, false, is_some};
 ghost use Rattle.std.specs.Prelude.{[], slice_get};
 ghost use Rattle.std.specs.Option.{option_copied};
-ghost use Rattle.tag_table.specs.Tags.{holder_of};
+ghost use Rattle.torus.specs.Shape.{tiles_of};
+ghost use Rattle.tag_table.specs.Tags.{holder_of, out_count};
+ghost use Rattle.flit_buffer.specs.Surroundings.{granted};
+ghost use Rattle.flit_buffer.specs.declared.want.Want.TheVariants.{Take};
+ghost use Rattle.one_order.specs.ProcessorRecord.{ready};
+ghost use Rattle.router.specs.Table.{latch_of};
+ghost use Rattle.tile.specs.Wiring.{processor_wiring};
 ghost use Rattle.core_laws.specs.Mirrors.{tile_at};
 ghost use Rattle.torus.specs.declared.step.Step.{Step};
 ghost use Rattle.machine_parts.specs.Core.{step, attempts_of, round_at};
@@ -87,6 +93,43 @@ impl<A: Allocator> Machine<A> {
         } else {
             true
         }
+    }
+
+    /// How many tags of a processor are out.
+    pub fn outstanding(&self, processor: usize) -> u32
+        requires { processor < tiles_of self.now.shape }
+        ensures { result ≡ out_count (tile_at self.now.state processor).processor.operations.tags }
+    {
+        self.tiles[processor].outstanding()
+    }
+
+    /// Whether an operation of a processor's script is ready, under a free tag.
+    pub fn is_ready(&self, processor: usize) -> bool
+        requires { processor < tiles_of self.now.shape }
+        ensures { result
+            ≡ is_some (ready (tile_at self.now.state processor).processor.operations) }
+    {
+        self.tiles[processor].is_ready()
+    }
+
+    /// The flit in the latch of an input of a tile's router; `None` where the latch is empty, or there is no
+    /// such input.
+    pub fn latched(&self, tile: usize, input: u32) -> Option<u64>
+        requires { tile < tiles_of self.now.shape }
+        ensures { result ≡ latch_of (tile_at self.now.state tile).router input }
+    {
+        self.tiles[tile].latched(input)
+    }
+
+    /// The flit that a processor would take now; `None` where none has come to it.
+    pub fn arriving(&self, processor: usize) -> Option<u64>
+        requires { processor < tiles_of self.now.shape }
+        ensures { result ≡ granted self.now.state.around
+            (processor_wiring self.now.shape processor) (Take 0) }
+    {
+        let op = self.tiles[processor].processor_op(Choice::Take)?;
+        let flit = self.row[op.word()];
+        if flit == 0 { None } else { Some(flit) }
     }
 
     /// The first step, in the order of a round, that is enabled now; `None` exactly where no step is

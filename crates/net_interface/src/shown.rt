@@ -1,9 +1,10 @@
 //! What a processor shows.
 
-ghost use Rattle.std.specs.Prelude.{◌≡◌, ◌<◌, ◌↔◌, Option, [], IsTrue};
+ghost use Rattle.std.specs.Prelude.{◌≡◌, ◌<◌, ◌↔◌, Option, [], IsTrue, is_some};
 ghost use Rattle.packet.specs.declared.kinds.Operation.{Operation};
 ghost use Rattle.tag_table.specs.Tags.{holder_of, out_count};
 ghost use Rattle.one_order.specs.Following.{is_finished};
+ghost use Rattle.one_order.specs.ProcessorRecord.{ready};
 
 use crate::processor::Processor;
 use one_order::Answer;
@@ -38,6 +39,13 @@ impl<A: Allocator> Processor<A> {
         ensures { IsTrue result ↔ (self.now.agent.state.to_put ≡ []) }
     {
         self.put == 0
+    }
+
+    /// Whether an operation of the script is ready, under a free tag.
+    pub fn is_ready(&self) -> bool
+        ensures { result ≡ is_some (ready self.now.agent.state.operations) }
+    {
+        self.operations.ready().is_some()
     }
 
     /// How many tags are out: of so many requests the reply has not come.

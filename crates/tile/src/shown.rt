@@ -1,8 +1,9 @@
 //! What the agents of a tile show.
 
-ghost use Rattle.std.specs.Prelude.{◌≡◌, ◌≤◌, ◌↔◌, [], length, IsTrue};
-ghost use Rattle.tag_table.specs.Tags.{holder_of};
+ghost use Rattle.std.specs.Prelude.{◌≡◌, ◌≤◌, ◌↔◌, [], length, IsTrue, is_some};
+ghost use Rattle.tag_table.specs.Tags.{holder_of, out_count};
 ghost use Rattle.one_order.specs.Following.{is_finished};
+ghost use Rattle.one_order.specs.ProcessorRecord.{ready};
 ghost use Rattle.router.specs.Table.{latch_of};
 
 use crate::Answer;
@@ -53,6 +54,20 @@ impl<A: Allocator> TileAgents<A> {
         ensures { IsTrue result ↔ (self.now.place.processor.state.to_put ≡ []) }
     {
         self.processor.is_between_requests()
+    }
+
+    /// How many tags of the processor are out.
+    pub fn outstanding(&self) -> u32
+        ensures { result ≡ out_count self.now.place.processor.state.operations.tags }
+    {
+        self.processor.outstanding()
+    }
+
+    /// Whether an operation of the processor's script is ready, under a free tag.
+    pub fn is_ready(&self) -> bool
+        ensures { result ≡ is_some (ready self.now.place.processor.state.operations) }
+    {
+        self.processor.is_ready()
     }
 
     /// The flit in the latch of an input of the router; `None` where the latch is empty, or there is no

@@ -1,0 +1,15 @@
+use Rattle.std.proofs.Common.{sym, ◌∙◌, ap}
+use Rattle.std.specs.Prelude.{is_some}
+use Rattle.one_order.specs.ProcessorRecord.{ready}
+use Rattle.tile.specs.Tile.{TileState}
+use Rattle.machine_core.proofs.Agents.{tile_within}
+use Rattle.machine_core.proofs.Fields.{vec_at}
+use Rattle.machine_core.proofs.LatchAges.{tile_told}
+use Rattle.machine_core.proofs.machine.Machine.is_ready.Goals as goal
+
+pub returns : goal.returns
+returns g c =
+    let low = tile_within c.self.inside c.self.invariant c.args.self.now c.self.view_is c.args.processor c.requires in
+    let there = vec_at c.self.inside.tiles c.args.processor c.index.result.now low c.index.ensures in
+    let told = tile_told c.self.inside c.args.self.now c.self.view_is c.args.processor c.index.result.now there in
+    c.is_ready.ensures ∙ ap (λ (u : TileState). is_some (ready u.processor.operations)) (sym told)
