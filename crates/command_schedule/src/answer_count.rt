@@ -1,8 +1,8 @@
 //! How many replies a script can have.
 
-ghost use Rattle.std.specs.Prelude.{◌≡◌, ◌↔◌, ◌≤◌, IfOk, All, true};
+ghost use Rattle.std.specs.Prelude.{◌≡◌, ◌↔◌, ◌≤◌, IfOk, true};
 ghost use Rattle.script_lines.specs.Views.{lists_of};
-ghost use Rattle.script_lines.specs.Lines.{operation_count};
+ghost use Rattle.script_lines.specs.Lines.{total_count};
 ghost use Rattle.command_schedule.specs.Answers.{AreWithin, bounds_of, CanAnswer, counts_of};
 ghost use Rattle.command_schedule.specs.Answers.{is_parting, least_count};
 
@@ -39,14 +39,15 @@ fn bounds_of<A: Allocator + Copy>(
     alloc: A,
     scripts: &[LineList<A>],
 ) -> Result<Vec<Bounds, A>, AllocError>
-    requires { All (λ lines. operation_count lines ≤ 65536) (lists_of scripts.now) }
+    requires { total_count (lists_of scripts.now) ≤ 65536 }
     ensures { IfOk result (λ bounds. bounds.items ≡ bounds_of (lists_of scripts.now)) }
 {
     let mut bounds = Vec::new(alloc);
     for script in scripts {
-        let least = least_count(script.lines.as_slice());
+        let lines = script.lines.as_slice();
+        let least = least_count(lines);
         if least > 0 {
-            let most = operation_count(script.lines.as_slice());
+            let most = operation_count(lines);
             bounds.push(Bounds { least, most })?;
         }
     }
@@ -103,7 +104,7 @@ pub(crate) fn can_answer<A: Allocator + Copy>(
     scripts: &[LineList<A>],
     wanted: &[AnswerWord],
 ) -> Result<bool, AllocError>
-    requires { All (λ lines. operation_count lines ≤ 65536) (lists_of scripts.now) }
+    requires { total_count (lists_of scripts.now) ≤ 65536 }
     ensures { IfOk result (λ can. (can ≡ true) ↔ CanAnswer (lists_of scripts.now) wanted.now) }
 {
     let bounds = bounds_of(alloc, scripts)?;

@@ -1,6 +1,6 @@
 //! The words of an answer: the replies of processors, one behind the other.
 
-ghost use Rattle.std.specs.Prelude.{◌≡◌, ◌↔◌, option_map, IfOk, true};
+ghost use Rattle.std.specs.Prelude.{◌≡◌, ◌↔◌, option_map, map, IfOk, true};
 ghost use Rattle.lexer.specs.Words.{is_blank, words_of};
 ghost use Rattle.command_schedule.specs.Answers.{answer_read, Fits, Fit, word_read};
 
@@ -44,6 +44,42 @@ fn word_read(word: &[u8]) -> Option<AnswerWord>
     }
 }
 
+/// The words between the blanks of a text.
+///
+/// Errors: memory.
+fn words_in<A: Allocator + Copy>(alloc: A, text: &[u8]) -> Result<Vec<&[u8], A>, AllocError>
+    ensures { IfOk result (λ words. map (λ word. word.now) words.items ≡ words_of text.now) }
+{
+    let mut words = Vec::new(alloc);
+    let parts: Vec<&[u8], A> = text.split(|byte| is_blank(*byte)).collect(alloc)?;
+    for part in parts.as_slice() {
+        if !part.is_empty() {
+            words.push(*part)?;
+        }
+    }
+    Ok(words)
+}
+
+/// What words spell; `None` where one is no word of an answer.
+///
+/// Errors: memory.
+fn spelled<A: Allocator + Copy>(
+    alloc: A,
+    words: &[&[u8]],
+) -> Result<Option<Vec<AnswerWord, A>>, AllocError>
+    ensures { IfOk result (λ read. option_map (λ words. words.items) read
+        ≡ answer_read (map (λ word. word.now) words.now)) }
+{
+    let mut read = Vec::new(alloc);
+    for word in words {
+        match word_read(word) {
+            Some(word) => read.push(word)?,
+            None => return Ok(None),
+        }
+    }
+    Ok(Some(read))
+}
+
 /// The words of an answer; `None` where one is no reply.
 ///
 /// Errors: memory.
@@ -54,18 +90,8 @@ pub(crate) fn read_answer<A: Allocator + Copy>(
     ensures { IfOk result (λ read. option_map (λ words. words.items) read
         ≡ answer_read (words_of text.now)) }
 {
-    let mut words = Vec::new(alloc);
-    let parts: Vec<&[u8], A> = text.split(|byte| is_blank(*byte)).collect(alloc)?;
-    for part in parts.as_slice() {
-        if part.is_empty() {
-            continue;
-        }
-        match word_read(part) {
-            Some(word) => words.push(word)?,
-            None => return Ok(None),
-        }
-    }
-    Ok(Some(words))
+    let words = words_in(alloc, text)?;
+    spelled(alloc, words.as_slice())
 }
 
 /// Whether a reply is what is wanted.
