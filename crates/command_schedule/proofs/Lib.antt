@@ -11,6 +11,7 @@ pub mod Headed
 pub mod Attempts
 pub mod Pushed
 pub mod InRounds
+pub mod AnswerRead
 pub mod Searched
 pub mod Told
 pub mod Read
