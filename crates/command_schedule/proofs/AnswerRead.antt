@@ -30,29 +30,28 @@ read_both [] vs = none_ahead (answer_read vs)
 read_both (u ∷ us) vs = ap (ahead (word_read u)) (read_both us vs) ∙ one_ahead (word_read u) (answer_read us) (answer_read vs)
 
 -- what the words up to one spell
-read_to : {X : Type 0} (f : X → List ℕ) (ws : List X) (i : ℕ) (w : X) (xs : List AnswerWord) (q : Option AnswerWord) → i < length ws → w ≡ get_or ws i w
-    → answer_read (map f (take i ws)) ≡ Some xs → word_read (f w) ≡ q
+read_to : {X : Type 0} (f : X → List ℕ) (ws : List X) (i : ℕ) (d : X) (xs : List AnswerWord) (q : Option AnswerWord) → i < length ws
+    → answer_read (map f (take i ws)) ≡ Some xs → word_read (f (get_or ws i d)) ≡ q
     → answer_read (map f (take (i + 1) ws)) ≡ both (Some xs) (ahead q (Some []))
-read_to {X} f ws i w xs q low is so one =
-    ap (λ (vs : List X). answer_read (map f vs)) (take_more ws i w low)
-    ∙ ap answer_read (map-append f (take i ws) (get_or ws i w ∷ []))
-    ∙ ap (λ (v : X). answer_read (map f (take i ws) ++ f v ∷ [])) (sym is)
-    ∙ read_both (map f (take i ws)) (f w ∷ [])
-    ∙ ap (λ (p : Option (List AnswerWord)). both p (answer_read (f w ∷ []))) so
+read_to {X} f ws i d xs q low so one =
+    ap (λ (vs : List X). answer_read (map f vs)) (take_more ws i d low)
+    ∙ ap answer_read (map-append f (take i ws) (get_or ws i d ∷ []))
+    ∙ read_both (map f (take i ws)) (f (get_or ws i d) ∷ [])
+    ∙ ap (λ (p : Option (List AnswerWord)). both p (answer_read (f (get_or ws i d) ∷ []))) so
     ∙ ap (λ (p : Option AnswerWord). both (Some xs) (ahead p (Some []))) one
 
 -- one word more
-pub spelled_more : {X : Type 0} (f : X → List ℕ) (ws : List X) (i : ℕ) (w : X) (xs : List AnswerWord) (x : AnswerWord) → i < length ws → w ≡ get_or ws i w
-    → answer_read (map f (take i ws)) ≡ Some xs → word_read (f w) ≡ Some x
+pub spelled_more : {X : Type 0} (f : X → List ℕ) (ws : List X) (i : ℕ) (d : X) (xs : List AnswerWord) (x : AnswerWord) → i < length ws
+    → answer_read (map f (take i ws)) ≡ Some xs → word_read (f (get_or ws i d)) ≡ Some x
     → answer_read (map f (take (i + 1) ws)) ≡ Some (xs ++ x ∷ [])
-spelled_more f ws i w xs x low is so one = read_to f ws i w xs (Some x) low is so one
+spelled_more f ws i d xs x low so one = read_to f ws i d xs (Some x) low so one
 
 -- a word that spells nothing
-pub spelled_none : {X : Type 0} (f : X → List ℕ) (ws : List X) (i : ℕ) (w : X) (xs : List AnswerWord) → i < length ws → w ≡ get_or ws i w
-    → answer_read (map f (take i ws)) ≡ Some xs → word_read (f w) ≡ None
+pub spelled_none : {X : Type 0} (f : X → List ℕ) (ws : List X) (i : ℕ) (d : X) (xs : List AnswerWord) → i < length ws
+    → answer_read (map f (take i ws)) ≡ Some xs → word_read (f (get_or ws i d)) ≡ None
     → answer_read (map f ws) ≡ None
-spelled_none {X} f ws i w xs low is so one =
+spelled_none {X} f ws i d xs low so one =
     ap (λ (vs : List X). answer_read (map f vs)) (sym (take-append-drop (i + 1) ws))
     ∙ ap answer_read (map-append f (take (i + 1) ws) (drop (i + 1) ws))
     ∙ read_both (map f (take (i + 1) ws)) (map f (drop (i + 1) ws))
-    ∙ ap (λ (p : Option (List AnswerWord)). both p (answer_read (map f (drop (i + 1) ws)))) (read_to f ws i w xs None low is so one)
+    ∙ ap (λ (p : Option (List AnswerWord)). both p (answer_read (map f (drop (i + 1) ws)))) (read_to f ws i d xs None low so one)

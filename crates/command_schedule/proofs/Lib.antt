@@ -12,6 +12,7 @@ pub mod Attempts
 pub mod Pushed
 pub mod InRounds
 pub mod AnswerRead
+pub mod Bounded
 pub mod Listed
 pub mod Searched
 pub mod Told

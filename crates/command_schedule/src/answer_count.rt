@@ -1,9 +1,10 @@
 //! How many replies a script can have.
 
-ghost use Rattle.std.specs.Prelude.{◌≡◌, ◌↔◌, ◌≤◌, IfOk, true};
+ghost use Rattle.std.specs.Prelude.{◌≡◌, ◌↔◌, ◌≤◌, ◌++◌, IfOk, OnOk, length, map, true};
+ghost use Rattle.std.specs.List.{slice_split};
 ghost use Rattle.script_lines.specs.Views.{lists_of};
-ghost use Rattle.script_lines.specs.Lines.{total_count};
-ghost use Rattle.command_schedule.specs.Answers.{AreWithin, bounds_of, CanAnswer, counts_of};
+ghost use Rattle.script_lines.specs.Lines.{operation_count, total_count};
+ghost use Rattle.command_schedule.specs.Answers.{AreWithin, bound_of, bounds_of, CanAnswer, counts_of};
 ghost use Rattle.command_schedule.specs.Answers.{is_parting, least_count};
 
 use crate::answer_word::AnswerWord;
@@ -32,6 +33,22 @@ fn least_count(lines: &[Line]) -> usize
     count
 }
 
+/// Adds the bounds of a script, if it has any operation.
+///
+/// Errors: memory.
+fn push_bound<A: Allocator>(bounds: &mut Vec<Bounds, A>, lines: &[Line]) -> Result<(), AllocError>
+    requires { operation_count lines.now ≤ 65536 }
+    ensures { OnOk result (bounds.new.items ≡ bounds.old.items ++ bound_of lines.now) }
+{
+    let least = least_count(lines);
+    if least == 0 {
+        return Ok(());
+    }
+    let most = operation_count(lines);
+    bounds.push(Bounds { least, most })?;
+    Ok(())
+}
+
 /// The bounds of each script that has any operation, by processor.
 ///
 /// Errors: memory.
@@ -44,12 +61,7 @@ fn bounds_of<A: Allocator + Copy>(
 {
     let mut bounds = Vec::new(alloc);
     for script in scripts {
-        let lines = script.lines.as_slice();
-        let least = least_count(lines);
-        if least > 0 {
-            let most = operation_count(lines);
-            bounds.push(Bounds { least, most })?;
-        }
+        push_bound(&mut bounds, script.lines.as_slice())?;
     }
     Ok(bounds)
 }
@@ -61,6 +73,37 @@ fn is_parting(word: AnswerWord) -> bool
     matches!(word, AnswerWord::Parting)
 }
 
+/// The replies of an answer, by processor.
+///
+/// Errors: memory.
+fn groups_of<A: Allocator>(
+    alloc: A,
+    wanted: &[AnswerWord],
+) -> Result<Vec<&[AnswerWord], A>, AllocError>
+    ensures { IfOk result (λ groups. map (λ group. group.now) groups.items
+        ≡ slice_split is_parting wanted.now) }
+{
+    wanted.split(|word| is_parting(*word)).collect(alloc)
+}
+
+/// The numbers of replies of an answer that has any words, by processor.
+///
+/// Errors: memory.
+fn lengths_of<A: Allocator + Copy>(
+    alloc: A,
+    wanted: &[AnswerWord],
+) -> Result<Vec<usize, A>, AllocError>
+    ensures { IfOk result (λ counts. counts.items
+        ≡ map length (slice_split is_parting wanted.now)) }
+{
+    let mut counts = Vec::new(alloc);
+    let groups = groups_of(alloc, wanted)?;
+    for group in groups.as_slice() {
+        counts.push(group.len())?;
+    }
+    Ok(counts)
+}
+
 /// The numbers of replies of an answer, by processor; none of an answer without words.
 ///
 /// Errors: memory.
@@ -70,15 +113,10 @@ fn counts_of<A: Allocator + Copy>(
 ) -> Result<Vec<usize, A>, AllocError>
     ensures { IfOk result (λ counts. counts.items ≡ counts_of wanted.now) }
 {
-    let mut counts = Vec::new(alloc);
-    if wanted.is_empty() {
-        return Ok(counts);
+    match wanted {
+        [] => Ok(Vec::new(alloc)),
+        [_, ..] => lengths_of(alloc, wanted),
     }
-    let groups: Vec<&[AnswerWord], A> = wanted.split(|word| is_parting(*word)).collect(alloc)?;
-    for group in groups.as_slice() {
-        counts.push(group.len())?;
-    }
-    Ok(counts)
 }
 
 /// Whether each number is within its bounds, and there are as many of both.

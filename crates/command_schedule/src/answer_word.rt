@@ -1,6 +1,7 @@
 //! The words of an answer: the replies of processors, one behind the other.
 
 ghost use Rattle.std.specs.Prelude.{◌≡◌, ◌↔◌, option_map, map, IfOk, true};
+ghost use Rattle.std.specs.List.{slice_split};
 ghost use Rattle.lexer.specs.Words.{is_blank, words_of};
 ghost use Rattle.command_schedule.specs.Answers.{answer_read, Fits, Fit, word_read};
 
@@ -44,6 +45,14 @@ fn word_read(word: &[u8]) -> Option<AnswerWord>
     }
 }
 
+/// The parts of a text between blanks.
+fn parts_of<A: Allocator>(alloc: A, text: &[u8]) -> Result<Vec<&[u8], A>, AllocError>
+    ensures { IfOk result (λ parts. map (λ part. part.now) parts.items
+        ≡ slice_split is_blank text.now) }
+{
+    text.split(|byte| is_blank(*byte)).collect(alloc)
+}
+
 /// The words between the blanks of a text.
 ///
 /// Errors: memory.
@@ -51,7 +60,7 @@ fn words_in<A: Allocator + Copy>(alloc: A, text: &[u8]) -> Result<Vec<&[u8], A>,
     ensures { IfOk result (λ words. map (λ word. word.now) words.items ≡ words_of text.now) }
 {
     let mut words = Vec::new(alloc);
-    let parts: Vec<&[u8], A> = text.split(|byte| is_blank(*byte)).collect(alloc)?;
+    let parts = parts_of(alloc, text)?;
     for part in parts.as_slice() {
         if !part.is_empty() {
             words.push(*part)?;

@@ -5,11 +5,11 @@ use Rattle.command_schedule.proofs.answer_word.spelled.Goals as goal
 
 pub loop-word-preserved : goal.loop-word-preserved
 loop-word-preserved g c =
-    spelled_more (λ word. word.now) c.args.words.now c.loop-word.word-index c.word-item.result c.loop-word.read.items c.in-Some.word c.loop-word-test.true
-    c.word-item.is c.loop-word.invariant (sym c.word_read.ensures ∙ c.in-Some.ensures)
-    ∙ ap Some (sym c.in_ok-push.ensures.items)
+    spelled_more (λ word. word.now) c.args.words.now c.loop-word.word-index _ c.loop-word.read.items c.in-Some.word c.loop-word-test.true
+    c.loop-word.invariant (sym c.in-Some.ensures)
+    ∙ ap Some (sym c.in_ok-push-in-Some.ensures.items)
 
 pub returns-in-None : goal.returns-in-None
 returns-in-None g c =
-    sym (spelled_none (λ word. word.now) c.args.words.now c.loop-word.word-index c.word-item.result c.loop-word.read.items c.loop-word-test.true
-    c.word-item.is c.loop-word.invariant (sym c.word_read.ensures ∙ c.in-None.ensures))
+    sym (spelled_none (λ word. word.now) c.args.words.now c.loop-word.word-index _ c.loop-word.read.items c.loop-word-test.true
+    c.loop-word.invariant (sym c.in-None.ensures))

@@ -1,5 +1,5 @@
 use Rattle.std.proofs.Common.{◌≡◌, length, map, take}
-use Rattle.command_schedule.proofs.answer_count.counts_of.Given as goal
+use Rattle.command_schedule.proofs.answer_count.lengths_of.Given as goal
 
 -- those so far are counted
 abbrev pub invariant-loop-group : goal.invariant-loop-group
