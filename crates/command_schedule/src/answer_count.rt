@@ -147,5 +147,7 @@ pub(crate) fn can_answer<A: Allocator + Copy>(
 {
     let bounds = bounds_of(alloc, scripts)?;
     let counts = counts_of(alloc, wanted)?;
-    Ok(are_within(bounds.as_slice(), counts.as_slice()))
+    let within = bounds.as_slice();
+    let given = counts.as_slice();
+    Ok(are_within(within, given))
 }
