@@ -214,6 +214,7 @@ const ROWS: [CommandRow; 14] = [
             CONFIGURATIONS,
             SECONDS,
             Optional("report", Flag, "Prints the order as a report"),
+            Optional("smallest", Flag, "Prints a small part that has no order"),
             JSON,
         ],
     },

@@ -6,3 +6,4 @@ pub mod Bad
 pub mod Telling
 pub mod Trying
 pub mod Certifying
+pub mod Parting

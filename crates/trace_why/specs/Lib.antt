@@ -5,3 +5,5 @@ pub mod Refused
 pub mod Told
 pub mod Values
 pub mod Why
+pub mod Parts
+pub mod Smallest

@@ -167,7 +167,7 @@ fn certified_by<A: Allocator + Copy>(
 }
 
 /// A certificate that no order explains the first events of a trace, if one is guessed.
-fn certificate_of<A: Allocator + Copy>(
+pub(crate) fn certificate_of<A: Allocator + Copy>(
     alloc: A,
     trace: &TraceText<A>,
     end: usize,

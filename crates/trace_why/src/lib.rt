@@ -4,14 +4,19 @@
 
 mod answers;
 pub mod before;
+mod beginnings;
 pub mod calls;
 pub mod certified;
 mod citing;
 pub mod laws;
 mod open;
+mod part;
+mod part_text;
 mod printed;
 pub mod refused;
 pub mod sentence;
+pub mod smallest;
+mod sources;
 mod start;
 pub mod untold;
 mod values;
@@ -24,6 +29,7 @@ pub use certified::{ConflictSentence, conflict_sentence};
 pub use printed::ReplyWord;
 pub use refused::{TraceSentence, trace_sentence};
 pub use sentence::{IssueLine, NoOrderSentence, no_order_sentence};
+pub use smallest::{SmallTrace, smallest_trace};
 pub use untold::Untold;
 pub use why::{WhyNot, why_not};
 pub use wording::passing_wording;

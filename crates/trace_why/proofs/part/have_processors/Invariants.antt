@@ -1,0 +1,8 @@
+use Rattle.std.proofs.Common.{◌≡◌, ◌<◌, ℕ, Some, slice_get, slice_index}
+use Rattle.trace_text.specs.declared.issued.Issued.{Issued}
+use Rattle.trace_why.specs.Parts.{HasProcessorOf}
+use Rattle.trace_why.proofs.part.have_processors.Given as goal
+
+abbrev pub invariant-loop-n : goal.invariant-loop-n
+invariant-loop-n g l = (n : ℕ) (i : Issued) → n < l.n → slice_get l.issued n ≡ Some i
+    → HasProcessorOf l.whole (slice_index l.numbers n) i
