@@ -206,15 +206,15 @@ some_in (b ∷ bs) l = (b, (zero, refl))
 
 -- where the word has a branch still, the search goes on
 pub answer_yes : {A : Type 0} (opening : List ℕ) (trace whole : List Event) (k : ℕ) (s : Search A)
-    (tables : Vec (Vec (Option Open) A) A) (words : Vec (Vec Branch A) A) (nodes : Vec Node A) (index : Index A) (stuck : Option ℕ)
+    (tables : Vec (Vec (Option Open) A) A) (words : Vec (Vec Branch A) A) (nodes : Vec Node A) (index : Index A) (found : ℕ) (stuck : Option ℕ)
     (w slot : ℕ) (a : Open) (table cleared : Vec (Option Open) A) (later : Vec Branch A)
     → w < length opening → 0 < length later.items
     → table ≡ get_or s.tables.items w table → IsAt (lists_of s.tables.items w) slot a
     → tables.items ≡ set s.tables.items w cleared → cleared.items ≡ set table.items slot None
     → words.items ≡ set s.words.items w later → HasSearched {A = A} opening trace whole k s
     → IsSearchedInTurn opening trace (suc k) (lists_of tables.items) (lists_of words.items) nodes.items
-    → HasSearched {A = A} opening trace whole (k + 1) (record { tables = tables; words = words; nodes = nodes; index = index; most = s.most; stuck = stuck })
-answer_yes {A} opening trace whole k s tables words nodes index stuck w slot a table cleared later far some read at emptied clear written holds searched = record {
+    → HasSearched {A = A} opening trace whole (k + 1) (record { tables = tables; words = words; nodes = nodes; index = index; most = s.most; found = found; stuck = stuck })
+answer_yes {A} opening trace whole k s tables words nodes index found stuck w slot a table cleared later far some read at emptied clear written holds searched = record {
   tabled = ap (λ (vs : List (Vec (Option Open) A)). length vs) emptied ∙ (length-set s.tables.items w cleared ∙ holds.tabled);
   sized = ap (λ (vs : List (Vec Branch A)). length vs) written ∙ (length-set s.words.items w later ∙ holds.sized);
   searched = subst (λ (n : ℕ). IsSearchedInTurn opening trace n (lists_of tables.items) (lists_of words.items) nodes.items)

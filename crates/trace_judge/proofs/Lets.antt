@@ -34,7 +34,7 @@ pub holds_lets : {A : Type 0} (opening : List ℕ) (trace whole : List Event) (k
     (words : Vec (Vec Branch A) A) (nodes : Vec Node A) (shown : List (Vec Branch A)) (seen : List Node)
     → shown ≡ s.words.items → seen ≡ s.nodes.items → Lets {A = A} shown seen words.items nodes.items
     → HasSearched {A = A} opening trace whole k s
-    → HasSearched {A = A} opening trace whole k (record { tables = s.tables; words = words; nodes = nodes; index = s.index; most = most; stuck = s.stuck })
+    → HasSearched {A = A} opening trace whole k (record { tables = s.tables; words = words; nodes = nodes; index = s.index; most = most; found = s.found; stuck = s.stuck })
 holds_lets {A} opening trace whole k most s words nodes shown seen e1 e2 lets holds =
     let marks : List Bool = lets.marks in
     let sets : ℕ → List Branch = lists_of s.words.items in

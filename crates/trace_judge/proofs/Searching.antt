@@ -31,13 +31,13 @@ use Rattle.trace_judge.proofs.Parting.{begun_first, first_low, parted_put}
 use Rattle.trace_judge.proofs.Turns.{turn_none, turn_issue, turn_more, turn_unanswered}
 
 pub holds_start : {A : Type 0} (opening : List ℕ) (trace whole : List Event) (tables : Vec (Vec (Option Open) A) A)
-    (words : Vec (Vec Branch A) A) (nodes : Vec Node A) (index : Index A) (most : ℕ) (stuck : Option ℕ)
+    (words : Vec (Vec Branch A) A) (nodes : Vec Node A) (index : Index A) (most found : ℕ) (stuck : Option ℕ)
     → length tables.items ≡ length opening → ((w : ℕ) → lists_of tables.items w ≡ [])
     → length words.items ≡ length opening
     → ((w : ℕ) → w < length opening → lists_of words.items w ≡ first_branch (get_or opening w 0) ∷ [])
     → nodes.items ≡ []
-    → HasSearched {A = A} opening trace whole 0 (record { tables = tables; words = words; nodes = nodes; index = index; most = most; stuck = stuck })
-holds_start {A} opening trace whole tables words nodes index most stuck tabled empty sized first none = record {
+    → HasSearched {A = A} opening trace whole 0 (record { tables = tables; words = words; nodes = nodes; index = index; most = most; found = found; stuck = stuck })
+holds_start {A} opening trace whole tables words nodes index most found stuck tabled empty sized first none = record {
   sized = sized;
   tabled = tabled;
   searched =
@@ -196,7 +196,7 @@ pub holds_issue : {A : Type 0} (opening : List ℕ) (trace whole : List Event) (
     (λ reply. (i : ℕ) × (k + 1 ≤ i) × TraceAnswersAt trace i call.id reply)
     → HasSearched {A = A} opening trace whole k s
     → HasSearched {A = A} opening trace whole (k + 1)
-    (record { tables = tables; words = s.words; nodes = s.nodes; index = s.index; most = s.most; stuck = s.stuck })
+    (record { tables = tables; words = s.words; nodes = s.nodes; index = s.index; most = s.most; found = s.found; stuck = s.stuck })
 holds_issue {A} opening trace whole k s tables old table first call promise seen written t now is begun put_in tells holds =
     let w : ℕ = call.operation.address in
     let o : Open = record { call = call; promise = promise } in

@@ -10,6 +10,7 @@ ghost use Rattle.trace_judge.specs.Verdicts.{IsGoodUntil};
 use crate::in_turns::{deep_within, find_in_turns};
 use crate::likely::{GUESSED, are_all_answered, is_silent, likely, try_guess};
 use crate::order::{Ended, find_order};
+use crate::quick::{is_narrow, quick_order};
 use crate::trace::is_trace;
 use crate::undecided::Undecided;
 use crate::zoned::seen_by_zones;
@@ -85,7 +86,8 @@ fn likely_order<A: Allocator + Copy>(
     try_likely(alloc, opening, events, true, bound)
 }
 
-/// A trace of more events is put in the order of its zones first, where it has one: that takes less time than a guess.
+/// A trace of more events is searched quickly first, and then put in the order of its zones, where it has one: that takes less
+/// time than a guess.
 const LONG: usize = 1 << 14;
 
 /// An order that explains the trace, if one is guessed, or zones give this one.
@@ -144,6 +146,12 @@ pub(crate) fn explain<A: Allocator + Copy>(
         (IsLinearizable opening.now events.now → ⊥)
         (λ order. IsOrder opening.now events.now order.items)) }
 {
+    if events.len() > LONG
+        && is_narrow(events)
+        && let Some(found) = quick_order(alloc, opening, events, bound, ended)?
+    {
+        return Ok(found);
+    }
     let seen = seen_by_zones(alloc, opening, events, bound)?;
     if seen.conflict {
         note_conflict(opening, events, ended);

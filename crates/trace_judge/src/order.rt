@@ -113,6 +113,24 @@ fn collect<A: Allocator + Copy>(
     Ok(order)
 }
 
+/// The order on the ways to the first branch of each word, behind the last event.
+///
+/// Errors: out of memory.
+pub(crate) fn order_found<A: Allocator + Copy>(
+    alloc: A,
+    search: &Search<A>,
+    opening: &[u64],
+    events: &[Event],
+    whole: &[Event],
+) -> Result<Vec<Call, A>, AllocError>
+    requires { HasSearched opening.now events.now whole.now (length events.now) search.now }
+    ensures { IfOk result (λ order. IsOrder opening.now events.now order.items) }
+{
+    let marks = mark_all(alloc, search, opening, events, whole)?;
+    let order = collect(alloc, &search.nodes, &marks)?;
+    Ok(order)
+}
+
 /// An order that explains the trace, if there is one; else the event at which the search ended is noted.
 pub(crate) fn find_order<A: Allocator + Copy>(
     alloc: A,
@@ -135,7 +153,6 @@ pub(crate) fn find_order<A: Allocator + Copy>(
     let Some(search) = run(alloc, opening, events, whole, bound, ended)? else {
         return Ok(None);
     };
-    let marks = mark_all(alloc, &search, opening, events, whole)?;
-    let order = collect(alloc, &search.nodes, &marks)?;
+    let order = order_found(alloc, &search, opening, events, whole)?;
     Ok(Some(order))
 }

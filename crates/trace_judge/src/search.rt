@@ -32,6 +32,8 @@ pub struct Search<A: Allocator> {
     pub index: Index<A>,
     /// Where there are more nodes than these, those are let go that no branch leads back to.
     pub most: usize,
+    /// How many configurations were found at answers so far.
+    pub found: u64,
     /// Where a word has no branch left, an operation on it that took effect in none, and wasn't answered.
     pub stuck: Option<u64>,
 }
@@ -93,6 +95,7 @@ pub fn start<A: Allocator + Copy>(
         nodes: Vec::new(alloc),
         index: empty_index(alloc)?,
         most: NODES,
+        found: 0,
         stuck: None,
     })
 }
@@ -201,6 +204,7 @@ impl<A: Allocator + Copy> Search<A> {
         let later = keep(alloc, &middle, slot)?;
         let stands = !later.is_empty();
         self.stuck = stuck_in(stands, &self.tables[word], &middle, slot);
+        self.found = self.found.saturating_add(middle.len() as u64);
         free(&mut self.tables[word], slot);
         self.words[word] = later;
         Ok(stands)

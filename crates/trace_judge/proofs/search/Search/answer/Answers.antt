@@ -46,7 +46,7 @@ returns-clause-yes g c = λ e.
     c.place_of-slot.ensures.there c.requires.holds c.index_mut.ensures.value c.index-2.ensures c.deref-2.ensures.value
     c.index.ensures c.deref.ensures.value c.deref-3.ensures.value refl c.free.ensures refl
     c.in-Ok.ensures.kept c.in-Ok.ensures.closed c.in-Ok.ensures.sound c.in_ok-later.ensures.from c.in_ok-later.ensures.released in
-    answer_yes c.args.opening.now c.args.events.now c.args.whole.now c.args.k s ts ws c.close-closed.new.nodes _ _ w slot a
+    answer_yes c.args.opening.now c.args.events.now c.args.whole.now c.args.k s ts ws c.close-closed.new.nodes _ _ _ w slot a
     c.index_mut.result.now c.free.new.table later
     c.place_of-slot.ensures.inside (stays_some later c.is_empty-stands.result c.is_empty-stands.ensures e)
     c.index_mut.ensures.value c.place_of-slot.ensures.there refl c.free.ensures refl c.requires.holds done
