@@ -125,7 +125,7 @@ def on_machine(test: Litmus, allowed: Dict[str, Set[Outcome]]) -> Iterator[str]:
     for tags, model in ((4, "fenced"), (1, "sc")):
         case = litmus_machine.scripts(test, litmus_machine.ring(test).with_(tags=tags, radices=[max(3, len(test.threads))]))
         for place in outcome_places.places(case):
-            found = outcome_places.found(case, place, 100000)
+            found = outcome_places.found(case, place, 100000, True)
             made = set(found.outcomes)
             if not found.search.is_exact or not made <= allowed[model] or tags == 1 and made != allowed[model]:
                 yield f"with {tags} tags at {place} {len(made)} outcomes, and {model} has {len(allowed[model])}"
@@ -150,7 +150,7 @@ def replayed(case: campaign_cases.Case, steps: List[str]) -> Optional[Outcome]:
 
 def runs(test: Litmus) -> Iterator[str]:
     """What is wrong with the runs that show what a test asks for: `torusmem steps` must show the same words and replies."""
-    for it in litmus_machine.shown(test, litmus_machine.ring(test), 100000):
+    for it in litmus_machine.shown(test, litmus_machine.ring(test), 100000, True):
         if it.outcome and replayed(it.found.case, it.found.run(it.outcome)) != it.found.outcomes[it.outcome]:
             yield f"the run at {it.place} shows something else"
 

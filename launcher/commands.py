@@ -33,6 +33,10 @@ class Word:
         least, dots, most = self.kind.partition("..")
         return (int(least), int(most)) if dots else None
 
+    def is_written(self) -> bool:
+        """Whether its value is written by hand: a number, or replies."""
+        return self.limits() is not None or self.kind == "REPLIES"
+
     def shown(self) -> str:
         """An option with its values, as the help names it."""
         names = [f" <{it}>" for it in self.kind.split(",")] if self.is_files() else [f" <{self.name}>"] * (self.kind != "-")

@@ -35,6 +35,16 @@ pub fn names<'a>(job: &Job<'a>) -> Names<'a> {
             machine,
             script,
             ..
+        }
+        | Job::Outcomes {
+            machine,
+            script,
+            ..
+        }
+        | Job::Reach {
+            machine,
+            script,
+            ..
         } => (machine, Some(script), None),
         Job::Replay { network, run, .. } => (network, Some(run), None),
         Job::Simulate {

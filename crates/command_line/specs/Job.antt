@@ -13,7 +13,7 @@ use Rattle.command_line.specs.declared.command.Job.TheVariants.{Channels, Check}
 use Rattle.command_line.specs.declared.command.Job.TheVariants.{Network, LockUp, Replay, Simulate}
 use Rattle.command_line.specs.declared.command.Job.TheVariants.{Linearize, Report, Watch, Model, RunModel}
 use Rattle.command_line.specs.declared.command.Job.TheVariants.{ValueModel}
-use Rattle.command_line.specs.declared.command.Job.TheVariants.{Schedule, Draw, Moves}
+use Rattle.command_line.specs.declared.command.Job.TheVariants.{Schedule, Draw, Moves, Outcomes, Reach}
 
 -- the values of a subcommand's arguments
 abbrev pub rows_in : Option (Text × List Row) → Option (List Row)
@@ -58,6 +58,8 @@ name_of (ValueModel log model order nodes) = codes "model"
 name_of (Schedule machine script rounds pace) = codes "schedule"
 name_of (Draw machine script seed steps) = codes "draw"
 name_of (Moves machine script steps) = codes "steps"
+name_of (Outcomes machine script states run) = codes "outcomes"
+name_of (Reach machine script answer states) = codes "reach"
 
 -- the depth of a run: the number that is written for it, or 1 where there is none
 abbrev pub depth_in : List Row → ℕ
@@ -161,9 +163,18 @@ AreOfJob (Moves machine script steps) rows = (first_of (codes "MACHINE") rows �
     × (first_of (codes "SCRIPT") rows ≡ Some script.now)
     × (first_of (codes "STEPS") rows ≡ Some steps.now)
     × IsFlag (codes "moves") true rows
+AreOfJob (Outcomes machine script states run) rows =
+    (first_of (codes "MACHINE") rows ≡ Some machine.now)
+    × (first_of (codes "SCRIPT") rows ≡ Some script.now)
+    × (number_in (codes "states") rows ≡ Some states) × (number_in (codes "run") rows ≡ run)
+AreOfJob (Reach machine script answer states) rows =
+    (first_of (codes "MACHINE") rows ≡ Some machine.now)
+    × (first_of (codes "SCRIPT") rows ≡ Some script.now)
+    × (first_of (codes "answer") rows ≡ Some answer.now)
+    × (number_in (codes "states") rows ≡ Some states)
 
 -- the numbers of a job are within their limits: 1 to 1000000 rounds, 1 to 16 workers, 1 to
--- 1000000000 turns, a depth of 1 to 8, at least one configuration or node
+-- 1000000000 turns, a depth of 1 to 8, at least one configuration or node, 1 to 10000000 states
 abbrev pub AreJobLimits : Job → Type 0
 AreJobLimits (Round machine script rounds pace) = (1 ≤ rounds) × (rounds ≤ 1000000)
 AreJobLimits (Run machine script workers turns) =
@@ -176,6 +187,8 @@ AreJobLimits (Report trace configurations seconds) = 1 ≤ configurations
 AreJobLimits (Watch trace configurations) = 1 ≤ configurations
 AreJobLimits (ValueModel log model order nodes) = 1 ≤ nodes
 AreJobLimits (Schedule machine script rounds pace) = (1 ≤ rounds) × (rounds ≤ 1000000)
+AreJobLimits (Outcomes machine script states run) = (1 ≤ states) × (states ≤ 10000000)
+AreJobLimits (Reach machine script answer states) = (1 ≤ states) × (states ≤ 10000000)
 AreJobLimits _ = Unit {0}
 
 -- a job of the subcommand of this name, with the values of these rows, within its limits

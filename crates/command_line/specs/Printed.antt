@@ -4,11 +4,12 @@ use Rattle.clap.specs.Words.{Text}
 use Rattle.command_line.specs.declared.words.WordKind.{WordKind}
 use Rattle.command_line.specs.declared.words.WordKind.TheVariants.{Flag, Path, Number, Long}
 use Rattle.command_line.specs.declared.words.WordKind.TheVariants.{Arbiter, MachineArbiter, Model}
-use Rattle.command_line.specs.declared.words.WordKind.TheVariants.{RunTexts}
+use Rattle.command_line.specs.declared.words.WordKind.TheVariants.{RunTexts, Replies}
 use Rattle.command_line.specs.Table.{NamedCommand, TakenWord, about_text, argument, commands}
 use Rattle.command_line.specs.Table.{common_words, free_option, needed_option, usual_option}
 
--- the values of a kind: `-` of a flag, PATH of a file, LEAST..MOST of a number, or words with commas
+-- the values of a kind: `-` of a flag, PATH of a file, LEAST..MOST of a number, REPLIES, or words
+-- with commas
 abbrev pub kind_text : WordKind → Text
 kind_text Flag = codes "-"
 kind_text Path = codes "PATH"
@@ -18,6 +19,7 @@ kind_text Arbiter = codes "rotating,turn"
 kind_text MachineArbiter = codes "oldest,turn"
 kind_text Model = codes "coherent,fenced,rvwmo,pso,tso,sc"
 kind_text RunTexts = codes "MACHINE,SCRIPT"
+kind_text Replies = codes "REPLIES"
 
 -- a line of a word that begins and ends so, with its name, its kind and what it is for
 abbrev pub word_line : Text → Text → WordKind → Text → Text → Text

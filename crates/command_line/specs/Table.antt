@@ -3,7 +3,7 @@ use Rattle.std.specs.Prelude.{List, [], ◌∷◌, ◌++◌, codes, map}
 use Rattle.clap.specs.Words.{Text}
 use Rattle.command_line.specs.declared.words.WordKind.{WordKind}
 use Rattle.command_line.specs.declared.words.WordKind.TheVariants.{Flag, Path, Number, Long, Arbiter}
-use Rattle.command_line.specs.declared.words.WordKind.TheVariants.{MachineArbiter, Model, RunTexts}
+use Rattle.command_line.specs.declared.words.WordKind.TheVariants.{MachineArbiter, Model, RunTexts, Replies}
 use Rattle.command_line.specs.declared.words.CommandWord.{CommandWord}
 use Rattle.command_line.specs.declared.words.CommandWord.TheVariants.{Argument, Required, Optional}
 use Rattle.command_line.specs.declared.words.CommandWord.TheVariants.{Usual}
@@ -158,6 +158,35 @@ draw_command = record {
       ∷ [];
 }
 
+-- the most states of a search, from 1 to 10000000, which is 100000 where it isn't given
+abbrev pub states_word : TakenWord
+states_word = usual_option (codes "states") (Number 1 10000000)
+    (codes "At most this many states of the search, 1 to 10000000") (codes "100000")
+
+-- `outcomes`
+abbrev pub outcomes_command : NamedCommand
+outcomes_command = record {
+  name = codes "outcomes";
+  about = codes "Finds all outcomes of the scripts, over every schedule";
+  words = machine_word ∷ script_word ∷ states_word
+      ∷ free_option (codes "run") Long
+      (codes "Prints the steps of a run to the outcome of this number, from 0, "
+      ++ codes "not the outcomes")
+      ∷ [];
+}
+
+-- `reach`
+abbrev pub reach_command : NamedCommand
+reach_command = record {
+  name = codes "reach";
+  about = codes "Prints the steps of a run with these replies, or that no schedule gives them";
+  words = machine_word ∷ script_word
+      ∷ needed_option (codes "answer") Replies
+      (codes "The replies of each processor, parted by /; * is any reply")
+      ∷ states_word
+      ∷ [];
+}
+
 -- `route`
 abbrev pub route_command : NamedCommand
 route_command = record {
@@ -266,5 +295,6 @@ model_command = record {
 -- the commands, in the order of the help
 abbrev pub commands : List NamedCommand
 commands = steps_command ∷ round_command ∷ run_command ∷ live_command ∷ schedule_command ∷
-    draw_command ∷ route_command ∷ channels_command ∷ check_command ∷ network_command ∷
-    simulate_command ∷ linearize_command ∷ watch_command ∷ model_command ∷ []
+    draw_command ∷ outcomes_command ∷ reach_command ∷ route_command ∷ channels_command ∷
+    check_command ∷ network_command ∷ simulate_command ∷ linearize_command ∷ watch_command ∷
+    model_command ∷ []

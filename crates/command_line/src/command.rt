@@ -9,7 +9,8 @@ ghost use Rattle.command_line.specs.Values.{IsNoCommand};
 
 use crate::jobs::{
     Answer, channels_job, check_job, draw_job, linearize_job, live_job, model_job, network_job,
-    round_job, route_job, run_job, schedule_job, simulate_job, steps_job, watch_job,
+    outcomes_job, reach_job, round_job, route_job, run_job, schedule_job, simulate_job, steps_job,
+    watch_job,
 };
 use crate::making::command;
 use crate::pace::AskedPace;
@@ -149,6 +150,20 @@ pub enum Job<'a> {
         script: &'a str,
         steps: &'a str,
     },
+    /// Find all outcomes in at most so many states, and print them, or a run to the one of a number.
+    Outcomes {
+        machine: &'a str,
+        script: &'a str,
+        states: u32,
+        run: Option<u64>,
+    },
+    /// Print a run with these replies, found in at most so many states, or that there is none.
+    Reach {
+        machine: &'a str,
+        script: &'a str,
+        answer: &'a str,
+        states: u32,
+    },
 }
 
 /// What the command line asks for, whether more is to be said of what is wrong, and whether the answer is to
@@ -185,6 +200,8 @@ pub fn name_of(job: &Job) -> &'static str
         Job::Schedule { .. } => "schedule",
         Job::Draw { .. } => "draw",
         Job::Moves { .. } => "steps",
+        Job::Outcomes { .. } => "outcomes",
+        Job::Reach { .. } => "reach",
     }
 }
 
@@ -283,6 +300,8 @@ fn job_by<'a>(name: &str, given: &ArgMatches<'a>) -> Answer<'a>
         "live" => live_job(given),
         "schedule" => schedule_job(given),
         "draw" => draw_job(given),
+        "outcomes" => outcomes_job(given),
+        "reach" => reach_job(given),
         "route" => route_job(given),
         "channels" => channels_job(given),
         "check" => check_job(given),

@@ -6,7 +6,7 @@ ghost use Rattle.command_line.specs.Refused.{AnswersBy, AnswersPace};
 use crate::command::Job;
 use crate::pace::AskedPace;
 use crate::refused::Misuse;
-use crate::table::{MOST_DEPTH, MOST_ROUNDS, MOST_TURNS, MOST_WORKERS};
+use crate::table::{MOST_DEPTH, MOST_ROUNDS, MOST_STATES, MOST_TURNS, MOST_WORKERS};
 use crate::values::{
     class, flag_of, long_number, long_number_if_given, number, number_if_given, two_words, word,
 };
@@ -115,6 +115,28 @@ pub(crate) fn draw_job<'a>(given: &ArgMatches<'a>) -> Answer<'a>
         script: word(given, "SCRIPT")?,
         seed: long_number(given, "seed")?,
         steps: long_number_if_given(given, "steps")?,
+    }))
+}
+
+pub(crate) fn outcomes_job<'a>(given: &ArgMatches<'a>) -> Answer<'a>
+    ensures { AnswersBy (codes "outcomes") (rows_of (found_of given.now)) result }
+{
+    Some(Ok(Job::Outcomes {
+        machine: word(given, "MACHINE")?,
+        script: word(given, "SCRIPT")?,
+        states: number(given, "states", 1, MOST_STATES)?,
+        run: long_number_if_given(given, "run")?,
+    }))
+}
+
+pub(crate) fn reach_job<'a>(given: &ArgMatches<'a>) -> Answer<'a>
+    ensures { AnswersBy (codes "reach") (rows_of (found_of given.now)) result }
+{
+    Some(Ok(Job::Reach {
+        machine: word(given, "MACHINE")?,
+        script: word(given, "SCRIPT")?,
+        answer: word(given, "answer")?,
+        states: number(given, "states", 1, MOST_STATES)?,
     }))
 }
 

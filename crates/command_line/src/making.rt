@@ -27,7 +27,11 @@ fn of_kind<'a>(arg: Arg<'a>, kind: WordKind) -> Arg<'a>
         }
         WordKind::Long => arg.value_parser(ValueParser::Unsigned(0, u64::MAX)),
         WordKind::RunTexts => arg.value_names(&TEXT_NAMES),
-        WordKind::Path | WordKind::Arbiter | WordKind::MachineArbiter | WordKind::Model => arg,
+        WordKind::Path
+        | WordKind::Arbiter
+        | WordKind::MachineArbiter
+        | WordKind::Model
+        | WordKind::Replies => arg,
     }
 }
 

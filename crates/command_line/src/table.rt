@@ -5,7 +5,9 @@ ghost use Rattle.command_line.specs.Printed.{program_text};
 ghost use Rattle.command_line.specs.Table.{commands, common_words, named_command, taken_word};
 
 use crate::words::CommandWord::{Argument, Optional, Required, Usual};
-use crate::words::WordKind::{Arbiter, Flag, Long, MachineArbiter, Model, Number, Path, RunTexts};
+use crate::words::WordKind::{
+    Arbiter, Flag, Long, MachineArbiter, Model, Number, Path, Replies, RunTexts,
+};
 use crate::words::{CommandRow, CommandWord, put_common, put_rows};
 use std::fmt;
 
@@ -23,6 +25,9 @@ pub(crate) const MOST_DEPTH: u32 = 8;
 
 /// The most configurations of a search, or nodes of a model.
 pub(crate) const MOST_SEARCHED: u32 = 4294967295;
+
+/// The most states of a search for outcomes.
+pub(crate) const MOST_STATES: u32 = 10000000;
 
 const MACHINE: CommandWord = Argument("MACHINE", Path, "The file with the machine");
 
@@ -68,6 +73,13 @@ const SECONDS: CommandWord = Optional(
     "Widens the search for about so many seconds, 0 to 18446744073709551615",
 );
 
+const STATES: CommandWord = Usual(
+    "states",
+    Number(1, MOST_STATES),
+    "At most this many states of the search, 1 to 10000000",
+    "100000",
+);
+
 const JSON: CommandWord = Optional(
     "json",
     Flag,
@@ -83,7 +95,7 @@ const COMMON: [CommandWord; 1] = [Optional(
     "Explains what is wrong, or how a run ended, on further lines",
 )];
 
-const ROWS: [CommandRow; 14] = [
+const ROWS: [CommandRow; 16] = [
     CommandRow {
         name: "steps",
         about: "Runs the listed steps and prints the report",
@@ -141,6 +153,34 @@ const ROWS: [CommandRow; 14] = [
                 Long,
                 "At most this many moves, 0 to 18446744073709551615; no limit by default",
             ),
+        ],
+    },
+    CommandRow {
+        name: "outcomes",
+        about: "Finds all outcomes of the scripts, over every schedule",
+        words: &[
+            MACHINE,
+            SCRIPT,
+            STATES,
+            Optional(
+                "run",
+                Long,
+                "Prints the steps of a run to the outcome of this number, from 0, not the outcomes",
+            ),
+        ],
+    },
+    CommandRow {
+        name: "reach",
+        about: "Prints the steps of a run with these replies, or that no schedule gives them",
+        words: &[
+            MACHINE,
+            SCRIPT,
+            Required(
+                "answer",
+                Replies,
+                "The replies of each processor, parted by /; * is any reply",
+            ),
+            STATES,
         ],
     },
     CommandRow {

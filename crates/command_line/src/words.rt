@@ -26,6 +26,8 @@ pub enum WordKind {
     Model,
     /// Two names: the file with the machine of a run, and the one with its scripts.
     RunTexts,
+    /// The replies of processors.
+    Replies,
 }
 
 /// A word of a command by its name, the kind of its value, and what the help says of it.
@@ -66,6 +68,7 @@ impl fmt::Display for WordKind {
             WordKind::MachineArbiter => f.write_str("oldest,turn"),
             WordKind::Model => f.write_str("coherent,fenced,rvwmo,pso,tso,sc"),
             WordKind::RunTexts => f.write_str("MACHINE,SCRIPT"),
+            WordKind::Replies => f.write_str("REPLIES"),
         }
     }
 }

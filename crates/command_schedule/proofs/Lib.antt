@@ -11,6 +11,12 @@ pub mod Headed
 pub mod Attempts
 pub mod Pushed
 pub mod InRounds
+pub mod AnswerRead
+pub mod Bounded
+pub mod Listed
+pub mod OpenedFor
+pub mod Found
+pub mod OutcomesTold
 pub mod Told
 pub mod Read
 pub mod Drawing

@@ -7,3 +7,6 @@ pub mod Turned
 pub mod Schedules
 pub mod Drawn
 pub mod Fair
+pub mod Answers
+pub mod OutcomeTexts
+pub mod Outcomes

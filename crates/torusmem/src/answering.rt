@@ -7,7 +7,8 @@ use command_jobs::Ended;
 use command_line::{AskedPace, Job};
 use command_run::Ending;
 use command_schedule::{
-    clocked_schedule_text, draw_text, fair_schedule_text, moves_text, schedule_text,
+    OutcomesEnd, ReachEnd, clocked_schedule_text, draw_text, fair_schedule_text, moves_text,
+    outcomes_text, reach_text, schedule_text,
 };
 use command_verdicts::{
     AskedModels, Decided, Judged, Modelled, judged_models_text, lock_up_text, network_text,
@@ -47,6 +48,10 @@ pub(crate) enum Outcome {
     Modelled(Modelled, AskedModel),
     /// What a log is judged to be by its replies alone, of which this model decides the status.
     Decided(Decided, MemoryModel),
+    /// How a search for outcomes ended.
+    Searched(OutcomesEnd),
+    /// How a search for a run with some replies ended.
+    Reached(ReachEnd),
 }
 
 /// The answer of the job; `ending` is shown what a run reached, and what a network is judged to be stands in
@@ -128,8 +133,23 @@ pub(crate) fn answer<R: Eprint + Clock + AllocGlobal + Threads + Wait + Sync, W:
             let (workers, turns) = (workers as usize, u64::from(turns));
             by_workers(rt, texts, workers, turns, is_seen, out, ending)
         }
+        Job::Outcomes { states, run, .. } => {
+            let script = texts.second.as_slice();
+            let end = outcomes_text(alloc, first, script, states as usize, place_of(run), out)?;
+            Ok(Outcome::Searched(end))
+        }
+        Job::Reach { answer, states, .. } => {
+            let script = texts.second.as_slice();
+            let asked = answer.as_bytes();
+            Ok(Outcome::Reached(reach_text(alloc, first, script, asked, states as usize, out)?))
+        }
         _ => scheduled(alloc, job, texts, out),
     }
+}
+
+/// The place of a number in a list, past every list where it is too large for one.
+fn place_of(number: Option<u64>) -> Option<usize> {
+    Some(number? as usize)
 }
 
 /// The answer of a job that judges a network, which stands in `told` then.

@@ -7,6 +7,7 @@ use crate::judging::Judging;
 use crate::telling::{OutcomeLine, explain_fault, explain_outcome, outcome_status};
 use command_jobs::{RunEnd, all_printed, fault_told, texts_read, unread_told};
 use command_line::{Job, Request};
+use command_schedule::{outcomes_status, reach_status};
 use command_verdicts::{
     Verdict, decided_status, json_object, judged_verdict, model_verdict, verdict_of_status,
 };
@@ -91,6 +92,8 @@ fn verdict_of(outcome: &Outcome) -> Verdict {
         Outcome::Judged(judged, _) => judged_verdict(judged),
         Outcome::Modelled(modelled, model) => model_verdict(modelled, model),
         Outcome::Decided(decided, model) => verdict_of_status(decided_status(decided, model)),
+        Outcome::Searched(end) => verdict_of_status(outcomes_status(end)),
+        Outcome::Reached(end) => verdict_of_status(reach_status(end)),
     }
 }
 

@@ -5,6 +5,7 @@ ghost use Rattle.command_line.specs.Job.{AreJobLimits};
 use crate::answering::{Bounds, Outcome};
 use command_jobs::{kind, names};
 use command_line::Job;
+use command_schedule::{MOST_OPERATIONS, OutcomesEnd, ReachEnd, outcomes_status, reach_status};
 use command_verdicts::{
     Decided, Judged, Modelled, decided_status, explain_models, explain_network, explain_no_order,
     explain_other_run, explain_replay, explain_run_models, explain_simulation, explain_trace,
@@ -30,6 +31,8 @@ impl fmt::Display for OutcomeLine {
             Outcome::Judged(judged, bounds) => put_judged(f, judged, bounds),
             Outcome::Modelled(modelled, _) => put_unmodelled(f, modelled),
             Outcome::Decided(decided, _) => put_unasked(f, decided),
+            Outcome::Searched(end) => put_unsearched(f, end),
+            Outcome::Reached(end) => put_unreached(f, end),
             _ => Ok(()),
         }
     }
@@ -52,6 +55,33 @@ fn put_judged<W: fmt::Write>(
         }
     }
     f.write_str("\n")
+}
+
+/// Puts why no outcome is printed, where that is so.
+fn put_unsearched<W: fmt::Write>(f: &mut fmt::Formatter<W>, end: OutcomesEnd) -> fmt::Result {
+    match end {
+        OutcomesEnd::Listed(_) | OutcomesEnd::Ran => Ok(()),
+        OutcomesEnd::NoOutcome(searched) => {
+            let outcomes = searched.outcomes;
+            writeln!(f, "no outcome of this number: {outcomes} are known, from 0")
+        }
+        OutcomesEnd::TooLong => put_too_long(f),
+    }
+}
+
+/// Puts why no run with some replies is looked for, where that is so.
+fn put_unreached<W: fmt::Write>(f: &mut fmt::Formatter<W>, end: ReachEnd) -> fmt::Result {
+    match end {
+        ReachEnd::Reached | ReachEnd::Never | ReachEnd::Undecided => Ok(()),
+        ReachEnd::NoReply => f.write_str("a reply is ok, a number below 2^64, or * for any\n"),
+        ReachEnd::OtherCount => f.write_str("the scripts have other numbers of replies\n"),
+        ReachEnd::TooLong => put_too_long(f),
+    }
+}
+
+/// Puts that scripts have more operations than a search takes.
+fn put_too_long<W: fmt::Write>(f: &mut fmt::Formatter<W>) -> fmt::Result {
+    writeln!(f, "no outcomes: more than {MOST_OPERATIONS} operations")
 }
 
 /// Puts why no model is asked of a log by its replies alone, where that is so.
@@ -98,6 +128,8 @@ pub(crate) fn outcome_status(outcome: &Outcome) -> u8 {
         Outcome::Judged(judged, _) => status(&Ok(judged)),
         Outcome::Modelled(modelled, model) => model_status(modelled, model),
         Outcome::Decided(decided, model) => decided_status(decided, model),
+        Outcome::Searched(end) => outcomes_status(end),
+        Outcome::Reached(end) => reach_status(end),
     }
 }
 

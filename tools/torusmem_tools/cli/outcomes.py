@@ -5,9 +5,9 @@
     tools/outcomes --places machine.txt script.txt --fences
     tools/outcomes --litmus examples/litmus/*.litmus
 
-An outcome is the reply to each operation, by processor and in the order of issue, and the words in the end. They are found by a
-plain model of the machine in Python, which goes through all states, so NOTHING OF THIS IS PROVED (checks/outcome_rows tries it).
-`torusmem steps` replays the run to an outcome, and what that prints is proved.
+An outcome is the reply to each operation, by processor and in the order of issue, and the words in the end. They are those of
+`torusmem outcomes`, which is proved; with --plain they are found by a plain model of the machine in Python, so NOTHING OF THAT IS
+PROVED (checks/outcome_rows compares both). `torusmem steps` replays the run to an outcome.
 
 With --places each address of the scripts is put at each tile in turn, as the script's words may lie anywhere: a table has a line
 for each placement, with its outcomes by their numbers. With --fences it says of each fence, by its line in the script, whether it
@@ -31,7 +31,7 @@ import itertools
 import os
 from typing import Dict, List, Sequence, Tuple
 
-from torusmem_tools import command
+from torusmem_tools import command, progress
 from torusmem_tools.command import Refusal, WrongWords
 from torusmem_tools.draw import placement_picture
 from torusmem_tools.model import campaign_cases, litmus_machine, litmus_models, outcome_places, replay
@@ -58,6 +58,7 @@ def words() -> command.Parser:
     parser.add_argument("--litmus", action="store_true", help="a table of litmus tests, beside what memory models allow")
     parser.add_argument("--machine", metavar="MACHINE", help="with --litmus: the text of a machine, in place of a ring")
     parser.add_argument("--runs", metavar="FOLDER", help="with --fences or --litmus: write the runs there")
+    parser.add_argument("--plain", action="store_true", help="by a plain model in Python, which isn't proved")
     parser.add_argument("--states", metavar="N", type=command.whole(1, 10**7), default=100000, help="the most states of a search; 100000 if not given")
     return parser
 
@@ -111,39 +112,40 @@ def write_run(folder: str, name: str, found: Found, outcome: Outcome) -> None:
         raise Refusal(f"cannot write in {folder}: {fault.strerror or fault}") from None
 
 
-def ended(lines: List[str], is_exact: bool) -> str:
-    """The text of some lines. Where something isn't decided, it is printed at once, and the status says so."""
-    text = "".join(f"{it}\n" for it in lines)
+def ended(lines: List[str], is_exact: bool, is_plain: bool) -> str:
+    """The text of some lines, behind a note where they are by the plain model. Where something isn't decided, it is printed at once, and the status says so."""
+    text = "".join(f"{it}\n" for it in ([NOTE] if is_plain else []) + lines)
     if not is_exact:
         command.put(TOOL, text)
         command.leave(TOOL, 5)
     return text
 
 
-def listed(found: Found, run: int | None, states: int) -> str:
+def listed(found: Found, run: int | None, states: int, is_plain: bool) -> str:
     """The outcomes, or the steps of a run to one."""
     outcomes = sorted(found.outcomes, key=Outcome.text)
     if run is not None:
         if run >= len(outcomes):
-            raise WrongWords(f"there is no outcome {run}: {len(outcomes)} are known")
-        return ended([NOTE, *found.run(outcomes[run]), "# finished"], True)
-    lines = [NOTE, *(f"outcome {k} : {it.text()}" for k, it in enumerate(outcomes))]
+            others = "" if found.search.is_exact else f", by {states} states; there may be others"
+            raise WrongWords(f"there is no outcome {run}: {len(outcomes)} are known{others}")
+        return ended([*found.run(outcomes[run]), "# finished"], True, is_plain)
+    lines = [f"outcome {k} : {it.text()}" for k, it in enumerate(outcomes)]
     is_exact = found.search.is_exact
     last = f"exact, {found.search.states} states"
-    return ended([*lines, last if is_exact else f"undecided, {states} states: {len(outcomes)} outcomes are known, there may be others"], is_exact)
+    return ended([*lines, last if is_exact else f"undecided, {states} states: {len(outcomes)} outcomes are known, there may be others"], is_exact, is_plain)
 
 
 class Table:
     """The table of placements: what is found at each, and without each fence there."""
 
-    def __init__(self, case: campaign_cases.Case, lines: List[int], states: int) -> None:
-        self.case, self.lines, self.states, self.is_exact = case, lines, states, True
+    def __init__(self, case: campaign_cases.Case, lines: List[int], how: Tuple[int, bool]) -> None:
+        self.case, self.lines, self.how, self.is_exact = case, lines, how, True
         self.rows: List[Tuple[Place, Found, Dict[int, Found]]] = []
 
     def look(self, place: Place, fences: List[int]) -> None:
         """Looks at a placement, with all fences and without each."""
-        here = outcome_places.found(self.case, place, self.states)
-        others = {it: outcome_places.found(outcome_places.without(self.case, it), place, self.states) for it in fences}
+        here = outcome_places.found(self.case, place, *self.how)
+        others = {it: outcome_places.found(outcome_places.without(self.case, it), place, *self.how) for it in fences}
         self.rows.append((place, here, others))
         self.is_exact &= all(it.search.is_exact for it in (here, *others.values()))
 
@@ -180,7 +182,7 @@ class Table:
 
 def of(numbers: Dict[Outcome, int], outcomes: Sequence[Outcome] | Dict[Outcome, Outcome], found: Found) -> str:
     """Outcomes by their numbers; with `..` where there may be more."""
-    return " ".join(map(str, sorted(numbers[it] for it in outcomes))) + ("" if found.search.is_exact else " ..")
+    return " ".join([*map(str, sorted(numbers[it] for it in outcomes)), *([] if found.search.is_exact else [".."])])
 
 
 def chosen(case: campaign_cases.Case, given: argparse.Namespace) -> List[Place]:
@@ -196,14 +198,15 @@ def chosen(case: campaign_cases.Case, given: argparse.Namespace) -> List[Place]:
 
 def placed(case: campaign_cases.Case, lines: List[int], given: argparse.Namespace) -> str:
     """The table of placements, or the picture."""
-    table = Table(case, lines, given.states)
-    for place in chosen(case, given):
-        table.look(place, outcome_places.fences(case) if given.fences else [])
+    table, places, told = Table(case, lines, (given.states, given.plain)), chosen(case, given), progress.Progress(TOOL)
+    for at, place in enumerate(places, 1):
+        with told.waiting(f"placement {at} of {len(places)}"):
+            table.look(place, outcome_places.fences(case) if given.fences else [])
     if given.runs:
         table.write(given.runs)
     if given.svg:
         return picture(case, table)
-    return ended([NOTE, *table.text()], table.is_exact)
+    return ended(table.text(), table.is_exact, given.plain)
 
 
 def picture(case: campaign_cases.Case, table: Table) -> str:
@@ -243,20 +246,21 @@ def tests(given: argparse.Namespace) -> str:
     machine = None
     if given.machine:
         machine = accepted(command.contents(given.machine), b"", (given.machine, "the empty script"))
-    rows, is_exact = [["test", "machine", *litmus_machine.MODELS]], True
-    for name in given.texts:
+    rows, is_exact, told = [["test", "machine", *litmus_machine.MODELS]], True, progress.Progress(TOOL)
+    for at, name in enumerate(given.texts, 1):
         test = litmus.read(command.contents(name), name)
         case = machine or litmus_machine.ring(test)
         refuse_large(test, case, name)
-        allowed = litmus_machine.allowed(test)
-        shown = litmus_machine.shown(test, case, given.states)
+        with told.waiting(f"test {at} of {len(given.texts)}, {test.name}"):
+            allowed = litmus_machine.allowed(test)
+            shown = litmus_machine.shown(test, case, given.states, given.plain)
         seen, open_ = [it for it in shown if it.outcome], sum(it.is_open() for it in shown)
         is_exact &= not open_
         said = f"{len(seen)} of {len(shown)}" + (f", {open_} undecided" if open_ else "")
         rows.append([test.name, said, *("yes" if allowed[it] else "no" for it in litmus_machine.MODELS)])
         if given.runs and seen and seen[0].outcome:
             write_run(given.runs, f"{test.name}.tiles-{'-'.join(map(str, seen[0].place))}", seen[0].found, seen[0].outcome)
-    return ended([NOTE, *aligned(rows, range(len(rows[0])))], is_exact)
+    return ended(aligned(rows, range(len(rows[0]))), is_exact, given.plain)
 
 
 def work() -> str:
@@ -269,4 +273,6 @@ def work() -> str:
     case = accepted(machine, script, given.texts)
     if given.places:
         return placed(case, lines_of(script), given)
-    return listed(outcome_places.as_it_is(case, given.states), given.run, given.states)
+    with progress.Progress(TOOL).waiting(f"a search of at most {given.states} states"):
+        found = outcome_places.as_it_is(case, given.states, given.plain)
+    return listed(found, given.run, given.states, given.plain)

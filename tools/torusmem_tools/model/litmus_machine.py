@@ -50,12 +50,12 @@ def values(test: Litmus, outcome: Outcome) -> Values:
     return test.values(replies, [words.get(k, 0) if k in used else opening for k, opening in enumerate(openings)])
 
 
-def shown(test: Litmus, machine: campaign_cases.Case, most: int) -> List[Shown]:
+def shown(test: Litmus, machine: campaign_cases.Case, most: int, is_plain: bool) -> List[Shown]:
     """What the machine shows at each placement."""
     case = scripts(test, machine)
     rows = []
     for place in outcome_places.places(case):
-        found = outcome_places.found(case, place, most)
+        found = outcome_places.found(case, place, most, is_plain)
         rows.append(Shown(place, next((it for it in found.outcomes if test.condition(values(test, it))), None), found))
     return rows
 

@@ -1,14 +1,20 @@
-"""Who finds all outcomes of a script for the tools: a plain search (model/outcome_search.py)."""
+"""Who finds all outcomes of a script for the tools: `torusmem outcomes`, whose answers are proved, or, with `--plain`, a plain search
+(model/outcome_search.py)."""
 from __future__ import annotations
 
-from typing import Callable, List, NamedTuple
+import re
+from typing import Callable, List, NamedTuple, Tuple
 
+from torusmem_tools import command
+from torusmem_tools.command import Refusal
 from torusmem_tools.model import campaign_cases
 from torusmem_tools.model.outcome_search import Search
-from torusmem_tools.model.outcome_states import Outcome
+from torusmem_tools.model.outcome_states import Outcome, Reply
 
-# The first line of what a tool prints of outcomes.
+# The first line of what a tool prints of outcomes that the plain search has found.
 NOTE = "# by a plain model of the machine: nothing of this is proved"
+LINE = re.compile("outcome ([0-9]+) :(.*) ;(.*)")
+EXACT = re.compile("exact, ([0-9]+) states")
 
 
 class Outcomes(NamedTuple):
@@ -21,7 +27,38 @@ class Outcomes(NamedTuple):
     run: Callable[[Outcome], List[str]]
 
 
-def outcomes_of(case: campaign_cases.Case, most: int) -> Outcomes:
+def outcomes_of(case: campaign_cases.Case, most: int, is_plain: bool) -> Outcomes:
     """The outcomes of a script, by a search of so many states at most."""
-    search = Search(case, most)
-    return Outcomes(list(search.ends), search.is_exact, len(search.before), search.run)
+    if is_plain:
+        search = Search(case, most)
+        return Outcomes(list(search.ends), search.is_exact, len(search.before), search.run)
+    lines = asked(case, most)
+    known = [outcome_of(it) for it in lines[:-1]]
+    exact = EXACT.fullmatch(lines[-1])
+
+    def run(outcome: Outcome) -> List[str]:
+        return asked(case, most, "--run", str(known.index(outcome)))[:-1]
+
+    return Outcomes(known, exact is not None, int(exact[1]) if exact else most, run)
+
+
+def asked(case: campaign_cases.Case, most: int, *words: str) -> List[str]:
+    """The lines that `torusmem outcomes` prints of a machine and its scripts."""
+    with command.temporary_file(case.machine_text().encode()) as machine, command.temporary_file(case.script_text().encode()) as script:
+        return command.torusmem("outcomes", machine, script, "--states", str(most), *words, fine=(0, 5)).splitlines()
+
+
+def outcome_of(line: str) -> Outcome:
+    """The outcome of a line that the program prints."""
+    found = LINE.fullmatch(line)
+    if not found:
+        raise Refusal(f"`torusmem outcomes` prints `{line}`")
+    rows = [tuple(map(reply, it.split())) for it in found[2].split(" / ") if it.split()]
+    numbers = list(map(int, found[3].split()))
+    words: Tuple[Tuple[int, int], ...] = tuple(zip(numbers[::2], numbers[1::2]))
+    return Outcome(tuple(rows), words)
+
+
+def reply(word: str) -> Reply:
+    """A reply that the program prints."""
+    return "ok" if word == "ok" else int(word)

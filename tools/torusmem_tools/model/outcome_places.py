@@ -57,16 +57,16 @@ class Found:
         return self.search.run(self.outcomes[outcome])
 
 
-def as_it_is(case: campaign_cases.Case, most: int) -> Found:
+def as_it_is(case: campaign_cases.Case, most: int, is_plain: bool) -> Found:
     """All outcomes of a script, by a search of so many states at most."""
-    search = outcomes_of(case, most)
+    search = outcomes_of(case, most, is_plain)
     return Found(case, search, {it: it for it in search.known})
 
 
-def found(case: campaign_cases.Case, place: Place, most: int) -> Found:
+def found(case: campaign_cases.Case, place: Place, most: int, is_plain: bool) -> Found:
     """All outcomes of a placed script, by a search of so many states at most."""
     made, names = placed(case, place), addresses(case)
-    search = outcomes_of(made, most)
+    search = outcomes_of(made, most, is_plain)
     outcomes = {}
     for it in search.known:
         words = sorted((names[a // case.tiles()], value) for a, value in it.words)
