@@ -39,7 +39,7 @@ pub record HasPut (start : Core) (heading : Option ℕ) (steps : List Step) (old
   pub took : TookAll old now text
   pub whole : text ++ text_of (headed still (moves_from c left)) ≡ text_of (headed heading (moves_from start steps))
 
--- the same attempts under another name
+-- equal lists of attempts
 pub left_as : (start : Core) (heading : Option ℕ) (steps : List Step) (old : Output) (c : Core) (still : Option ℕ) (a b : List Step)
     (now : Output) → a ≡ b → HasPut start heading steps old c still a now → HasPut start heading steps old c still b now
 left_as start heading steps old c still a b now is so_far = subst (λ (xs : List Step). HasPut start heading steps old c still xs now) is so_far

@@ -12,7 +12,7 @@ use Rattle.core_laws.specs.Machine.{Core, built_to}
 use Rattle.machine_core.specs.Rounds.{attempts_between}
 use Rattle.command_schedule.specs.Drawn.{enabled_now}
 use Rattle.command_schedule.specs.Fair.{KeepsEnabled}
-use Rattle.command_schedule.proofs.Pushed.{part_more}
+use Rattle.outcome_search.proofs.Pushed.{part_more}
 
 -- whether an attempt is enabled
 abbrev can : Core → Step → Bool
@@ -33,7 +33,7 @@ kept_then c a b old mid new before k n first then = record {
   room = then.room ∙ first.room;
 }
 
--- the same attempts under another name
+-- equal lists of attempts
 pub kept_as : (c : Core) (a b old new : List Step) (before n : ℕ) → a ≡ b → KeepsEnabled c a old before new n → KeepsEnabled c b old before new n
 kept_as c a b old new before n is so_far = subst (λ (xs : List Step). KeepsEnabled c xs old before new n) is so_far
 

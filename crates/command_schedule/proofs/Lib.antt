@@ -9,7 +9,6 @@ pub mod RunsAgain
 pub mod Outputs
 pub mod Headed
 pub mod Attempts
-pub mod Pushed
 pub mod InRounds
 pub mod AnswerRead
 pub mod Bounded

@@ -16,9 +16,9 @@ ghost use Rattle.command_schedule.specs.Turned.{AreTurned, HasChoiceRoom};
 
 use crate::in_rounds::loaded;
 use crate::output::{put_end, put_moves};
-use crate::round_list::round_of;
 use crate::turned_list::{attempts_at, turned_rounds};
 use machine_core::Machine;
+use outcome_search::round_list::round_of;
 use program_fault::ProgramFault;
 use report_lines::{Out, OutputFailed};
 use std::alloc::Allocator;

@@ -11,8 +11,8 @@ ghost use Rattle.command_schedule.specs.Drawn.{PrintsDrawn, drawn_moves, drawn_o
 use crate::ScheduleLine;
 use crate::in_rounds::loaded;
 use crate::output::{put_end, put_line};
-use crate::round_list::round_of;
 use machine_core::Machine;
+use outcome_search::round_list::round_of;
 use program_fault::ProgramFault;
 use rand_core::SeedableRng;
 use rand_core::utils::NextWord;

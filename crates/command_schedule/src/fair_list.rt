@@ -12,9 +12,9 @@ ghost use Rattle.machine_core.specs.Oldest.{oldest, sorted_by};
 ghost use Rattle.machine_core.specs.Ordered.{age_at, put_in};
 ghost use Rattle.command_schedule.specs.Fair.{KeepsEnabled};
 
-use crate::round_list::{OF_BANK, OF_PROCESSOR};
 use arrayvec::ArrayVec;
 use machine_core::Machine;
+use outcome_search::round_list::{OF_BANK, OF_PROCESSOR};
 use std::alloc::Allocator;
 use torus::{Choice, Step};
 

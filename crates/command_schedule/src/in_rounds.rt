@@ -11,8 +11,8 @@ ghost use Rattle.command_schedule.specs.Rounds.{PutsRounds};
 ghost use Rattle.command_schedule.specs.Schedules.{PrintsSchedule};
 
 use crate::output::{put_end, put_moves};
-use crate::round_list::round_of;
 use machine_core::{Machine, load};
+use outcome_search::round_list::round_of;
 use program_fault::ProgramFault;
 use report_lines::{Out, OutputFailed};
 use std::alloc::Allocator;

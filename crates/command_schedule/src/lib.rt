@@ -17,7 +17,6 @@ mod outcome_text;
 mod outcomes;
 mod output;
 mod reach;
-mod round_list;
 pub mod run_laws;
 mod searching;
 pub mod text;

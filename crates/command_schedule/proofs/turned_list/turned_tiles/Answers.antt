@@ -3,7 +3,7 @@ use Rattle.std.proofs.Common.{◌≡◌, ℕ, ◌+◌, ◌*◌, ◌∙◌, ap, a
 use Rattle.torus.specs.Shape.{dims_of, tiles_of}
 use Rattle.channel_number.specs.Ports.{port_count}
 use Rattle.machine_core.specs.Clocked.{turned_at}
-use Rattle.command_schedule.proofs.Pushed.{part_more}
+use Rattle.outcome_search.proofs.Pushed.{part_more}
 use Rattle.command_schedule.proofs.Turned.{all_turned}
 use Rattle.command_schedule.proofs.turned_list.turned_tiles.Goals as goal
 
