@@ -7,7 +7,7 @@ use Rattle.lexer.specs.Named.{IsAbout}
 use Rattle.script.specs.Machine.{machine_of, machine_or_why}
 use Rattle.report_check.specs.Good.{FirstBad, GoodReport}
 use Rattle.report_check.specs.Reason.{HasReason}
-use Rattle.report_reasons.specs.Origins.{HasOrigin}
+use Rattle.program_fault.specs.Origins.{HasOrigin}
 use Rattle.program_fault.specs.declared.fault.ProgramFault.{ProgramFault}
 use Rattle.program_fault.specs.declared.fault.ProgramFault.TheVariants as program
 use Rattle.program_fault.specs.declared.texts.Names.{Names}

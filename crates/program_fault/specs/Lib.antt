@@ -6,3 +6,4 @@ pub mod Causes
 pub mod EndLines
 pub mod FaultLines
 pub mod LinesUnread
+pub mod Origins

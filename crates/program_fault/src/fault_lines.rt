@@ -6,8 +6,8 @@ ghost use Rattle.program_fault.specs.Causes.{is_of_texts};
 ghost use Rattle.program_fault.specs.FaultLines.{Says, SaysOfReport, SaysOfTexts, SaysOfTile};
 
 use crate::telling::{Cause, fault_cause, is_of_texts, named};
+use crate::why::{WhyBad, why_bad};
 use crate::{Names, ProgramFault, Texts};
-use report_reasons::{WhyBad, why_bad};
 use sentences::{
     Sentence, TileSentence, machine_sentence, scripts_sentence, steps_sentence, tile_sentence,
 };

@@ -1,7 +1,7 @@
 use Rattle.std.proofs.Common.{◌≡◌, ◌-◌}
-use Rattle.report_reasons.specs.declared.origin.Origin.TheVariants.{Nothing}
-use Rattle.report_reasons.specs.Origins.{origin_before}
-use Rattle.report_reasons.proofs.origin.origin_before.Given as goal
+use Rattle.program_fault.specs.declared.origin.Origin.TheVariants.{Nothing}
+use Rattle.program_fault.specs.Origins.{origin_before}
+use Rattle.program_fault.proofs.origin.origin_before.Given as goal
 
 abbrev pub decreases-loop-number : goal.decreases-loop-number
 decreases-loop-number l = l.line - l.number

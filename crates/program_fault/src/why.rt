@@ -4,7 +4,7 @@ ghost use Rattle.std.specs.Prelude.{◌↔◌, IfOk, IfSome, IsNone};
 ghost use Rattle.report_check.specs.Good.{FirstBad, GoodReport};
 ghost use Rattle.report_check.specs.declared.rule.BadReport.{BadReport};
 ghost use Rattle.report_check.specs.Reason.{HasReason};
-ghost use Rattle.report_reasons.specs.Origins.{HasOrigin};
+ghost use Rattle.program_fault.specs.Origins.{HasOrigin};
 
 use crate::origin::{Origin, origin_before};
 use report_check::{Rule, report_or_why};

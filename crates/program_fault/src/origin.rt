@@ -1,7 +1,7 @@
 //! The line that the word of an address is from: the checker of reports does not keep it.
 
 ghost use Rattle.std.specs.Prelude.{◌≡◌, ◌-◌};
-ghost use Rattle.report_reasons.specs.Origins.{origin_at, origin_before};
+ghost use Rattle.program_fault.specs.Origins.{origin_at, origin_before};
 
 use report_lines::{ReportLine, read_line};
 

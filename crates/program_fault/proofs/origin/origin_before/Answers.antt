@@ -1,7 +1,7 @@
 use Rattle.std.proofs.Common.{◌+◌, ◌-◌, ◌∙◌, ap, sym}
-use Rattle.report_reasons.specs.Origins.{origin_before}
-use Rattle.report_reasons.proofs.Steps.{goes_on}
-use Rattle.report_reasons.proofs.origin.origin_before.Goals as goal
+use Rattle.program_fault.specs.Origins.{origin_before}
+use Rattle.program_fault.proofs.Steps.{goes_on}
+use Rattle.program_fault.proofs.origin.origin_before.Goals as goal
 
 pub loop-number-preserved : goal.loop-number-preserved
 loop-number-preserved c =

@@ -2,8 +2,8 @@
 use Rattle.std.proofs.Common.{◌≡◌, ℕ, ◌+◌, ◌-◌, ◌<◌, List, suc, Some, ap, ◌∙◌, arith}
 use Rattle.report_lines.specs.declared.line.ReportLine.{ReportLine}
 use Rattle.report_lines.specs.Reading.{report_line_at}
-use Rattle.report_reasons.specs.declared.origin.Origin.{Origin}
-use Rattle.report_reasons.specs.Origins.{origin_at, origin_behind, origin_before}
+use Rattle.program_fault.specs.declared.origin.Origin.{Origin}
+use Rattle.program_fault.specs.Origins.{origin_at, origin_behind, origin_before}
 
 pub goes_on : (address number line : ℕ) (found : Origin) (text rest : List ℕ) (read : ReportLine) → number < line → report_line_at text ≡ Some (read, rest)
     → origin_before address number found text (line - number)

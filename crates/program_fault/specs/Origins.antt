@@ -6,8 +6,8 @@ use Rattle.report_lines.specs.declared.line.ReportLine.TheVariants as line
 use Rattle.report_lines.specs.Reading.{report_line_at}
 use Rattle.report_check.specs.declared.rule.Rule.{Rule}
 use Rattle.report_check.specs.declared.rule.Rule.TheVariants.{Reply as Replied}
-use Rattle.report_reasons.specs.declared.origin.Origin.{Origin}
-use Rattle.report_reasons.specs.declared.origin.Origin.TheVariants.{Nothing, Init, Entry}
+use Rattle.program_fault.specs.declared.origin.Origin.{Origin}
+use Rattle.program_fault.specs.declared.origin.Origin.TheVariants.{Nothing, Init, Entry}
 
 -- the origin behind one more line, which stands at a number: an `init` line or an entry of the
 -- address
