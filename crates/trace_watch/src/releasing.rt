@@ -15,7 +15,7 @@ ghost use Rattle.trace_watch.specs.Closed.{IsIdleClaim, IsTakenConfig, MayClaim}
 use crate::closing::{add, close};
 use crate::index::{Index, empty_index, widen};
 use crate::lowering::{lowered, may_find};
-use crate::matching::{fits, may_be, newest_of_each};
+use crate::matching::{alone_of_each, fits, may_be, newest_of_each};
 use crate::pending::without_call;
 use crate::state::{Effect, Glimpse, State, taken, without};
 use crate::watch::Full;
@@ -262,8 +262,9 @@ pub(crate) fn answered<A: Allocator + Copy>(
 {
     let others = without_call(alloc, calls, call.id)?;
     let newest = newest_of_each(alloc, &others)?;
+    let alone = alone_of_each(alloc, &others, &newest)?;
     let mut index = empty_index(alloc)?;
-    let found = close(alloc, states, &mut index, &others, &newest, bound)?;
+    let found = close(alloc, states, &mut index, &others, &newest, &alone, bound)?;
     let mut kept = Vec::new(alloc);
     let mut kept_index = empty_index(alloc)?;
     takes(

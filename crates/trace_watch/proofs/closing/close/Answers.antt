@@ -15,7 +15,7 @@ loop-i-init g c = record {
       (closing_none c.args.calls.now c.args.newest.now (configs_of c.args.states.now));
   few = let e = ap (λ (ss : List (State _)). length ss) c.new-found.ensures.items in omega arith;
   indexed = subst (λ (ss : List (State _)). IsIndexed c.args.index.now (configs_of ss))
-      (sym c.new-found.ensures.items) c.requires;
+      (sym c.new-found.ensures.items) c.requires.indexed;
 }
 
 pub loop-i-preserved : goal.loop-i-preserved
