@@ -22,19 +22,6 @@ pub config_at : {A : Type 0} (states : List (State A)) (k : ℕ) (s : State A) (
     → slice_get states k ≡ Some s → slice_get (configs_of states) k ≡ Some c → config_of s ≡ c
 config_at states k s c there is = let e = get_config states k s there in cc
 
--- the effects of a state, as the code reads them
-pub fits_read : (calls : List Call) (c d : Config) (es : List Effect) → es ≡ c.effects → c ≡ d
-    → FitsPartner (IsIn calls) es → FitsPartner (IsIn calls) d.effects
-fits_read calls c d es read same fit =
-    subst (λ (f : Config). FitsPartner (IsIn calls) f.effects) same
-    (subst (λ (fs : List Effect). FitsPartner (IsIn calls) fs) read fit)
-
-pub fits_back : (calls : List Call) (c d : Config) (es : List Effect) → es ≡ c.effects → c ≡ d
-    → FitsPartner (IsIn calls) d.effects → FitsPartner (IsIn calls) es
-fits_back calls c d es read same fit =
-    subst (λ (fs : List Effect). FitsPartner (IsIn calls) fs) (sym read)
-    (subst (λ (f : Config). FitsPartner (IsIn calls) f.effects) (sym same) fit)
-
 pub attempt_idle : {A : Type 0} (at : ℕ) (calls : List Call) (call : Call) (found : List (State A)) (s : State A)
     → slice_get found at ≡ Some s → true ≡ is_idle call.operation.op s.word
     → Expands at calls (call ∷ []) (configs_of found) (configs_of found)
@@ -117,8 +104,8 @@ pub catch_all : {A : Type 0} (from : ℕ) (calls newest : List Call) (begun : Li
 catch_all from calls newest begun next found all was =
     catching_all from calls newest begun next (configs_of found) (let e = long_configs found in omega arith) was
 
-pub close_more : {A : Type 0} (calls newest : List Call) (states : List (State A)) (i from : ℕ)
-    (found more later : List (State A)) (s copy : State A) → from ≡ length found → slice_get states i ≡ Some s
+pub close_more : {A B : Type 0} (calls newest : List Call) (states : List (State B)) (i from : ℕ)
+    (found more later : List (State A)) (s : State B) (copy : State A) → from ≡ length found → slice_get states i ≡ Some s
     → config_of copy ≡ config_of s → IsOneMore (configs_of found) (config_of copy) (configs_of more)
     → CatchesUp from calls newest (configs_of more) (configs_of later)
     → Closing calls newest (configs_of states) i (configs_of found)
@@ -129,7 +116,7 @@ close_more calls newest states i from found more later s copy long there same on
     (subst (λ (n : ℕ). CatchesUp n calls newest (configs_of more) (configs_of later))
     (long ∙ sym (long_configs found)) next) was
 
-pub close_all : {A : Type 0} (calls newest : List Call) (states : List (State A)) (i : ℕ) (found : List (State A))
+pub close_all : {A B : Type 0} (calls newest : List Call) (states : List (State B)) (i : ℕ) (found : List (State A))
     → length states ≤ i → Closing calls newest (configs_of states) i (configs_of found)
     → Closes calls newest (configs_of states) (configs_of found)
 close_all calls newest states i found all was =

@@ -179,9 +179,9 @@ fn catch_up<A: Allocator + Copy>(
 }
 
 /// The states that these operations lead to, of which the newest ones that ask the same are told.
-pub(crate) fn close<A: Allocator + Copy>(
+pub(crate) fn close<A: Allocator + Copy, B: Allocator>(
     alloc: A,
-    states: &[State<A>],
+    states: &[State<B>],
     index: &mut Index<A>,
     calls: &[Call],
     newest: &[Call],

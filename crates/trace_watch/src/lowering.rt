@@ -119,17 +119,20 @@ fn lowered_seen<A: Allocator>(
     Ok(lowered)
 }
 
-/// The state with each bound lowered to the newest of these operations.
+/// The state of these effects and glimpses, with each bound lowered to the newest of these operations.
 pub(crate) fn lowered<A: Allocator + Copy>(
     alloc: A,
     calls: &[Call],
-    state: &State<A>,
+    word: u64,
+    effects: &[Effect],
+    seen: &[Glimpse],
 ) -> Result<State<A>, AllocError>
-    ensures { IfOk result (λ s. IsLowered calls.now (config_of state.now) (config_of s)) }
+    ensures { IfOk result (λ s. IsLowered calls.now
+        (record { word = word; effects = effects.now; seen = seen.now }) (config_of s)) }
 {
     Ok(State {
-        word: state.word,
-        effects: lowered_effects(alloc, calls, &state.effects)?,
-        seen: lowered_seen(alloc, calls, &state.seen)?,
+        word,
+        effects: lowered_effects(alloc, calls, effects)?,
+        seen: lowered_seen(alloc, calls, seen)?,
     })
 }

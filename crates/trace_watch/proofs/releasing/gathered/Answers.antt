@@ -2,7 +2,7 @@ use Rattle.std.proofs.lemmas.Result.{err_from_is_err_and}
 use Rattle.trace_watch.specs.States.{configs_of}
 use Rattle.trace_watch.proofs.Few.{few_read_found}
 use Rattle.trace_watch.proofs.Gathering.{answered_by, over_others}
-use Rattle.trace_watch.proofs.releasing.answered.Goals as goal
+use Rattle.trace_watch.proofs.releasing.gathered.Goals as goal
 
 pub returns-clause-answered : goal.returns-clause-answered
 returns-clause-answered g c =
