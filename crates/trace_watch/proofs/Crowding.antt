@@ -46,8 +46,8 @@ catching_gives_up from calls newest bound begun next found later up was = record
 }
 
 -- with one more of the configurations there are too many
-pub add_overfull : {A : Type 0} (calls newest : List Call) (bound : ℕ) (states : List (State A)) (i : ℕ)
-    (found more : List (State A)) (s copy : State A) → slice_get states i ≡ Some s → config_of copy ≡ config_of s
+pub add_overfull : {A B : Type 0} (calls newest : List Call) (bound : ℕ) (states : List (State B)) (i : ℕ)
+    (found more : List (State A)) (s : State B) (copy : State A) → slice_get states i ≡ Some s → config_of copy ≡ config_of s
     → IsOneMore (configs_of found) (config_of copy) (configs_of more) → IsOpenCrowd bound (configs_of more)
     → Closing calls newest (configs_of states) i (configs_of found)
     → (all : List Call) → IsPart calls all → IsPart newest all → IsOverfullCrowd all bound (configs_of states)
@@ -59,8 +59,8 @@ add_overfull calls newest bound states i found more s copy there same one crowd 
 }
 
 -- with what it leads to
-pub close_overfull : {A : Type 0} (calls newest : List Call) (bound : ℕ) (states : List (State A)) (i : ℕ)
-    (found more later : List (State A)) (s copy : State A) → slice_get states i ≡ Some s → config_of copy ≡ config_of s
+pub close_overfull : {A B : Type 0} (calls newest : List Call) (bound : ℕ) (states : List (State B)) (i : ℕ)
+    (found more later : List (State A)) (s : State B) (copy : State A) → slice_get states i ≡ Some s → config_of copy ≡ config_of s
     → IsOneMore (configs_of found) (config_of copy) (configs_of more)
     → GivesUp calls newest bound (configs_of more) (configs_of later)
     → Closing calls newest (configs_of states) i (configs_of found)

@@ -105,8 +105,8 @@ few_found id calls others newest bound old found rest latest short closes apart 
 }
 
 -- as the code reads them
-pub few_read_found : {A : Type 0} (id : ℕ) (calls others newest first second also : List Call) (bound : ℕ)
-    (states found : List (State A)) → first ≡ others → second ≡ others → also ≡ newest
+pub few_read_found : {A B : Type 0} (id : ℕ) (calls others newest first second also : List Call) (bound : ℕ)
+    (states : List (State B)) (found : List (State A)) → first ≡ others → second ≡ others → also ≡ newest
     → ((c : Call) → IsIn others c ↔ (IsIn calls c × (c.id ≡ id → ⊥))) → HasNewest first newest
     → length found ≤ bound → Closes second also (configs_of states) (configs_of found) → AreDistinctPartners calls
     → AreFew id calls bound (configs_of states)

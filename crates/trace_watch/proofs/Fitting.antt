@@ -2,7 +2,7 @@
 use Rattle.std.proofs.Common.{◌≡◌, ◌≢◌, ◌⊎◌, inl, inr, ⊎_elim, ℕ, suc, ◌+◌, ◌≤◌, List, [], ◌∷◌, ◌++◌, length, Option, Some, None, refl, sym, ◌∙◌, ap, subst, arith, slice_get}
 use Rattle.std.proofs.Common.{append-nil}
 use Rattle.std.specs.List.{insert}
-use Rattle.std.specs.Prelude.{MatchOption, Vec, drop}
+use Rattle.std.specs.Prelude.{drop}
 use Rattle.std.proofs.lemmas.Bool.{cases_eq}
 use Rattle.trace_laws.specs.declared.event.Call.{Call}
 use Rattle.trace_laws.proofs.Lists.{get_append_left, get_push, get_push_cases, get_within}
@@ -104,24 +104,6 @@ fitting_all calls effects i taken all was = record {
   where
     end : drop i effects ≡ []
     end = drop_end effects i all
-
--- what is said of partners that are there, and where there are none
-pub partners_there : {A : Type 0} (calls : List Call) (effects : List Effect) (found : Option (Vec ℕ A)) (v : Vec ℕ A)
-    → found ≡ Some v
-    → MatchOption found (AreDistinctPartners calls → FitsPartner (IsIn calls) effects → ⊥)
-    (λ v. ArePartners calls effects v.items)
-    → ArePartners calls effects v.items
-partners_there {A} calls effects found v is told =
-    subst (λ (o : Option (Vec ℕ A)). MatchOption o (AreDistinctPartners calls → FitsPartner (IsIn calls) effects → ⊥)
-    (λ v. ArePartners calls effects v.items)) is told
-
-pub partners_none : {A : Type 0} (calls : List Call) (effects : List Effect) (found : Option (Vec ℕ A)) → found ≡ None
-    → MatchOption found (AreDistinctPartners calls → FitsPartner (IsIn calls) effects → ⊥)
-    (λ v. ArePartners calls effects v.items)
-    → AreDistinctPartners calls → FitsPartner (IsIn calls) effects → ⊥
-partners_none {A} calls effects found is told =
-    subst (λ (o : Option (Vec ℕ A)). MatchOption o (AreDistinctPartners calls → FitsPartner (IsIn calls) effects → ⊥)
-    (λ v. ArePartners calls effects v.items)) is told
 
 -- no effect more
 pub partners_fit : (calls : List Call) (effects : List Effect) (taken : List ℕ) → ArePartners calls effects taken

@@ -1,5 +1,6 @@
 -- The loops that gather the configurations after an answer.
-use Rattle.std.proofs.Common.{◌≡◌, ◌≢◌, ◌⊎◌, inl, inr, ◌↔◌, ⊎_elim, ℕ, ◌+◌, ◌<◌, ◌≤◌, List, [], length, Some, None, refl, sym, ◌∙◌, subst, arith, slice_get}
+use Rattle.std.proofs.Common.{◌≡◌, ◌≢◌, ◌⊎◌, inl, inr, ◌↔◌, ⊎_elim, ℕ, ◌+◌, ◌<◌, ◌≤◌, List, [], length, Some, None, refl, sym, ◌∙◌, ap, subst, arith, slice_get}
+use Rattle.std.specs.List.{remove}
 use Rattle.std.proofs.lemmas.Bool.{cases_eq}
 use Rattle.packet.specs.declared.kinds.Reply.{Reply}
 use Rattle.packet.specs.Memory.{new_word, reply_to}
@@ -9,13 +10,12 @@ use Rattle.trace_laws.specs.Configs.{IsIn}
 use Rattle.trace_watch.specs.declared.state.Effect.{Effect}
 use Rattle.trace_watch.specs.declared.state.State.{State}
 use Rattle.trace_watch.specs.declared.state.Glimpse.{Glimpse}
-use Rattle.trace_watch.specs.States.{Config, config_of, configs_of, less_one, taken}
-use Rattle.trace_watch.specs.Lowered.{IsLowered, MayFind}
+use Rattle.trace_watch.specs.States.{Config, config_of, configs_of, less_one, seen_by, taken}
+use Rattle.trace_watch.specs.Lowered.{AreLowered, AreLoweredGlimpses, IsLowered, MayFind}
 use Rattle.trace_watch.specs.Matchings.{AreDistinctPartners, FitsPartner, HasNewest, IsPart, MayBe}
 use Rattle.trace_watch.specs.Closed.{Closes, FromOne, Gathers, IsAmongLowered, IsAnsweredBy, IsClaimed, IsClaimedAt, IsIdleClaim, IsOneMore, IsTakenConfig, LoweredFrom, MayClaim}
 use Rattle.trace_watch.specs.Crowds.{IsOverfullCrowd}
 use Rattle.trace_watch.proofs.Grown.{get_config, goes_among, goes_more, goes_same, long_configs, more_among, more_from, more_goes}
-use Rattle.trace_watch.proofs.Loops.{fits_back, fits_read}
 
 -- nothing is of a kind
 pub gathers_nothing : (others : List Call) (Kind : Config → Type 0) (old : List Config)
@@ -49,24 +49,36 @@ claim_none others call reply s k e old there never =
     never (subst (λ (f : Effect). f.reply ≡ reply) same claims.2) (subst (λ (f : Effect). MayBe f call) same claims.3))
 
 -- the others are not enough without it
-pub claim_stuck : {A : Type 0} (others : List Call) (call : Call) (reply : Reply) (s less : State A) (k : ℕ)
-    (es : List Effect) (old : List Config) → config_of less ≡ less_one (config_of s) k → es ≡ less.effects.items
+pub claim_stuck : {A : Type 0} (others : List Call) (call : Call) (reply : Reply) (s : State A) (k : ℕ)
+    (es : List Effect) (old : List Config) → es ≡ remove s.effects.items k
     → (AreDistinctPartners others → FitsPartner (IsIn others) es → ⊥)
     → Gathers others (IsClaimedAt others call reply (config_of s) k) old old
-claim_stuck others call reply s less k es old is read never =
+claim_stuck others call reply s k es old is never =
     gathers_nothing others (IsClaimedAt others call reply (config_of s) k) old (λ apart d claims.
-    never apart (fits_back others (config_of less) (less_one (config_of s) k) es read is claims.4))
+    never apart (subst (λ (fs : List Effect). FitsPartner (IsIn others) fs) (sym is) claims.4))
+
+-- a configuration that is lowered, as the code reads it
+lowered_read : (others : List Call) (c low : Config) (word : ℕ) (es : List Effect) (gs : List Glimpse) → word ≡ c.word
+    → es ≡ c.effects → gs ≡ c.seen → IsLowered others (record { word = word; effects = es; seen = gs }) low
+    → IsLowered others c low
+lowered_read others c low word es gs w e g lowers = record {
+  word = lowers.word ∙ w;
+  effects = subst (λ (xs : List Effect). AreLowered others xs low.effects) e lowers.effects;
+  seen = subst (λ (xs : List Glimpse). AreLoweredGlimpses others xs low.seen) g lowers.seen;
+}
 
 -- they are
-pub claim_one : {A : Type 0} (others : List Call) (call : Call) (reply : Reply) (s less low : State A) (k : ℕ) (e : Effect)
-    (es : List Effect) (old new : List Config) → slice_get s.effects.items k ≡ Some e → e.reply ≡ reply → MayBe e call
-    → config_of less ≡ less_one (config_of s) k → es ≡ less.effects.items → FitsPartner (IsIn others) es
-    → IsLowered others (config_of less) (config_of low) → IsOneMore old (config_of low) new
-    → Gathers others (IsClaimedAt others call reply (config_of s) k) old new
-claim_one others call reply s less low k e es old new there told may is read fit lowers more =
+pub claim_one : {A B : Type 0} (others : List Call) (call : Call) (reply : Reply) (s : State B) (low : State A) (k : ℕ) (e : Effect)
+    (es fs : List Effect) (gs : List Glimpse) (old new : List Config) → slice_get s.effects.items k ≡ Some e
+    → e.reply ≡ reply → MayBe e call → es ≡ remove s.effects.items k → fs ≡ remove s.effects.items k
+    → gs ≡ s.seen.items → FitsPartner (IsIn others) es
+    → IsLowered others (record { word = s.word; effects = fs; seen = gs }) (config_of low)
+    → IsOneMore old (config_of low) new → Gathers others (IsClaimedAt others call reply (config_of s) k) old new
+claim_one others call reply s low k e es fs gs old new there told may is also saw fit lowers more =
     gathers_one others (IsClaimedAt others call reply (config_of s) k) old new (less_one (config_of s) k) (config_of low)
-    (e, there, told, may, fits_read others (config_of less) (less_one (config_of s) k) es read is fit, refl)
-    (λ d claims. sym claims.5) (subst (λ (c : Config). IsLowered others c (config_of low)) is lowers) more
+    (e, there, told, may, subst (λ (xs : List Effect). FitsPartner (IsIn others) xs) is fit, refl)
+    (λ d claims. sym claims.5)
+    (lowered_read others (less_one (config_of s) k) (config_of low) s.word fs gs refl also saw lowers) more
 
 -- no word that was there may have been found
 pub found_none : {A : Type 0} (others : List Call) (call : Call) (reply : Reply) (s : State A) (seen : List Glimpse)
@@ -86,20 +98,22 @@ found_stuck others call reply s es old read never =
     never apart (subst (λ (fs : List Effect). FitsPartner (IsIn others) fs) (sym read) claims.4))
 
 -- one may
-pub found_one : {A : Type 0} (others : List Call) (call : Call) (reply : Reply) (s low : State A) (seen : List Glimpse)
-    (es : List Effect) (old new : List Config) → seen ≡ s.seen.items
+pub found_one : {A B : Type 0} (others : List Call) (call : Call) (reply : Reply) (s : State B) (low : State A)
+    (seen gs : List Glimpse) (es fs : List Effect) (old new : List Config) → seen ≡ s.seen.items
     → ((g : Glimpse) × IsIn seen g × MayFind g call × (reply_to call.operation.op g.word ≡ reply))
-    → es ≡ s.effects.items → FitsPartner (IsIn others) es → IsLowered others (config_of s) (config_of low)
+    → es ≡ s.effects.items → FitsPartner (IsIn others) es → fs ≡ s.effects.items → gs ≡ s.seen.items
+    → IsLowered others (record { word = s.word; effects = fs; seen = gs }) (config_of low)
     → IsOneMore old (config_of low) new → Gathers others (IsIdleClaim others call reply (config_of s)) old new
-found_one others call reply s low seen es old new saw has read fit lowers more =
+found_one others call reply s low seen gs es fs old new saw has read fit also alike lowers more =
     gathers_one others (IsIdleClaim others call reply (config_of s)) old new (config_of s) (config_of low) (
       has.0,
-      subst (λ (gs : List Glimpse). IsIn gs has.0) saw has.1,
+      subst (λ (xs : List Glimpse). IsIn xs has.0) saw has.1,
       has.2,
       has.3,
-      subst (λ (fs : List Effect). FitsPartner (IsIn others) fs) read fit,
+      subst (λ (xs : List Effect). FitsPartner (IsIn others) xs) read fit,
       refl,
-    ) (λ d claims. sym claims.5) lowers more
+    ) (λ d claims. sym claims.5)
+    (lowered_read others (config_of s) (config_of low) s.word fs gs refl also alike lowers) more
 
 -- the answered operation takes effect with another reply
 pub take_none : {A : Type 0} (others : List Call) (call : Call) (reply told : Reply) (s : State A) (old : List Config)
@@ -117,17 +131,18 @@ take_stuck others call reply s es old read never =
     never apart (subst (λ (fs : List Effect). FitsPartner (IsIn others) fs) (sym read) takes.1))
 
 -- they are
-pub take_one : {A : Type 0} (others : List Call) (call : Call) (reply told : Reply) (word : ℕ) (s next low : State A)
-    (es : List Effect) (old new : List Config) → word ≡ new_word call.operation.op s.word
-    → told ≡ reply_to call.operation.op s.word → told ≡ reply
-    → ((c : Call) → word ≡ new_word c.operation.op s.word → config_of next ≡ taken others (config_of s) c)
-    → es ≡ s.effects.items → FitsPartner (IsIn others) es → IsLowered others (config_of next) (config_of low)
+pub take_one : {A : Type 0} (others : List Call) (call : Call) (reply told : Reply) (word : ℕ) (s low : State A)
+    (es fs : List Effect) (gs : List Glimpse) (old new : List Config) → word ≡ new_word call.operation.op s.word
+    → told ≡ reply_to call.operation.op s.word → told ≡ reply → es ≡ s.effects.items → FitsPartner (IsIn others) es
+    → fs ≡ s.effects.items → gs ≡ seen_by others (config_of s) word
+    → IsLowered others (record { word = word; effects = fs; seen = gs }) (config_of low)
     → IsOneMore old (config_of low) new → Gathers others (IsTakenConfig others call reply (config_of s)) old new
-take_one others call reply told word s next low es old new left is same made read fit lowers more =
+take_one others call reply told word s low es fs gs old new left is same read fit also saw lowers more =
     gathers_one others (IsTakenConfig others call reply (config_of s)) old new (taken others (config_of s) call) (config_of low)
-    (sym is ∙ same, subst (λ (fs : List Effect). FitsPartner (IsIn others) fs) read fit, refl)
+    (sym is ∙ same, subst (λ (xs : List Effect). FitsPartner (IsIn others) xs) read fit, refl)
     (λ c takes. sym takes.2)
-    (subst (λ (c : Config). IsLowered others c (config_of low)) (made call left) lowers) more
+    (lowered_read others (taken others (config_of s) call) (config_of low) word fs gs left also
+    (saw ∙ ap (λ (w : ℕ). seen_by others (config_of s) w) left) lowers) more
 
 -- two kinds one after the other
 pub gathers_both : (others : List Call) (Kind Other : Config → Type 0) (old new later : List Config)
@@ -226,15 +241,15 @@ each_effect others call reply c i old new all was =
     (k.0, omega arith, k.1)) was
 
 -- both gather the configurations after the answer, as the code reads the others and what was found
-pub answered_by : {A : Type 0} (call : Call) (reply : Reply) (calls others newest : List Call)
-    (first second third fourth also : List Call) (states found read none gained kept : List (State A))
+pub answered_by : {A B : Type 0} (call : Call) (reply : Reply) (calls others newest : List Call)
+    (first second third fourth also : List Call) (states : List (State B)) (found read none gained kept : List (State A))
     → first ≡ others → second ≡ others → third ≡ others → fourth ≡ others → also ≡ newest → read ≡ found → none ≡ []
     → ((c : Call) → IsIn others c ↔ (IsIn calls c × (c.id ≡ call.id → ⊥))) → HasNewest first newest
     → Closes second also (configs_of states) (configs_of found)
     → Gathers third (FromOne (configs_of read) (IsTakenConfig third call reply)) (configs_of none) (configs_of gained)
     → Gathers fourth (FromOne (configs_of states) (MayClaim fourth call reply)) (configs_of gained) (configs_of kept)
     → IsAnsweredBy call reply calls (configs_of states) (configs_of kept)
-answered_by {A} call reply calls others newest first second third fourth also states found read none gained kept a b t f n r
+answered_by {A} {B} call reply calls others newest first second third fourth also states found read none gained kept a b t f n r
     z rest latest closes takes claims =
     let by_others : Gathers others (FromOne (configs_of read) (IsTakenConfig others call reply)) (configs_of none)
     (configs_of gained) = subst (λ (os : List Call). Gathers os (FromOne (configs_of read) (IsTakenConfig os call reply))

@@ -18,6 +18,7 @@ pub mod Growth
 pub mod Gathering
 pub mod Fitting
 pub mod Newest
+pub mod Alone
 pub mod Loops
 pub mod Beginning
 pub mod Watching

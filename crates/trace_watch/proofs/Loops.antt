@@ -6,7 +6,7 @@ use Rattle.trace_laws.specs.Configs.{IsIn, GoesOn}
 use Rattle.trace_watch.specs.declared.state.Effect.{Effect}
 use Rattle.trace_watch.specs.declared.state.State.{State}
 use Rattle.trace_watch.specs.States.{Config, after, changed, config_of, configs_of, effect_of, is_idle, spot}
-use Rattle.trace_watch.specs.Matchings.{AreDistinctPartners, ArePartners, FitsPartner, IsNewestOf, MayStillBe}
+use Rattle.trace_watch.specs.Matchings.{AreDistinctPartners, ArePartners, FitsPartner, MayStillBe}
 use Rattle.trace_watch.specs.Closed.{CatchesUp, Closes, Expands, IsOneMore}
 use Rattle.trace_watch.proofs.Fitting.{partners_end, partners_more}
 use Rattle.trace_watch.proofs.Grown.{get_config, goes_back, goes_same, long_configs}
@@ -22,19 +22,6 @@ pub config_at : {A : Type 0} (states : List (State A)) (k : ℕ) (s : State A) (
     → slice_get states k ≡ Some s → slice_get (configs_of states) k ≡ Some c → config_of s ≡ c
 config_at states k s c there is = let e = get_config states k s there in cc
 
--- the effects of a state, as the code reads them
-pub fits_read : (calls : List Call) (c d : Config) (es : List Effect) → es ≡ c.effects → c ≡ d
-    → FitsPartner (IsIn calls) es → FitsPartner (IsIn calls) d.effects
-fits_read calls c d es read same fit =
-    subst (λ (f : Config). FitsPartner (IsIn calls) f.effects) same
-    (subst (λ (fs : List Effect). FitsPartner (IsIn calls) fs) read fit)
-
-pub fits_back : (calls : List Call) (c d : Config) (es : List Effect) → es ≡ c.effects → c ≡ d
-    → FitsPartner (IsIn calls) d.effects → FitsPartner (IsIn calls) es
-fits_back calls c d es read same fit =
-    subst (λ (fs : List Effect). FitsPartner (IsIn calls) fs) (sym read)
-    (subst (λ (f : Config). FitsPartner (IsIn calls) f.effects) (sym same) fit)
-
 pub attempt_idle : {A : Type 0} (at : ℕ) (calls : List Call) (call : Call) (found : List (State A)) (s : State A)
     → slice_get found at ≡ Some s → true ≡ is_idle call.operation.op s.word
     → Expands at calls (call ∷ []) (configs_of found) (configs_of found)
@@ -45,26 +32,26 @@ attempt_idle at calls call found s there idle =
 pub attempt_none : {A : Type 0} (at : ℕ) (calls : List Call) (call : Call) (taken : List ℕ) (found : List (State A))
     (s : State A) (e : Effect) → slice_get found at ≡ Some s → false ≡ is_idle call.operation.op s.word
     → e ≡ effect_of (config_of s) call → ArePartners calls s.effects.items taken
-    → ((k : ℕ) (c : Call) → slice_get calls k ≡ Some c → MayStillBe taken e c → ⊥)
+    → ((c : Call) → IsIn calls c → MayStillBe taken e c → ⊥)
     → Expands at calls (call ∷ []) (configs_of found) (configs_of found)
 attempt_none at calls call taken found s e there moves made are none =
     expands_nothing at calls call (configs_of found) (config_of s) (get_config found at s there) (sym moves)
     (λ apart fit. partners_end calls s.effects.items taken (spot s.effects.items (effect_of (config_of s) call))
     (effect_of (config_of s) call) are
-    (λ c on may. none on.0 c on.1 (subst (λ (f : Effect). MayStillBe taken f c) (sym made) may)) apart fit)
+    (λ c on may. none c on (subst (λ (f : Effect). MayStillBe taken f c) (sym made) may)) apart fit)
 
 -- one is
-pub attempt_new : {A : Type 0} (at : ℕ) (calls read : List Call) (call p : Call) (taken : List ℕ)
+pub attempt_new : {A : Type 0} (at : ℕ) (calls read : List Call) (call : Call) (taken : List ℕ)
     (found later : List (State A)) (s next : State A) (e : Effect) → slice_get found at ≡ Some s
     → false ≡ is_idle call.operation.op s.word → e ≡ effect_of (config_of s) call
-    → ArePartners calls s.effects.items taken → IsNewestOf calls (MayStillBe taken e) p → read ≡ calls
+    → ArePartners calls s.effects.items taken → ((p : Call) × IsIn calls p × MayStillBe taken e p) → read ≡ calls
     → config_of next ≡ changed read (config_of s) call
     → IsOneMore (configs_of found) (config_of next) (configs_of later)
     → Expands at calls (call ∷ []) (configs_of found) (configs_of later)
-attempt_new at calls read call p taken found later s next e there moves made are best same is more =
+attempt_new at calls read call taken found later s next e there moves made are left same is more =
     expands_one at calls call (configs_of found) (configs_of later) (config_of s) (get_config found at s there) (sym moves)
     (partners_more calls s.effects.items taken (spot s.effects.items (effect_of (config_of s) call))
-    (effect_of (config_of s) call) p are best.on (subst (λ (f : Effect). MayStillBe taken f p) made best.may))
+    (effect_of (config_of s) call) left.0 are left.1 (subst (λ (f : Effect). MayStillBe taken f left.0) made left.2))
     (subst (λ (c : Config). IsOneMore (configs_of found) c (configs_of later))
     (is ∙ ap (λ (cs : List Call). changed cs (config_of s) call) same) more)
 
@@ -117,8 +104,8 @@ pub catch_all : {A : Type 0} (from : ℕ) (calls newest : List Call) (begun : Li
 catch_all from calls newest begun next found all was =
     catching_all from calls newest begun next (configs_of found) (let e = long_configs found in omega arith) was
 
-pub close_more : {A : Type 0} (calls newest : List Call) (states : List (State A)) (i from : ℕ)
-    (found more later : List (State A)) (s copy : State A) → from ≡ length found → slice_get states i ≡ Some s
+pub close_more : {A B : Type 0} (calls newest : List Call) (states : List (State B)) (i from : ℕ)
+    (found more later : List (State A)) (s : State B) (copy : State A) → from ≡ length found → slice_get states i ≡ Some s
     → config_of copy ≡ config_of s → IsOneMore (configs_of found) (config_of copy) (configs_of more)
     → CatchesUp from calls newest (configs_of more) (configs_of later)
     → Closing calls newest (configs_of states) i (configs_of found)
@@ -129,7 +116,7 @@ close_more calls newest states i from found more later s copy long there same on
     (subst (λ (n : ℕ). CatchesUp n calls newest (configs_of more) (configs_of later))
     (long ∙ sym (long_configs found)) next) was
 
-pub close_all : {A : Type 0} (calls newest : List Call) (states : List (State A)) (i : ℕ) (found : List (State A))
+pub close_all : {A B : Type 0} (calls newest : List Call) (states : List (State B)) (i : ℕ) (found : List (State A))
     → length states ≤ i → Closing calls newest (configs_of states) i (configs_of found)
     → Closes calls newest (configs_of states) (configs_of found)
 close_all calls newest states i found all was =

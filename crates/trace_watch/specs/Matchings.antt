@@ -1,5 +1,6 @@
 -- Which open operations effects may be of.
-use Rattle.std.specs.Prelude.{◌≡◌, ◌⊎◌, ◌≤◌, ℕ, List, [], ◌∷◌, ◌++◌, Option, Some, slice_get}
+use Rattle.std.specs.Prelude.{◌≡◌, ◌⊎◌, ◌≤◌, ℕ, Bool, true, false, List, [], ◌∷◌, ◌++◌, Option, Some, length, slice_get}
+use Rattle.packet.specs.declared.kinds.Op.{Op}
 use Rattle.trace_laws.specs.declared.event.Call.{Call}
 use Rattle.trace_laws.specs.Configs.{IsIn}
 use Rattle.trace_watch.specs.declared.state.Effect.{Effect}
@@ -65,6 +66,23 @@ HasAsNew calls call = (d : Call) × IsIn calls d × (d.operation.op ≡ call.ope
 pub record HasNewest (calls newest : List Call) : Type 0 where
   pub from : (c : Call) → IsIn newest c → IsIn calls c
   pub all : (c : Call) → IsIn calls c → HasAsNew newest c
+
+-- an effect's bound is the number of one of these operations, which asks the same
+abbrev pub HasBound : List Call → Effect → Type 0
+HasBound calls e = (call : Call) × IsIn calls call × (call.operation.op ≡ e.op)
+    × (call.id ≡ e.newest)
+
+-- whichever of these operations asks this has this number
+abbrev pub IsAlone : List Call → Op → ℕ → Type 0
+IsAlone calls op id = (call : Call) → IsIn calls call → call.operation.op ≡ op → call.id ≡ id
+
+-- of each of the newest operations it is told whether no other asks the same
+pub record AreToldAlone (calls newest : List Call) (alone : List Bool) : Type 0 where
+  pub long : length alone ≡ length newest
+  pub yes : (i : ℕ) (call : Call) → slice_get newest i ≡ Some call → slice_get alone i ≡ Some true
+      → IsAlone calls call.operation.op call.id
+  pub no : (i : ℕ) (call : Call) → slice_get newest i ≡ Some call → slice_get alone i ≡ Some false
+      → IsAlone calls call.operation.op call.id → ⊥
 
 -- each of these is one of those
 abbrev pub IsPart : List Call → List Call → Type 0

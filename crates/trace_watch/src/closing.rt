@@ -1,17 +1,18 @@
 //! Lets open operations take effect.
 
 ghost use Rattle.std.specs.Prelude.{◌≡◌, ◌<◌, ◌≤◌, ℕ, List, [], ◌∷◌, ◌++◌, IfErr, IfOk, OnOk, Some};
-ghost use Rattle.std.specs.Prelude.{length, max, slice_get};
+ghost use Rattle.std.specs.Prelude.{length, max, slice_get, true};
 ghost use Rattle.trace_laws.specs.declared.event.Call.{Call};
 ghost use Rattle.trace_watch.specs.States.{Config, config_of, configs_of};
 ghost use Rattle.trace_watch.specs.declared.watch.Full.TheVariants.{Configurations};
 ghost use Rattle.trace_watch.specs.Chains.{IsIndexed};
 ghost use Rattle.trace_watch.specs.Crowds.{GivesUp, IsOpenCrowd, IsOverfullCrowd};
-ghost use Rattle.trace_watch.specs.Matchings.{ArePartners, IsPart};
+ghost use Rattle.trace_laws.specs.Configs.{IsIn};
+ghost use Rattle.trace_watch.specs.Matchings.{ArePartners, AreToldAlone, HasNewest, IsAlone, IsPart};
 ghost use Rattle.trace_watch.specs.Closed.{CatchesUp, Closes, Expands, IsOneMore};
 
 use crate::index::{Index, widen};
-use crate::matching::{newest_left, partners};
+use crate::matching::{is_left, partners};
 use crate::state::{State, changed, copy_of, effect_of, is_idle};
 use crate::watch::Full;
 use std::alloc::{AllocError, Allocator};
@@ -78,10 +79,13 @@ fn attempt<A: Allocator + Copy>(
     calls: &[Call],
     taken: &[u64],
     call: Call,
+    is_alone: bool,
     bound: usize,
 ) -> Result<(), Full>
     requires inside { at < length found.old.items }
     requires indexed { IsIndexed index.old (configs_of found.old.items) }
+    requires open { IsIn calls.now call }
+    requires alone { is_alone ≡ true → IsAlone calls.now call.operation.op call.id }
     requires partners { (c : Config) → slice_get (configs_of found.old.items) at ≡ Some c
         → ArePartners calls.now c.effects taken.now }
     ensures expands { OnOk result (Expands at calls.now (call ∷ [])
@@ -95,9 +99,9 @@ fn attempt<A: Allocator + Copy>(
     if is_idle(call.operation.op, state.word) {
         return Ok(());
     }
-    let Some(_) = newest_left(calls, taken, effect_of(state, call)) else {
+    if !is_left(calls, taken, effect_of(state, call), is_alone) {
         return Ok(());
-    };
+    }
     let next = changed(alloc, state, calls, call)?;
     add_within(found, index, next, bound)?;
     Ok(())
@@ -111,10 +115,14 @@ fn expand<A: Allocator + Copy>(
     at: usize,
     calls: &[Call],
     newest: &[Call],
+    alone: &[bool],
+    taken: &mut Vec<u64, A>,
     bound: usize,
 ) -> Result<(), Full>
     requires inside { at < length found.old.items }
     requires indexed { IsIndexed index.old (configs_of found.old.items) }
+    requires latest { HasNewest calls.now newest.now }
+    requires alone { AreToldAlone calls.now newest.now alone.now }
     ensures expands { OnOk result (Expands at calls.now newest.now
         (configs_of found.old.items) (configs_of found.new.items)) }
     ensures full { IfErr result (λ full. full ≡ Configurations → GivesUp calls.now newest.now bound
@@ -122,11 +130,14 @@ fn expand<A: Allocator + Copy>(
     ensures few { OnOk result (length found.new.items ≤ max bound (length found.old.items)) }
     ensures indexed { OnOk result (IsIndexed index.new (configs_of found.new.items)) }
 {
-    let Some(taken) = partners(alloc, calls, &found[at].effects)? else {
+    let enough = partners(calls, &found[at].effects, taken)?;
+    if !enough {
         return Ok(());
-    };
+    }
     for i in 0..newest.len() {
-        attempt(alloc, found, index, at, calls, &taken, newest[i], bound)?;
+        attempt(
+            alloc, found, index, at, calls, taken, newest[i], alone[i], bound,
+        )?;
     }
     Ok(())
 }
@@ -139,10 +150,14 @@ fn catch_up<A: Allocator + Copy>(
     from: usize,
     calls: &[Call],
     newest: &[Call],
+    alone: &[bool],
+    taken: &mut Vec<u64, A>,
     bound: usize,
 ) -> Result<(), Full>
     requires inside { from ≤ length found.old.items }
     requires indexed { IsIndexed index.old (configs_of found.old.items) }
+    requires latest { HasNewest calls.now newest.now }
+    requires alone { AreToldAlone calls.now newest.now alone.now }
     ensures expands { OnOk result (CatchesUp from calls.now newest.now
         (configs_of found.old.items) (configs_of found.new.items)) }
     ensures full { IfErr result (λ full. full ≡ Configurations → GivesUp calls.now newest.now bound
@@ -155,22 +170,27 @@ fn catch_up<A: Allocator + Copy>(
             return Ok(());
         }
         widen(alloc, index, found)?;
-        expand(alloc, found, index, next, calls, newest, bound)?;
+        expand(
+            alloc, found, index, next, calls, newest, alone, taken, bound,
+        )?;
     }
     // No memory has room for so many.
     Err(Full::Memory)
 }
 
 /// The states that these operations lead to, of which the newest ones that ask the same are told.
-pub(crate) fn close<A: Allocator + Copy>(
+pub(crate) fn close<A: Allocator + Copy, B: Allocator>(
     alloc: A,
-    states: &[State<A>],
+    states: &[State<B>],
     index: &mut Index<A>,
     calls: &[Call],
     newest: &[Call],
+    alone: &[bool],
     bound: usize,
 ) -> Result<Vec<State<A>, A>, Full>
-    requires { IsIndexed index.old [] }
+    requires indexed { IsIndexed index.old [] }
+    requires latest { HasNewest calls.now newest.now }
+    requires alone { AreToldAlone calls.now newest.now alone.now }
     ensures closes { IfOk result (λ v. Closes calls.now newest.now (configs_of states.now)
         (configs_of v.items)) }
     ensures full { IfErr result (λ full. full ≡ Configurations → (all : List Call)
@@ -179,11 +199,14 @@ pub(crate) fn close<A: Allocator + Copy>(
     ensures few { IfOk result (λ v. length v.items ≤ bound) }
 {
     let mut found = Vec::new(alloc);
+    let mut taken = Vec::new(alloc);
     for i in 0..states.len() {
         let from = found.len();
         let copy = copy_of(alloc, &states[i])?;
         add_within(&mut found, index, copy, bound)?;
-        catch_up(alloc, &mut found, index, from, calls, newest, bound)?;
+        catch_up(
+            alloc, &mut found, index, from, calls, newest, alone, &mut taken, bound,
+        )?;
     }
     Ok(found)
 }

@@ -11,13 +11,13 @@ use crate::watch::Watch;
 use std::alloc::{AllocError, Allocator};
 
 /// A copy of what may have become of a word.
-fn states_copied<A: Allocator + Copy>(
+pub(crate) fn states_copied<A: Allocator + Copy, B: Allocator>(
     alloc: A,
-    states: &[State<A>],
+    states: &[State<B>],
 ) -> Result<Vec<State<A>, A>, AllocError>
     ensures { IfOk result (λ v. configs_of v.items ≡ configs_of states.now) }
 {
-    let mut copies = Vec::new(alloc);
+    let mut copies = Vec::with_capacity(alloc, states.len())?;
     for i in 0..states.len() {
         copies.push(copy_of(alloc, &states[i])?)?;
     }

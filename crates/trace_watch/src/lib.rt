@@ -3,6 +3,7 @@
 //! open operations that ask the same are counted, and not named.
 #![tactic(auto)]
 
+mod arena;
 mod closing;
 pub mod copying;
 mod glimpses;

@@ -9,6 +9,7 @@ ghost use Rattle.trace_watch.specs.Matchings.{IsNewestOf};
 
 use crate::glimpses::has_glimpse;
 use crate::matching::{newer, newest_of};
+use crate::pending::call_of;
 use crate::state::{Effect, Glimpse, State, is_idle};
 use std::alloc::{AllocError, Allocator};
 use trace_laws::Call;
@@ -53,8 +54,8 @@ pub(crate) fn may_find(glimpse: Glimpse, call: Call) -> bool
     is_idle(call.operation.op, glimpse.word) && call.id <= glimpse.newest
 }
 
-/// Of some operations the newest one that may have found the word of a glimpse.
-fn newest_finder(calls: &[Call], glimpse: Glimpse) -> Option<Call>
+/// The newest of some operations that may have found the word of a glimpse: each is looked at.
+fn finder_among(calls: &[Call], glimpse: Glimpse) -> Option<Call>
     ensures { MatchOption result
         ((k : ℕ) (c : Call) → slice_get calls.now k ≡ Some c → MayFind glimpse c → ⊥)
         (λ c. IsNewestOf calls.now (MayFind glimpse) c) }
@@ -67,6 +68,18 @@ fn newest_finder(calls: &[Call], glimpse: Glimpse) -> Option<Call>
         }
     }
     newest
+}
+
+/// The newest of some operations that may have found the word of a glimpse: mostly its bound is the number of one.
+fn newest_finder(calls: &[Call], glimpse: Glimpse) -> Option<Call>
+    ensures { MatchOption result
+        ((k : ℕ) (c : Call) → slice_get calls.now k ≡ Some c → MayFind glimpse c → ⊥)
+        (λ c. IsNewestOf calls.now (MayFind glimpse) c) }
+{
+    match call_of(calls, glimpse.newest) {
+        Some(call) if may_find(glimpse, call) => Some(call),
+        _ => finder_among(calls, glimpse),
+    }
 }
 
 /// Keeps a glimpse with its bound lowered, where an open operation may have found its word.
@@ -106,17 +119,20 @@ fn lowered_seen<A: Allocator>(
     Ok(lowered)
 }
 
-/// The state with each bound lowered to the newest of these operations.
+/// The state of these effects and glimpses, with each bound lowered to the newest of these operations.
 pub(crate) fn lowered<A: Allocator + Copy>(
     alloc: A,
     calls: &[Call],
-    state: &State<A>,
+    word: u64,
+    effects: &[Effect],
+    seen: &[Glimpse],
 ) -> Result<State<A>, AllocError>
-    ensures { IfOk result (λ s. IsLowered calls.now (config_of state.now) (config_of s)) }
+    ensures { IfOk result (λ s. IsLowered calls.now
+        (record { word = word; effects = effects.now; seen = seen.now }) (config_of s)) }
 {
     Ok(State {
-        word: state.word,
-        effects: lowered_effects(alloc, calls, &state.effects)?,
-        seen: lowered_seen(alloc, calls, &state.seen)?,
+        word,
+        effects: lowered_effects(alloc, calls, effects)?,
+        seen: lowered_seen(alloc, calls, seen)?,
     })
 }

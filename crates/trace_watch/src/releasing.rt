@@ -13,11 +13,12 @@ ghost use Rattle.trace_watch.specs.Closed.{FromOne, Gathers, IsAnsweredBy, IsCla
 ghost use Rattle.trace_watch.specs.Closed.{IsIdleClaim, IsTakenConfig, MayClaim};
 
 use crate::closing::{add, close};
+use crate::glimpses::seen_by;
 use crate::index::{Index, empty_index, widen};
 use crate::lowering::{lowered, may_find};
-use crate::matching::{fits, may_be, newest_of_each};
+use crate::matching::{alone_of_each, fits, may_be, newest_of_each};
 use crate::pending::without_call;
-use crate::state::{Effect, Glimpse, State, taken, without};
+use crate::state::{Effect, Glimpse, State, effects_without};
 use crate::watch::Full;
 use packet::{Reply, apply};
 use std::alloc::{AllocError, Allocator};
@@ -40,9 +41,9 @@ fn may_reply(effect: Effect, call: Call, reply: Reply) -> bool
 }
 
 /// The state without the effect at this place, where it may be of the answered operation.
-fn claim<A: Allocator + Copy>(
+fn claim<A: Allocator + Copy, B: Allocator>(
     alloc: A,
-    state: &State<A>,
+    state: &State<B>,
     at: usize,
     calls: &[Call],
     call: Call,
@@ -61,20 +62,20 @@ fn claim<A: Allocator + Copy>(
     if !may_reply(effect, call, reply) {
         return Ok(());
     }
-    let less = without(alloc, state, at)?;
-    let enough = fits(alloc, calls, &less.effects)?;
+    let less = effects_without(alloc, &state.effects, at)?;
+    let enough = fits(alloc, calls, &less)?;
     if !enough {
         return Ok(());
     }
-    let low = lowered(alloc, calls, &less)?;
+    let low = lowered(alloc, calls, state.word, &less, &state.seen)?;
     add(kept, index, low)?;
     Ok(())
 }
 
 /// The states without an effect each that may be of the answered operation.
-fn claim_each<A: Allocator + Copy>(
+fn claim_each<A: Allocator + Copy, B: Allocator>(
     alloc: A,
-    state: &State<A>,
+    state: &State<B>,
     calls: &[Call],
     call: Call,
     reply: Reply,
@@ -120,9 +121,9 @@ fn has_found(seen: &[Glimpse], call: Call, reply: Reply) -> bool
 }
 
 /// The state, where the answered operation may have found a word that was there.
-fn claim_idle<A: Allocator + Copy>(
+fn claim_idle<A: Allocator + Copy, B: Allocator>(
     alloc: A,
-    state: &State<A>,
+    state: &State<B>,
     calls: &[Call],
     call: Call,
     reply: Reply,
@@ -142,15 +143,15 @@ fn claim_idle<A: Allocator + Copy>(
     if !enough {
         return Ok(());
     }
-    let low = lowered(alloc, calls, state)?;
+    let low = lowered(alloc, calls, state.word, &state.effects, &state.seen)?;
     add(kept, index, low)?;
     Ok(())
 }
 
 /// The states in which the answered operation may have taken effect.
-fn claim_all<A: Allocator + Copy>(
+fn claim_all<A: Allocator + Copy, B: Allocator>(
     alloc: A,
-    state: &State<A>,
+    state: &State<B>,
     calls: &[Call],
     call: Call,
     reply: Reply,
@@ -169,9 +170,9 @@ fn claim_all<A: Allocator + Copy>(
 }
 
 /// Those of some states that the answered operation has taken effect in.
-fn claims<A: Allocator + Copy>(
+fn claims<A: Allocator + Copy, B: Allocator>(
     alloc: A,
-    states: &[State<A>],
+    states: &[State<B>],
     calls: &[Call],
     call: Call,
     reply: Reply,
@@ -215,8 +216,8 @@ fn take<A: Allocator + Copy>(
     if !enough {
         return Ok(());
     }
-    let next = taken(alloc, state, calls, word)?;
-    let low = lowered(alloc, calls, &next)?;
+    let seen = seen_by(alloc, calls, state, word)?;
+    let low = lowered(alloc, calls, word, &state.effects, &seen)?;
     add(kept, index, low)?;
     Ok(())
 }
@@ -244,10 +245,10 @@ fn takes<A: Allocator + Copy>(
     Ok(())
 }
 
-/// The states of a word after one of its open operations was answered so.
-pub(crate) fn answered<A: Allocator + Copy>(
+/// The states of a word after one of its open operations was answered so, where these are its states before.
+pub(crate) fn gathered<A: Allocator + Copy, B: Allocator>(
     alloc: A,
-    states: &[State<A>],
+    states: &[State<B>],
     calls: &[Call],
     call: Call,
     reply: Reply,
@@ -262,8 +263,9 @@ pub(crate) fn answered<A: Allocator + Copy>(
 {
     let others = without_call(alloc, calls, call.id)?;
     let newest = newest_of_each(alloc, &others)?;
+    let alone = alone_of_each(alloc, &others, &newest)?;
     let mut index = empty_index(alloc)?;
-    let found = close(alloc, states, &mut index, &others, &newest, bound)?;
+    let found = close(alloc, states, &mut index, &others, &newest, &alone, bound)?;
     let mut kept = Vec::new(alloc);
     let mut kept_index = empty_index(alloc)?;
     takes(

@@ -2,8 +2,7 @@
 
 ghost use Rattle.std.specs.Prelude.{◌≡◌, ◌<◌, ◌≤◌, ◌++◌, ◌∷◌, [], ℕ, List, Some, true, false, IfOk, length, slice_get};
 ghost use Rattle.std.specs.List.{insert, remove};
-ghost use Rattle.packet.specs.Memory.{new_word};
-ghost use Rattle.trace_watch.specs.States.{AreCovered, Covers, changed, config_of, effect_of, is_idle, less_one, taken};
+ghost use Rattle.trace_watch.specs.States.{AreCovered, Covers, changed, config_of, effect_of, is_idle};
 ghost use Rattle.trace_watch.specs.States.{first_value, is_before, rank, second_value, spot, told_word};
 
 use crate::glimpses::{are_seen, seen_by};
@@ -175,9 +174,9 @@ fn effects_with<A: Allocator>(
 }
 
 /// A copy of a state.
-pub(crate) fn copy_of<A: Allocator + Copy>(
+pub(crate) fn copy_of<A: Allocator + Copy, B: Allocator>(
     alloc: A,
-    state: &State<A>,
+    state: &State<B>,
 ) -> Result<State<A>, AllocError>
     ensures { IfOk result (λ s. config_of s ≡ config_of state.now) }
 {
@@ -227,37 +226,16 @@ pub(crate) fn changed<A: Allocator + Copy>(
     })
 }
 
-/// The state after the answered operation took effect, while these others are open.
-pub(crate) fn taken<A: Allocator + Copy>(
+/// The effects but for the one at this place.
+pub(crate) fn effects_without<A: Allocator>(
     alloc: A,
-    state: &State<A>,
-    calls: &[Call],
-    word: u64,
-) -> Result<State<A>, AllocError>
-    ensures { IfOk result (λ s. (call : Call) → word ≡ new_word call.operation.op state.now.word
-        → config_of s ≡ taken calls.now (config_of state.now) call) }
-{
-    Ok(State {
-        word,
-        effects: Vec::from_slice(alloc, &state.effects)?,
-        seen: seen_by(alloc, calls, state, word)?,
-    })
-}
-
-/// The state without the effect at this place.
-pub(crate) fn without<A: Allocator + Copy>(
-    alloc: A,
-    state: &State<A>,
+    effects: &[Effect],
     at: usize,
-) -> Result<State<A>, AllocError>
-    requires { at < length state.now.effects.items }
-    ensures { IfOk result (λ s. config_of s ≡ less_one (config_of state.now) at) }
+) -> Result<Vec<Effect, A>, AllocError>
+    requires { at < length effects.now }
+    ensures { IfOk result (λ v. v.items ≡ remove effects.now at) }
 {
-    let mut effects = Vec::from_slice(alloc, &state.effects)?;
-    effects.remove(at);
-    Ok(State {
-        word: state.word,
-        effects,
-        seen: Vec::from_slice(alloc, &state.seen)?,
-    })
+    let mut less = Vec::from_slice(alloc, effects)?;
+    less.remove(at);
+    Ok(less)
 }

@@ -8,8 +8,8 @@ ghost use Rattle.trace_watch.specs.declared.watch.Full.TheVariants.{Memory};
 ghost use Rattle.trace_watch.specs.Follows.{AnswersFew, Tracks, TellsFull, TellsSeen, states_of};
 ghost use Rattle.trace_watch.specs.States.{configs_of};
 
+use crate::arena::answered;
 use crate::pending::{call_of, calls_on, with_call, without_call};
-use crate::releasing::answered;
 use crate::state::State;
 use packet::Reply;
 use std::alloc::{AllocError, Allocator};

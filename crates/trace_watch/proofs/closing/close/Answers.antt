@@ -1,10 +1,11 @@
 use Rattle.std.proofs.Common.{◌<◌, List, length, sym, ap, subst, arith}
 use Rattle.std.proofs.lemmas.Result.{err_from_is_err_and}
 use Rattle.trace_watch.specs.declared.state.State.{State}
-use Rattle.trace_watch.specs.States.{configs_of}
+use Rattle.trace_watch.specs.States.{config_of, configs_of}
 use Rattle.trace_watch.specs.Chains.{IsIndexed}
 use Rattle.trace_watch.proofs.Crowding.{add_overfull, close_overfull}
-use Rattle.trace_watch.proofs.Growth.{Closing, closing_none}
+use Rattle.trace_watch.proofs.Grown.{long_configs, more_goes}
+use Rattle.trace_watch.proofs.Growth.{Closing, closing_none, goes_longer}
 use Rattle.trace_watch.proofs.Loops.{index_there, close_more, close_all}
 use Rattle.trace_watch.proofs.closing.close.Goals as goal
 
@@ -15,8 +16,19 @@ loop-i-init g c = record {
       (closing_none c.args.calls.now c.args.newest.now (configs_of c.args.states.now));
   few = let e = ap (λ (ss : List (State _)). length ss) c.new-found.ensures.items in omega arith;
   indexed = subst (λ (ss : List (State _)). IsIndexed c.args.index.now (configs_of ss))
-      (sym c.new-found.ensures.items) c.requires;
+      (sym c.new-found.ensures.items) c.requires.indexed;
 }
+
+pub catch_up-requires-clause-inside : goal.catch_up-requires-clause-inside
+catch_up-requires-clause-inside g c =
+    let sized = c.loop-i.found.ok.0 in
+    let told = c.len-from.ensures in
+    let before = long_configs c.loop-i.found.items in
+    let behind = long_configs c.add_within.new.found.items in
+    let grown = goes_longer (configs_of c.loop-i.found.items) (configs_of c.add_within.new.found.items)
+    (more_goes (configs_of c.loop-i.found.items) (configs_of c.add_within.new.found.items) (config_of c.in_ok-copy.copy)
+    c.in_ok-add_within.ensures.added) in
+    omega arith
 
 pub loop-i-preserved : goal.loop-i-preserved
 loop-i-preserved g c =

@@ -1,4 +1,4 @@
-use Rattle.std.proofs.Common.{ℕ, refl, ap}
+use Rattle.std.proofs.Common.{ℕ, ◌∙◌, refl, ap}
 use Rattle.packet.specs.declared.kinds.Reply.{Reply}
 use Rattle.trace_watch.specs.States.{configs_of}
 use Rattle.trace_watch.proofs.Gathering.{take_none, take_stuck, take_one}
@@ -16,8 +16,9 @@ returns-then-not-enough-clause-gathers g c =
 
 pub returns-clause-gathers : goal.returns-clause-gathers
 returns-clause-gathers g c =
-    take_one c.args.calls.now c.args.call c.args.reply _ _ c.args.state.now c.in_ok-next.next c.in_ok-low.low
-    c.deref.result.now (configs_of c.args.kept.now.items) (configs_of c.add.new.found.items)
+    take_one c.args.calls.now c.args.call c.args.reply _ _ c.args.state.now c.in_ok-low.low c.deref.result.now
+    c.deref-2.result.now c.deref-3.result.now (configs_of c.args.kept.now.items) (configs_of c.add.new.found.items)
     (ap (λ (p : ℕ × Reply). p.0) c.apply-word.ensures) (ap (λ (p : ℕ × Reply). p.1) c.apply-word.ensures)
-    (c.if-not-same_reply.ensures.yes refl) c.in_ok-next.ensures c.deref.ensures.value
-    (c.in_ok-enough.ensures.yes c.if-not-enough.false) c.in_ok-low.ensures c.in_ok-add.ensures.added
+    (c.if-not-same_reply.ensures.yes refl) c.deref.ensures.value (c.in_ok-enough.ensures.yes c.if-not-enough.false)
+    c.deref-2.ensures.value (c.deref-3.ensures.value ∙ c.in_ok-seen.ensures) c.in_ok-low.ensures
+    c.in_ok-add.ensures.added

@@ -3,8 +3,8 @@ use Rattle.std.proofs.lemmas.Option.{slice_get-get_or}
 use Rattle.trace_laws.specs.declared.event.Call.{Call}
 use Rattle.trace_watch.specs.Matchings.{MayStillBe}
 use Rattle.trace_watch.proofs.Newest.{NewestBelow, below_all, below_more, below_same}
-use Rattle.trace_watch.proofs.matching.newest_left.Goals as goal
-use Rattle.trace_watch.proofs.matching.newest_left.Goals.{then-may_still_be, else-may_still_be}
+use Rattle.trace_watch.proofs.matching.newest_among.Goals as goal
+use Rattle.trace_watch.proofs.matching.newest_among.Goals.{then-may_still_be, else-may_still_be}
 
 pub loop-i-preserved : goal.loop-i-preserved
 loop-i-preserved c =
