@@ -15,6 +15,7 @@ use Rattle.memory_models.specs.declared.kinds.Why.TheVariants as why
 use Rattle.memory_models.specs.Trace.{operation_at}
 use Rattle.memory_models.specs.Verdict.{step_at}
 use Rattle.model_text.specs.declared.logged.Logged.{Logged}
+use Rattle.model_text.specs.Finals.{is_final}
 use Rattle.model_text.specs.Traces.{logged_at, place_in}
 use Rattle.weak_models.specs.declared.verdict.PreservedRule.{PreservedRule}
 use Rattle.weak_models.specs.declared.verdict.PreservedRule.TheVariants as by
@@ -165,9 +166,11 @@ weak_cycle_text logged ops steps =
     flat_map (weak_arc_text logged ops steps) (range_with_len 0 (length steps))
     ++ step_text (logged_at logged (reasoned_at steps 0).from)
 
--- the line of an operation in the order; none for an opening store
+-- the line of an operation in the order; none for an opening store or a final word
 abbrev pub turn_line : ℕ → List Logged → ℕ → List ℕ
-turn_line openings logged x = if nat_lt x openings then [] else step_text (logged_at logged x)
+turn_line openings logged x =
+    if nat_lt x openings || is_final (logged_at logged x) then []
+    else step_text (logged_at logged x)
 
 -- the operations by their turns
 abbrev pub turns_text : ℕ → List Logged → List ℕ → List ℕ

@@ -9,6 +9,7 @@ use crate::judged::Obeys;
 use crate::model::MemoryModel;
 use crate::text::{put, put_step};
 use memory_models::Verdict;
+use model_text::finals::is_final;
 use model_text::placing::places_in;
 use model_text::trace::logged_at;
 use model_text::{LogTrace, Logged};
@@ -37,7 +38,7 @@ pub fn strongest_obeyed(fences: bool, obeys: Obeys) -> Option<MemoryModel>
     None
 }
 
-/// Adds the line of an operation; none of an opening store.
+/// Adds the line of an operation; none of an opening store or a final word.
 fn put_order_line<A: Allocator>(
     text: &mut Vec<u8, A>,
     openings: usize,
@@ -47,10 +48,11 @@ fn put_order_line<A: Allocator>(
     ensures { OnOk result (text.new.items ≡ text.old.items
         ++ turn_line openings steps.now x) }
 {
-    if x < openings {
+    let step = logged_at(steps, x);
+    if x < openings || is_final(step) {
         return Ok(());
     }
-    put_step(text, logged_at(steps, x))
+    put_step(text, step)
 }
 
 /// Adds the operations by their turns, behind so many opening stores.

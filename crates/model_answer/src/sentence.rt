@@ -31,7 +31,7 @@ fn line_text(reason: LineReason) -> &'static str {
         LineReason::UnknownOperation => "C: an operation or fence belongs there",
         LineReason::OperandCount => "C: behind it K",
         LineReason::WordsTwice => "words: it is given already",
-        LineReason::InitLate => "init: it comes before all made lines",
+        LineReason::InitLate => "init: it comes before all made and final lines",
         LineReason::InitTwice => "address B: its opening word is given already",
         LineReason::ProcessorLimits => "a processor is below 4096",
         LineReason::OkUnwanted => "ok: the operation is no store: a number belongs there",
@@ -45,13 +45,13 @@ fn text_of(reason: LogReason) -> &'static str {
     match reason {
         LogReason::Line(why) => line_text(why),
         LogReason::UnknownKeyword => {
-            "A: a line begins with words, init, made, wrote, read, served, replied or depends"
+            "A: a line begins with words, init, made, wrote, read, served, replied, depends or final"
         }
         LogReason::WordCount(_) => "A: behind it K",
         LogReason::NotSource => "D: from or opening belongs there",
-        LogReason::OperationsLimits => "made: a log has at most 4194304 operations",
+        LogReason::OperationsLimits => "A: a log has at most 4194304 operations",
         LogReason::AddressesLimits => {
-            "address D: a log has operations on at most 1048576 addresses"
+            "address W: a log has operations on at most 1048576 addresses"
         }
         LogReason::NotMade(_) => "A: a processor that it names has made N operations so far",
         LogReason::FenceNamed => "A: it names a fence, and belongs to an operation on a word",
@@ -78,6 +78,7 @@ fn text_of(reason: LogReason) -> &'static str {
         LogReason::GivesNothing =>
             "depends: a store gives its processor nothing, but a conditional one",
         LogReason::DataOfLoad => "depends: a load has no data that it writes",
+        LogReason::FinalTwice => "address B: its final word is given already",
     }
 }
 
@@ -94,6 +95,7 @@ fn words_text(keyword: LogKeyword) -> &'static str {
         LogKeyword::Depends => {
             "stand a processor and an index, on, an index before it, and address, data or control"
         }
+        LogKeyword::Final => "stand an address and a value",
     }
 }
 
@@ -120,9 +122,16 @@ fn name_of(words: QuotedWords<'_>, reason: LogReason) -> &'static str {
 }
 
 /// The place of the word that a reason is about.
-fn place_in(reason: LogReason) -> u32 {
+fn place_in(words: QuotedWords<'_>, reason: LogReason) -> u32 {
     match reason {
         LogReason::Line(why) => place_of(why),
+        LogReason::AddressesLimits => {
+            if words.at(0).word == b"final".as_slice() {
+                1
+            } else {
+                3
+            }
+        }
         _ => 0,
     }
 }
@@ -143,7 +152,7 @@ impl<'a> fmt::Display for LogSentence<'a> {
         let said = Filled {
             text: text_of(reason),
             words,
-            place: place_in(reason),
+            place: place_in(words, reason),
             number: number_of(reason),
             other: 0,
             name: name_of(words, reason),
@@ -160,9 +169,14 @@ impl<'a> fmt::Display for LogSentence<'a> {
 
 impl fmt::Display for WrongSentence {
     fn fmt<W: fmt::Write>(&self, f: &mut fmt::Formatter<W>) -> fmt::Result {
+        let name = if self.wrong.closing {
+            "final word"
+        } else {
+            "reply"
+        };
         match self.wrong.told.reply {
-            Reply::Ok => write!(f, "reply ok at line {}", self.wrong.told.line)?,
-            Reply::Old(word) => write!(f, "reply {word} at line {}", self.wrong.told.line)?,
+            Reply::Ok => write!(f, "{name} ok at line {}", self.wrong.told.line)?,
+            Reply::Old(word) => write!(f, "{name} {word} at line {}", self.wrong.told.line)?,
         }
         write!(f, ", but the word is {}", self.wrong.word)?;
         match self.wrong.line {

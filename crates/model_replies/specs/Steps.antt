@@ -1,6 +1,6 @@
 -- The operations of a log, with the words that they left and found by their replies. No order of
 -- writes is known, so no operation has a place.
-use Rattle.std.specs.Prelude.{◌≡◌, ℕ, ◌+◌, List, ◌++◌, length, map, Option, Some, None}
+use Rattle.std.specs.Prelude.{◌≡◌, ℕ, ◌+◌, ◌<◌, nat_le, List, ◌++◌, length, map, Option, Some, None}
 use Rattle.std.specs.List.{range_with_len}
 use Rattle.packet.specs.declared.kinds.Reply.{Reply}
 use Rattle.packet.specs.declared.kinds.Reply.TheVariants.{Old, Ok as Stored}
@@ -10,6 +10,7 @@ use Rattle.model_values.specs.declared.valued.Valued.{Valued}
 use Rattle.model_values.specs.Replies.{AreGrouped}
 use Rattle.model_text.specs.declared.logged.Logged.{Logged}
 use Rattle.model_text.specs.declared.logged.Told.{Told}
+use Rattle.model_text.specs.Finals.{is_final}
 use Rattle.model_text.specs.Made.{LogLines}
 use Rattle.model_text.specs.Traces.{kind_of_step, logged_at, numbers_of_log, opening_step}
 use Rattle.model_text.specs.Traces.{steps_of_log}
@@ -58,6 +59,11 @@ unplaced_operations log =
     map (opening_unplaced log) (range_with_len 0 (length log.addresses))
     ++ map (made_unplaced log) (numbers_of_log log)
 
+-- the final words are the steps from a number on
+abbrev pub AreFinalsFrom : List Logged → ℕ → Type 0
+AreFinalsFrom steps closing = (x : ℕ) → x < length steps
+    → is_final (logged_at steps x) ≡ nat_le closing x
+
 -- exactly what the lines of a log say by their replies
 pub record TellsValues {A : Type 0} (log : LogLines) (t : ValuedLog A) : Type 0 where
   pub openings : t.openings ≡ length log.addresses
@@ -65,6 +71,7 @@ pub record TellsValues {A : Type 0} (log : LogLines) (t : ValuedLog A) : Type 0 
   pub operations : t.operations.items ≡ unplaced_operations log
   pub left : t.left.items ≡ map left_word (steps_of_log log)
   pub found : t.found.items ≡ map found_word (steps_of_log log)
+  pub closing : AreFinalsFrom (steps_of_log log) t.closing
 
 -- the trace of which a log tells the words alone: one word more than occur, since fences have one.
 -- The operations of each processor stand together, so where no order of the writes gives the words, the
@@ -75,4 +82,5 @@ pub record IsValuedOf (log : LogLines) (v : Valued) : Type 0 where
   pub found : v.found.now ≡ map found_word (steps_of_log log)
   pub words : v.words ≡ length log.addresses + 1
   pub openings : v.openings ≡ length log.addresses
+  pub closing : AreFinalsFrom (steps_of_log log) v.closing
   pub grouped : AreGrouped v

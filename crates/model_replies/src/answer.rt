@@ -119,6 +119,7 @@ pub fn answer_to_values<A: Allocator + Copy>(
         found: &values.found,
         words,
         openings: values.openings,
+        closing: values.closing,
     };
     if !are_grouped(&valued) {
         return Err(NoValueAnswer::Memory);

@@ -2,6 +2,7 @@
 
 use crate::steps::found_word;
 use model_text::Logged;
+use model_text::finals::is_final;
 use std::fmt;
 
 /// A reply that no write left: `reply 3 at line 9, but no write leaves 3 in address 0`.
@@ -31,10 +32,15 @@ impl fmt::Display for UnwrittenSentence {
             None => self.step.line,
             Some(told) => told.line,
         };
+        let name = if is_final(self.step) {
+            "final word"
+        } else {
+            "reply"
+        };
         let (word, address) = (found_word(self.step), address_of(self.step));
         write!(
             f,
-            "reply {word} at line {line}, but no write leaves {word} in address {address}"
+            "{name} {word} at line {line}, but no write leaves {word} in address {address}"
         )
     }
 }

@@ -1,13 +1,15 @@
 //! The operations of a log, with the words that they left and found.
 
-ghost use Rattle.std.specs.Prelude.{◌≡◌, ◌++◌, IfOk, OnOk, length, map};
+ghost use Rattle.std.specs.Prelude.{◌≡◌, ◌++◌, ◌<◌, ◌≤◌, ℕ, true, false, IfNone, IfOk, IfSome, OnOk, length, map};
 ghost use Rattle.std.specs.List.{range_with_len};
+ghost use Rattle.model_text.specs.Finals.{is_final};
 ghost use Rattle.model_text.specs.Traces.{logged_at, numbers_of_log, opening_step, steps_of_log};
 ghost use Rattle.model_text.specs.Views.{log_so_far};
-ghost use Rattle.model_replies.specs.Steps.{found_word, left_word, made_unplaced, opening_unplaced};
+ghost use Rattle.model_replies.specs.Steps.{AreFinalsFrom, found_word, left_word, made_unplaced, opening_unplaced};
 ghost use Rattle.model_replies.specs.Steps.{old_word, unplaced, unplaced_operations, TellsValues};
 
 use memory_models::Operation;
+use model_text::finals::is_final;
 use model_text::trace::{kind_of_step, logged_at, opening_step};
 use model_text::values::op_of_step;
 use model_text::{Log, Logged};
@@ -28,6 +30,8 @@ pub struct ValuedLog<A: Allocator = Global> {
     pub left: Vec<u64, A>,
     /// The words that they found.
     pub found: Vec<u64, A>,
+    /// The number of the first final word, behind all operations.
+    pub closing: usize,
 }
 
 /// The word of a reply; 0 where it has none.
@@ -141,6 +145,34 @@ fn words_found<A: Allocator>(alloc: A, steps: &[Logged]) -> Result<Vec<u64, A>, 
     Ok(words)
 }
 
+/// The number of the first final word; the number of steps where there is none.
+fn first_final(steps: &[Logged]) -> usize
+    ensures within { result ≤ length steps.now }
+    ensures before { (k : ℕ) → k < result → is_final (logged_at steps.now k) ≡ false }
+    ensures found { result < length steps.now → is_final (logged_at steps.now result) ≡ true }
+{
+    for x in 0..steps.len() {
+        if is_final(logged_at(steps, x)) {
+            return x;
+        }
+    }
+    steps.len()
+}
+
+/// The number from which on all steps are final words, and before which none is.
+fn closing_of(steps: &[Logged]) -> Option<usize>
+    ensures some { IfSome result (AreFinalsFrom steps.now) }
+    ensures none { IfNone result ((closing : ℕ) → AreFinalsFrom steps.now closing → ⊥) }
+{
+    let closing = first_final(steps);
+    for x in closing..steps.len() {
+        if !is_final(logged_at(steps, x)) {
+            return None;
+        }
+    }
+    Some(closing)
+}
+
 /// The operations of a log, with the words that they left and found.
 ///
 /// Errors: out of memory.
@@ -157,11 +189,15 @@ pub fn values_of_log<A: Allocator + Copy>(
     push_made(log, &numbers, &mut steps, &mut operations)?;
     let left = words_left(alloc, &steps)?;
     let found = words_found(alloc, &steps)?;
+    let Some(closing) = closing_of(&steps) else {
+        return Err(AllocError);
+    };
     Ok(ValuedLog {
         openings: log.addresses.len(),
         steps,
         operations,
         left,
         found,
+        closing,
     })
 }

@@ -78,8 +78,8 @@ place_low list count x = low_cond (nat_lt x count) (place_in list x) (length lis
 
 -- nothing is given at first
 abbrev pub logged_so : HeadSpec → List (ℕ × ℕ) → List ℕ → List (List ℕ) → List (List ℕ) → List Logged → List (ℕ × Note)
-    → List (ℕ × Option Reservation) → List Dependency → LogLines
-logged_so head places addresses rows orders made notes reserved dependencies = record {
+    → List (ℕ × Option Reservation) → List Dependency → List (ℕ × ℕ) → LogLines
+logged_so head places addresses rows orders made notes reserved dependencies finals = record {
   head = head;
   places = places;
   addresses = addresses;
@@ -89,22 +89,25 @@ logged_so head places addresses rows orders made notes reserved dependencies = r
   notes = notes;
   reserved = reserved;
   dependencies = dependencies;
+  finals = finals;
 }
 
 pub nothing_is : (n : ℕ) (head : HeadSpec) (places : List (ℕ × ℕ)) (addresses : List ℕ) (rows orders : List (List ℕ)) (made : List Logged)
-    (notes : List (ℕ × Note)) (reserved : List (ℕ × Option Reservation)) (dependencies : List Dependency)
+    (notes : List (ℕ × Note)) (reserved : List (ℕ × Option Reservation)) (dependencies : List Dependency) (finals : List (ℕ × ℕ))
     → head ≡ no_head → places ≡ [] → addresses ≡ [] → rows ≡ no_rows n → orders ≡ no_rows 0 → made ≡ [] → notes ≡ [] → reserved ≡ [] → dependencies ≡ []
-    → logged_so head places addresses rows orders made notes reserved dependencies ≡ logged_so no_head [] [] (no_rows n) (no_rows 0) [] [] [] []
-nothing_is n head places addresses rows orders made notes reserved dependencies h p a r o m e s d =
-    ap (λ z. logged_so z places addresses rows orders made notes reserved dependencies) h
-    ∙ (ap (λ z. logged_so no_head z addresses rows orders made notes reserved dependencies) p
-    ∙ (ap (λ z. logged_so no_head [] z rows orders made notes reserved dependencies) a
-    ∙ (ap (λ z. logged_so no_head [] [] z orders made notes reserved dependencies) r
-    ∙ (ap (λ z. logged_so no_head [] [] (no_rows n) z made notes reserved dependencies) o
-    ∙ (ap (λ z. logged_so no_head [] [] (no_rows n) (no_rows 0) z notes reserved dependencies) m
-    ∙ (ap (λ z. logged_so no_head [] [] (no_rows n) (no_rows 0) [] z reserved dependencies) e
-    ∙ (ap (λ z. logged_so no_head [] [] (no_rows n) (no_rows 0) [] [] z dependencies) s
-    ∙ ap (λ z. logged_so no_head [] [] (no_rows n) (no_rows 0) [] [] [] z) d)))))))
+    → finals ≡ []
+    → logged_so head places addresses rows orders made notes reserved dependencies finals ≡ logged_so no_head [] [] (no_rows n) (no_rows 0) [] [] [] [] []
+nothing_is n head places addresses rows orders made notes reserved dependencies finals h p a r o m e s d f =
+    ap (λ z. logged_so z places addresses rows orders made notes reserved dependencies finals) h
+    ∙ (ap (λ z. logged_so no_head z addresses rows orders made notes reserved dependencies finals) p
+    ∙ (ap (λ z. logged_so no_head [] z rows orders made notes reserved dependencies finals) a
+    ∙ (ap (λ z. logged_so no_head [] [] z orders made notes reserved dependencies finals) r
+    ∙ (ap (λ z. logged_so no_head [] [] (no_rows n) z made notes reserved dependencies finals) o
+    ∙ (ap (λ z. logged_so no_head [] [] (no_rows n) (no_rows 0) z notes reserved dependencies finals) m
+    ∙ (ap (λ z. logged_so no_head [] [] (no_rows n) (no_rows 0) [] z reserved dependencies finals) e
+    ∙ (ap (λ z. logged_so no_head [] [] (no_rows n) (no_rows 0) [] [] z dependencies finals) s
+    ∙ (ap (λ z. logged_so no_head [] [] (no_rows n) (no_rows 0) [] [] [] z finals) d
+    ∙ ap (λ z. logged_so no_head [] [] (no_rows n) (no_rows 0) [] [] [] [] z) f))))))))
 
 -- more writes than there are leave what all leave
 pub word_of_min : (steps : List Logged) (writes : List ℕ) (n : ℕ) → word_of_writes steps writes (min n (length writes)) ≡ word_of_writes steps writes n

@@ -40,6 +40,7 @@ at_line reason.NotDependency n = inr refl
 at_line reason.NotBehind n = inr refl
 at_line reason.GivesNothing n = inr refl
 at_line reason.DataOfLoad n = inr refl
+at_line reason.FinalTwice n = inr refl
 
 -- it is what the reader answers
 pub told : {A : Type 0} (e : LogReason) (n : ℕ) (got : Refusal LogReason) (all : Result A (Refusal LogReason))

@@ -1,7 +1,7 @@
 -- What stands behind the operands of a `made` line: what the RISC-V Instruction Set Manual says of an
 -- operation beside its kind (this project's own format).
 use Rattle.std.specs.Prelude.{ℕ, ◌+◌, ◌==◌, ◌&&◌, ◌||◌, not, Bool, true, false, List, [], ◌∷◌, length}
-use Rattle.std.specs.Prelude.{drop, nat_lt, slice_index_or, Option, Some, None, ok_or, Result, Ok, Err}
+use Rattle.std.specs.Prelude.{nat_lt, slice_index_or, Option, Some, None, ok_or, Result, Ok, Err}
 use Rattle.std.specs.Prelude.{if◌then◌else◌, codes}
 use Rattle.std.specs.Str.{bytes_eq}
 use Rattle.lexer.specs.Outcome.{◌>>=◌}

@@ -1,7 +1,7 @@
 -- What `depends` lines of a log make of what the lines before them gave (this project's own format).
 -- What a dependency is the RISC-V Instruction Set Manual, volume I, says, section Syntactic
 -- Dependencies.
-use Rattle.std.specs.Prelude.{ℕ, Bool, true, false, ◌||◌, ◌&&◌, not, nat_lt, List, [], ◌∷◌, ◌++◌, length}
+use Rattle.std.specs.Prelude.{ℕ, Bool, true, false, ◌||◌, ◌&&◌, not, nat_lt, List, [], ◌∷◌, ◌++◌}
 use Rattle.std.specs.Prelude.{slice_get, unwrap_or, Option, Some, None, ok_or, Result, Ok, Err}
 use Rattle.std.specs.Prelude.{if◌then◌else◌, codes}
 use Rattle.std.specs.Str.{bytes_eq}

@@ -1,5 +1,6 @@
 pub mod Annotations
 pub mod Depends
+pub mod Finals
 pub mod Form
 pub mod InsideRows
 pub mod Kinds

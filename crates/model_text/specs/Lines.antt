@@ -14,6 +14,7 @@ use Rattle.model_text.specs.declared.logged.Logged.{Logged}
 use Rattle.model_text.specs.declared.reason.LogReason.{LogReason}
 use Rattle.model_text.specs.declared.reason.LogReason.TheVariants as reason
 use Rattle.model_text.specs.Depends.{after_depends_line}
+use Rattle.model_text.specs.Finals.{after_final_line}
 use Rattle.model_text.specs.Made.{LogLines, nothing_logged, after_made_line}
 use Rattle.model_text.specs.Sources.{after_wrote_line, after_read_line, after_served_line}
 use Rattle.model_text.specs.Sources.{after_replied_line, is_told}
@@ -32,10 +33,11 @@ after_keyword r line keyword values =
     else (if bytes_eq keyword (codes "served") then after_served_line r values
     else (if bytes_eq keyword (codes "replied") then after_replied_line r line values
     else (if bytes_eq keyword (codes "depends") then after_depends_line r values
+    else (if bytes_eq keyword (codes "final") then after_final_line r line values
     else (if bytes_eq keyword (codes "init")
     then head_logged r (after_init_line r.head (not (length r.made == 0)) values)
     else (if bytes_eq keyword (codes "words") then head_logged r (after_words_line r.head values)
-    else Err reason.UnknownKeyword))))))))
+    else Err reason.UnknownKeyword)))))))))
 
 -- the words of a line that count: a line that means something has fewer than 10, comments apart
 abbrev pub log_words : List ℕ → List (List ℕ)

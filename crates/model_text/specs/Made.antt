@@ -26,7 +26,7 @@ use Rattle.model_text.specs.Rows.{no_rows, with_row_number}
 -- number, the numbers of each processor's operations in program order, those of each word's writes
 -- in the word's order, the operations by number, what `made` lines say of them beside their kinds, the
 -- last load reserved of each processor, if no store conditional came behind it, and dependencies; all
--- by numbers
+-- by numbers; and the final words, by address
 pub record LogLines : Type 0 where
   pub head : HeadSpec
   pub places : List (ℕ × ℕ)
@@ -37,6 +37,7 @@ pub record LogLines : Type 0 where
   pub notes : List (ℕ × Note)
   pub reserved : List (ℕ × Option Reservation)
   pub dependencies : List Dependency
+  pub finals : List (ℕ × ℕ)
 
 -- nothing is given
 abbrev pub nothing_logged : LogLines
@@ -50,6 +51,7 @@ nothing_logged = record {
   notes = [];
   reserved = [];
   dependencies = [];
+  finals = [];
 }
 
 -- an address has a number: its own, or the next one, with no write so far. There are no more than

@@ -31,3 +31,4 @@ log_fault_of reason.NotDependency = fault.Line
 log_fault_of reason.NotBehind = fault.Range
 log_fault_of reason.GivesNothing = fault.Line
 log_fault_of reason.DataOfLoad = fault.Line
+log_fault_of reason.FinalTwice = fault.Setting

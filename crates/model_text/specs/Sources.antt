@@ -12,7 +12,7 @@ use Rattle.trace_lines.specs.Head.{processor_read}
 use Rattle.trace_lines.specs.Reasons.{map_err, unless_refused}
 use Rattle.model_text.specs.declared.logged.Logged.{Logged}
 use Rattle.model_text.specs.declared.logged.Source.{Source}
-use Rattle.model_text.specs.declared.logged.Source.TheVariants.{Untold, Own, Opening, Write}
+use Rattle.model_text.specs.declared.logged.Source.TheVariants.{Untold, Own, Opening, Write, Last}
 use Rattle.model_text.specs.declared.sources.Found.{Found}
 use Rattle.model_text.specs.declared.reason.LogKeyword.TheVariants as key
 use Rattle.model_text.specs.declared.reason.LogReason.{LogReason}
@@ -43,6 +43,7 @@ is_told Untold = false
 is_told Own = true
 is_told Opening = true
 is_told (Write n) = true
+is_told Last = true
 
 -- the operation of a number is another one
 abbrev pub with_logged : LogLines → ℕ → Logged → LogLines

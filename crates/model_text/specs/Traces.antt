@@ -12,7 +12,7 @@ use Rattle.memory_models.specs.Trace.{IsMemoryTrace, operation_at}
 use Rattle.trace_lines.specs.Head.{value_in}
 use Rattle.model_text.specs.declared.logged.Logged.{Logged}
 use Rattle.model_text.specs.declared.logged.Source.{Source}
-use Rattle.model_text.specs.declared.logged.Source.TheVariants.{Untold, Own, Opening, Write}
+use Rattle.model_text.specs.declared.logged.Source.TheVariants.{Untold, Own, Opening, Write, Last}
 use Rattle.model_text.specs.declared.trace.LogTrace.{LogTrace}
 use Rattle.model_text.specs.Kinds.{kind_of_op}
 use Rattle.model_text.specs.Made.{LogLines}
@@ -90,12 +90,17 @@ abbrev pub write_place : LogLines → ℕ → ℕ
 write_place log x = place_below (writes_of_log log)
     (length log.addresses + length (numbers_of_log log)) x
 
+-- the place in the trace of the last write of a word
+abbrev pub last_spot : LogLines → ℕ → ℕ
+last_spot log w = slice_index (writes_of_word log w) (length (numbers_of_row log.orders w))
+
 -- the place in the trace of what the operation of a number read; of its own where it is a write
 abbrev pub source_spot : LogLines → ℕ → Logged → Source → ℕ
 source_spot log n logged Untold = trace_spot log n
 source_spot log n logged Own = trace_spot log n
 source_spot log n logged Opening = logged.word
 source_spot log n logged (Write m) = trace_spot log m
+source_spot log n logged Last = last_spot log logged.word
 
 -- the opening store of a word, to a model
 abbrev pub opening_operation : LogLines → ℕ → Operation

@@ -11,6 +11,7 @@ use Rattle.memory_models.specs.Trace.{is_load, operation_at}
 use Rattle.model_text.specs.declared.logged.Logged.{Logged}
 use Rattle.model_text.specs.declared.logged.Told.{Told}
 use Rattle.model_text.specs.declared.values.WrongReply.{WrongReply}
+use Rattle.model_text.specs.Finals.{is_final}
 use Rattle.model_text.specs.Traces.{logged_at}
 
 -- what an operation does to its word; a fence leaves it
@@ -62,6 +63,7 @@ pub record IsUndueReply (steps : List Logged) (ops : List Operation) (writes : L
     (wrong : WrongReply) : Type 0
   where
     pub operation : wrong.operation < length steps
+    pub closing : wrong.closing ≡ is_final (logged_at steps wrong.operation)
     pub told : (logged_at steps wrong.operation).told ≡ Some wrong.told
     pub word : wrong.word ≡ word_met steps ops writes wrong.operation
     pub line : wrong.line ≡ line_left steps writes (writes_before ops wrong.operation)

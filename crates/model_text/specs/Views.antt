@@ -14,4 +14,5 @@ log_so_far r = record {
   notes = r.notes.entries;
   reserved = r.reserved.entries;
   dependencies = r.dependencies.items;
+  finals = r.finals.entries;
 }

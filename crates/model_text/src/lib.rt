@@ -4,6 +4,7 @@
 
 pub mod annotation;
 mod depends;
+pub mod finals;
 mod form;
 mod kinds;
 pub mod laws;

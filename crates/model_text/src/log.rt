@@ -21,7 +21,8 @@ pub struct Log<A: Allocator = Global> {
     pub places: BTreeMap<u32, usize, A>,
     /// The addresses that operations are on, by their numbers.
     pub addresses: Vec<u32, A>,
-    /// Of each processor the numbers of its operations, in program order.
+    /// Of each processor the numbers of its operations, in program order; behind these a row for each
+    /// final word.
     pub rows: Rows<A>,
     /// Of each word that occurs the numbers of its writes, in the word's order.
     pub orders: Rows<A>,
@@ -33,6 +34,8 @@ pub struct Log<A: Allocator = Global> {
     pub reserved: BTreeMap<u32, Option<Reservation>, A>,
     /// The dependencies, by the numbers of operations.
     pub dependencies: Vec<Dependency, A>,
+    /// The final words, by address.
+    pub finals: BTreeMap<u32, u64, A>,
 }
 
 impl<A: Allocator + Copy> Log<A> {
@@ -52,6 +55,7 @@ impl<A: Allocator + Copy> Log<A> {
             notes: BTreeMap::new(alloc),
             reserved: BTreeMap::new(alloc),
             dependencies: Vec::new(alloc),
+            finals: BTreeMap::new(alloc),
         })
     }
 }

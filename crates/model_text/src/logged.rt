@@ -13,6 +13,9 @@ pub enum Source {
     Opening,
     /// It read what the operation of this number wrote.
     Write(usize),
+    /// It read what the last write of its word left, or the opening word where none writes it: the line
+    /// `final` says so.
+    Last,
 }
 
 /// A reply of the log.
@@ -27,9 +30,9 @@ pub struct Told {
 /// An operation of a log.
 #[derive(Clone, Copy)]
 pub struct Logged {
-    /// The line that made it; 0 for a store of an opening word.
+    /// The line that made it, or the line `final`; 0 for a store of an opening word.
     pub line: u64,
-    /// The processor that made it, below 4096.
+    /// The processor that made it, below 4096; a final word has one of its own behind these.
     pub processor: u32,
     /// What it is; `None` for a fence.
     pub operation: Option<Operation>,

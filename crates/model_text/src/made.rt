@@ -118,14 +118,14 @@ impl<A: Allocator + Copy> Log<A> {
     }
 
     /// The number of an address among those that occur; 0 where it has none.
-    fn number_of_address(&self, address: u32) -> usize
+    pub(crate) fn number_of_address(&self, address: u32) -> usize
         ensures { result ≡ number_of_address (log_so_far self.now) address }
     {
         self.places.get(&address).copied().unwrap_or(0)
     }
 
     /// Gives an address a number, where it has none.
-    fn place(&mut self, alloc: A, address: u32) -> Result<(), LogReason>
+    pub(crate) fn place(&mut self, alloc: A, address: u32) -> Result<(), LogReason>
         ensures { Makes (LogReason.Line LineReason.Memory) (log_so_far self.new) result
             (with_address (log_so_far self.old) address) }
     {

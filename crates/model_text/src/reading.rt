@@ -57,6 +57,9 @@ impl<A: Allocator + Copy> Log<A> {
         if keyword == b"depends".as_slice() {
             return self.take_depends(values);
         }
+        if keyword == b"final".as_slice() {
+            return self.take_final(alloc, line, values);
+        }
         if keyword == b"init".as_slice() {
             return self.take_init(values);
         }

@@ -15,6 +15,7 @@ pub enum LogKeyword {
     Served,
     Replied,
     Depends,
+    Final,
 }
 
 /// Why a line of a log is refused.
@@ -68,6 +69,8 @@ pub enum LogReason {
     GivesNothing,
     /// The operation whose data depend writes nothing.
     DataOfLoad,
+    /// The final word of the address is given already.
+    FinalTwice,
 }
 
 impl From<LineReason> for LogReason {
@@ -111,6 +114,7 @@ impl Reason for LogReason {
             LogReason::NotBehind => Fault::Range,
             LogReason::GivesNothing => Fault::Line,
             LogReason::DataOfLoad => Fault::Line,
+            LogReason::FinalTwice => Fault::Setting,
         }
     }
 }

@@ -36,6 +36,7 @@ pub(crate) fn is_told(source: Source) -> bool
         Source::Own => true,
         Source::Opening => true,
         Source::Write(_) => true,
+        Source::Last => true,
     }
 }
 
@@ -79,7 +80,7 @@ fn source_wrong(found: Found, write: Found) -> Option<LogReason>
 }
 
 /// What a load read that comes behind these writes of its word.
-fn last_source(writes: &[usize]) -> Source
+pub(crate) fn last_source(writes: &[usize]) -> Source
     ensures { result ≡ last_source writes.now }
 {
     match writes {

@@ -11,6 +11,7 @@ ghost use Rattle.model_text.specs.Traces.{steps_of_log, operations_of_log, Tells
 ghost use Rattle.model_text.specs.Rows.{numbers_of_row};
 ghost use Rattle.model_text.specs.Views.{log_so_far};
 
+use crate::finals::last_spot;
 use crate::kinds::kind_of_op;
 use crate::log::Log;
 use crate::logged::{Logged, Source};
@@ -155,6 +156,7 @@ fn source_spot<A: Allocator>(
         Source::Own => trace_spot(log, numbers, places, n),
         Source::Opening => logged.word,
         Source::Write(m) => trace_spot(log, numbers, places, m),
+        Source::Last => last_spot(log, numbers, places, logged.word),
     }
 }
 

@@ -9,6 +9,7 @@ ghost use Rattle.model_text.specs.Traces.{logged_at};
 ghost use Rattle.model_text.specs.Values.{op_of_step, word_of_writes, word_met, reply_due};
 ghost use Rattle.model_text.specs.Values.{writes_before, line_left, IsUndueReply, AreRepliesOr, writes_before_one};
 
+use crate::finals::is_final;
 use crate::logged::{Logged, Told};
 use crate::trace::{LogTrace, logged_at};
 use memory_models::{Kind, Operation};
@@ -20,6 +21,8 @@ use std::alloc::{AllocError, Allocator};
 pub struct WrongReply {
     /// The place of the operation in the trace.
     pub operation: usize,
+    /// Whether it is a final word, and no operation.
+    pub closing: bool,
     /// The reply of the log, and its line.
     pub told: Told,
     /// The word that the operation found.
@@ -151,6 +154,7 @@ fn wrong_reply<A: Allocator>(trace: &LogTrace<A>, words: &[u64], x: usize) -> Op
             }
             Some(WrongReply {
                 operation: x,
+                closing: is_final(step),
                 told,
                 word,
                 line: line_met(trace, x),

@@ -39,10 +39,10 @@ told_to ops sources placed writes x told = record { read = told.read; next = tol
 pub no_placing : (q : Unordered) (table : List ℕ) (level : ℕ) (mine : List Operation) (written : List ℕ)
     → AreSettled q.operations.now table level → ArePlacedBy q.operations.now q.sources.now table level mine
     → ((others : List ℕ) → ListsWrites mine (count_below (writes_at q.operations.now) (length q.operations.now)) others → written ≡ others)
-    → (IsPlacing q.operations.now q.sources.now q.words q.openings mine written → ⊥)
+    → (IsPlacing q.operations.now q.sources.now q.words q.openings q.closing mine written → ⊥)
     → (turn : ℕ → ℕ) → IsOrderOf q turn → AgreesWith table (length q.operations.now) level turn → ⊥
 no_placing q table level mine written settled placed listed not turn order agrees =
-    not (settled_is q.rules.now q.operations.now q.sources.now q.words q.openings turn table level order agrees settled mine written placed listed).0
+    not (settled_is q.rules.now q.operations.now q.sources.now q.words q.openings q.closing turn table level order agrees settled mine written placed listed).0
 
 pub no_order : (q : Unordered) (table : List ℕ) (level : ℕ) (mine : List Operation) (written : List ℕ)
     → AreSettled q.operations.now table level → ArePlacedBy q.operations.now q.sources.now table level mine
@@ -50,20 +50,20 @@ pub no_order : (q : Unordered) (table : List ℕ) (level : ℕ) (mine : List Ope
     → ((turn : ℕ → ℕ) → IsMemoryOrder q.rules.now mine written turn → ⊥)
     → (turn : ℕ → ℕ) → IsOrderOf q turn → AgreesWith table (length q.operations.now) level turn → ⊥
 no_order q table level mine written settled placed listed not turn order agrees =
-    not turn (settled_is q.rules.now q.operations.now q.sources.now q.words q.openings turn table level order agrees settled mine written placed listed).1
+    not turn (settled_is q.rules.now q.operations.now q.sources.now q.words q.openings q.closing turn table level order agrees settled mine written placed listed).1
 
 -- no order agrees with a table, where the lists that were judged are its operations and its writes
 pub leaf_placing : (q : Unordered) (table : List ℕ) (level : ℕ) (mine : List Operation) (written : List ℕ) (m0 m1 : List Operation) (w1 : List ℕ) (count : ℕ)
     → m0 ≡ mine → count ≡ count_below (writes_at q.operations.now) (length q.operations.now) → m1 ≡ mine → w1 ≡ written
     → AreSettled q.operations.now table level → ArePlacedBy q.operations.now q.sources.now table level mine
     → ((others : List ℕ) → ListsWrites m0 count others → written ≡ others)
-    → (IsPlacing q.operations.now q.sources.now q.words q.openings m1 w1 → ⊥)
+    → (IsPlacing q.operations.now q.sources.now q.words q.openings q.closing m1 w1 → ⊥)
     → (turn : ℕ → ℕ) → IsOrderOf q turn → AgreesWith table (length q.operations.now) level turn → ⊥
 leaf_placing q table level mine written m0 m1 w1 count e0 ec e1 ew settled placed listed not =
     no_placing q table level mine written settled placed
     (λ others ls. listed others (subst (λ m. ListsWrites m count others) (sym e0) (subst (λ k. ListsWrites mine k others) (sym ec) ls)))
-    (λ p. not (subst (λ m. IsPlacing q.operations.now q.sources.now q.words q.openings m w1) (sym e1)
-    (subst (λ ws. IsPlacing q.operations.now q.sources.now q.words q.openings mine ws) (sym ew) p)))
+    (λ p. not (subst (λ m. IsPlacing q.operations.now q.sources.now q.words q.openings q.closing m w1) (sym e1)
+    (subst (λ ws. IsPlacing q.operations.now q.sources.now q.words q.openings q.closing mine ws) (sym ew) p)))
 
 pub leaf_order : (q : Unordered) (table : List ℕ) (level : ℕ) (mine : List Operation) (written : List ℕ) (m0 m1 : List Operation) (w1 : List ℕ) (count : ℕ)
     → m0 ≡ mine → count ≡ count_below (writes_at q.operations.now) (length q.operations.now) → m1 ≡ mine → w1 ≡ written

@@ -63,7 +63,7 @@ told_by v sources placed writes none by i x lx =
 
 pub finds_by : (v : Valued) (sources : List ℕ) (placed : List Operation) (writes : List ℕ)
     → ((x : ℕ) → x < length v.operations.now → IsReader v.operations.now x → IsLeftBy v.operations.now v.left.now v.found.now x (slice_index sources x))
-    → IsPlacing v.operations.now sources v.words v.openings placed writes → (x : ℕ) → x < length v.operations.now
+    → IsPlacing v.operations.now sources v.words v.openings v.closing placed writes → (x : ℕ) → x < length v.operations.now
     → FindsAt v.operations.now v.left.now v.found.now placed writes x
 finds_by v sources placed writes by i x lx = record {
   read = λ load. ap (λ s. slice_index v.left.now s) ((i.told x lx).read load) ∙ (by x lx (inl load)).leaves;
@@ -84,16 +84,17 @@ finds_by v sources placed writes by i x lx = record {
 pub by_values : (v : Valued) (sources : List ℕ) → ((x y : ℕ) → AreAlikeValues v.operations.now v.left.now x y → ⊥)
     → ((x : ℕ) → x < length v.operations.now → IsReader v.operations.now x → IsLeftBy v.operations.now v.left.now v.found.now x (slice_index sources x))
     → (placed : List Operation) (writes : List ℕ)
-    → (IsValuedPlacing v placed writes → IsPlacing v.operations.now sources v.words v.openings placed writes)
-    × (IsPlacing v.operations.now sources v.words v.openings placed writes → IsValuedPlacing v placed writes)
+    → (IsValuedPlacing v placed writes → IsPlacing v.operations.now sources v.words v.openings v.closing placed writes)
+    × (IsPlacing v.operations.now sources v.words v.openings v.closing placed writes → IsValuedPlacing v placed writes)
 by_values v sources none by placed writes = (
-  λ i. record { size = i.size; trace = i.trace; told = told_by v sources placed writes none by i; opened = i.opened },
+  λ i. record { size = i.size; trace = i.trace; told = told_by v sources placed writes none by i; opened = i.opened; closed = i.closed },
   λ i. record {
     size = i.size;
     trace = i.trace;
     same = λ x lx. told_same v.operations.now sources placed writes x (i.told x lx);
     finds = finds_by v sources placed writes by i;
     opened = i.opened;
+    closed = i.closed;
   },
 )
 

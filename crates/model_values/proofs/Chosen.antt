@@ -85,8 +85,8 @@ load_source Fence placed writes x load = absurd (let bad : is_load Fence ≡ tru
 -- with the sources that an order gives all operations that read their words it keeps these
 pub keeps_sources : (v : Valued) (placed : List Operation) (writes sources : List ℕ) → IsValuedPlacing v placed writes
     → ((x : ℕ) → x < length v.operations.now → IsReader v.operations.now x → source_in v placed writes x ≡ slice_index sources x)
-    → IsPlacing v.operations.now sources v.words v.openings placed writes
-keeps_sources v placed writes sources i gives = record { size = i.size; trace = i.trace; told = told; opened = i.opened }
+    → IsPlacing v.operations.now sources v.words v.openings v.closing placed writes
+keeps_sources v placed writes sources i gives = record { size = i.size; trace = i.trace; told = told; opened = i.opened; closed = i.closed }
   where
     told : (x : ℕ) → x < length v.operations.now → IsToldAt v.operations.now sources placed writes x
     told x lx =
@@ -134,17 +134,18 @@ pub all_at : (v : Valued) (placed : List Operation) (writes : List ℕ) (x : ℕ
 all_at v placed writes x low = listed_at (source_in v placed writes) (length v.operations.now) x low
 
 pub keeps_all : (v : Valued) (placed : List Operation) (writes : List ℕ) → IsValuedPlacing v placed writes
-    → IsPlacing v.operations.now (all_sources v placed writes) v.words v.openings placed writes
+    → IsPlacing v.operations.now (all_sources v placed writes) v.words v.openings v.closing placed writes
 keeps_all v placed writes i = keeps_sources v placed writes (all_sources v placed writes) i (λ x low reads. sym (all_at v placed writes x low))
 
 -- an order that keeps sources that left what was found gives the words
 pub gives_words : (v : Valued) (placed : List Operation) (writes sources : List ℕ)
     → ((x : ℕ) → x < length v.operations.now → IsReader v.operations.now x → IsLeftBy v.operations.now v.left.now v.found.now x (slice_index sources x))
-    → IsPlacing v.operations.now sources v.words v.openings placed writes → IsValuedPlacing v placed writes
+    → IsPlacing v.operations.now sources v.words v.openings v.closing placed writes → IsValuedPlacing v placed writes
 gives_words v placed writes sources by i = record {
   size = i.size;
   trace = i.trace;
   same = λ x lx. told_same v.operations.now sources placed writes x (i.told x lx);
   finds = finds_by v sources placed writes by i;
   opened = i.opened;
+  closed = i.closed;
 }

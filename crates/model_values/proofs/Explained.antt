@@ -1,5 +1,5 @@
 -- What holds in every order that explains a trace.
-use Rattle.std.proofs.Common.{◌≡◌, ◌≢◌, ◌⊎◌, inl, inr, ℕ, ◌+◌, ◌<◌, true, false, List, length, refl, sym, ap, subst, ◌∙◌, arith}
+use Rattle.std.proofs.Common.{◌≡◌, ◌≢◌, ◌⊎◌, inl, inr, ℕ, ◌+◌, ◌<◌, ◌≤◌, true, false, List, length, refl, sym, ap, subst, ◌∙◌, arith}
 use Rattle.std.specs.Prelude.{slice_index, if◌then◌else◌}
 use Rattle.std.proofs.lemmas.Bool.{cases_eq, cases_lt}
 use Rattle.memory_models.specs.declared.kinds.Kind.{Kind}
@@ -11,21 +11,22 @@ use Rattle.memory_models.specs.Trace.{has, is_load, is_write, uses_word, operati
 use Rattle.memory_models.proofs.Orders.{load_uses}
 use Rattle.model_values.specs.Known.{IsRival, IsOwnLoad, IsReadBy}
 use Rattle.model_values.specs.Placed.{IsSame}
-use Rattle.model_values.specs.Unordered.{IsToldAt, IsOpeningOf, ExplainsLog}
+use Rattle.model_values.specs.Unordered.{IsToldAt, IsClosingOf, IsOpeningOf, ExplainsLog}
 
 -- what explains a trace, in one
-record IsExplained (rules : List Rule) (ops : List Operation) (sources : List ℕ) (words openings : ℕ) (placed : List Operation) (writes : List ℕ) (turn : ℕ → ℕ) : Type 0
+pub record IsExplained (rules : List Rule) (ops : List Operation) (sources : List ℕ) (words openings closing : ℕ) (placed : List Operation) (writes : List ℕ) (turn : ℕ → ℕ) : Type 0
   where
     pub size : length placed ≡ length ops
     pub trace : IsMemoryTrace words placed writes
     pub told : (x : ℕ) → x < length ops → IsToldAt ops sources placed writes x
     pub opened : (x y : ℕ) → x < length ops → y < length ops → IsOpeningOf openings ops x y → (operation_at placed x).place < (operation_at placed y).place
+    pub closed : (x y : ℕ) → x < length ops → y < length ops → IsClosingOf closing ops x y → (operation_at placed y).place ≤ (operation_at placed x).place
     pub order : IsMemoryOrder rules placed writes turn
 
-explained : (rules : List Rule) (ops : List Operation) (sources : List ℕ) (words openings : ℕ) (turn : ℕ → ℕ)
-    → (ex : ExplainsLog rules ops sources words openings turn) → IsExplained rules ops sources words openings ex.placed ex.writes turn
-explained rules ops sources words openings turn ex =
-    record { size = ex.is.size; trace = ex.is.trace; told = ex.is.told; opened = ex.is.opened; order = ex.order }
+pub explained : (rules : List Rule) (ops : List Operation) (sources : List ℕ) (words openings closing : ℕ) (turn : ℕ → ℕ)
+    → (ex : ExplainsLog rules ops sources words openings closing turn) → IsExplained rules ops sources words openings closing ex.placed ex.writes turn
+explained rules ops sources words openings closing turn ex =
+    record { size = ex.is.size; trace = ex.is.trace; told = ex.is.told; opened = ex.is.opened; closed = ex.is.closed; order = ex.order }
 
 pub write_uses : (kind : Kind) → is_write kind ≡ true → uses_word kind ≡ true
 write_uses Load e = cc
@@ -67,10 +68,10 @@ pub kept_before : (rules : List Rule) (ops : List Operation) (x y : ℕ) → Kee
 kept_before rules ops x y (inl k) = k.2.own.before
 kept_before rules ops x y (inr w) = w.own.before
 
-pub kept_rises : (rules : List Rule) (ops : List Operation) (sources : List ℕ) (words openings : ℕ) (turn : ℕ → ℕ)
-    → ExplainsLog rules ops sources words openings turn → (x y : ℕ) → x < length ops → y < length ops → KeepsOrder rules ops x y → turn x < turn y
-kept_rises rules ops sources words openings turn ex x y lx ly kept =
-    let e = explained rules ops sources words openings turn ex in
+pub kept_rises : (rules : List Rule) (ops : List Operation) (sources : List ℕ) (words openings closing : ℕ) (turn : ℕ → ℕ)
+    → ExplainsLog rules ops sources words openings closing turn → (x y : ℕ) → x < length ops → y < length ops → KeepsOrder rules ops x y → turn x < turn y
+kept_rises rules ops sources words openings closing turn ex x y lx ly kept =
+    let e = explained rules ops sources words openings closing turn ex in
     e.order.program x y (subst (λ n. y < n) (sym e.size) ly)
     (keeps_placed rules ops ex.placed x y (same_like ops ex.placed x (told_same ops sources ex.placed ex.writes x (e.told x lx)))
     (same_like ops ex.placed y (told_same ops sources ex.placed ex.writes y (e.told y ly))) kept)
@@ -93,11 +94,11 @@ on_one placed x y w = record {
 flip : (placed : List Operation) (x y : ℕ) → AreWrites placed x y → AreWrites placed y x
 flip placed x y w = record { low-x = w.low-y; low-y = w.low-x; write-x = w.write-y; write-y = w.write-x; word = sym w.word }
 
-places_rise : (rules : List Rule) (placed : List Operation) (writes : List ℕ) (turn : ℕ → ℕ) → IsMemoryOrder rules placed writes turn
+pub places_rise : (rules : List Rule) (placed : List Operation) (writes : List ℕ) (turn : ℕ → ℕ) → IsMemoryOrder rules placed writes turn
     → (x y : ℕ) → AreWrites placed x y → (operation_at placed x).place < (operation_at placed y).place → turn x < turn y
 places_rise rules placed writes turn o x y w less = o.word_order x y w.low-x w.low-y w.write-x w.write-y (on_one placed x y w) less
 
-places_apart : (words : ℕ) (placed : List Operation) (writes : List ℕ) → IsMemoryTrace words placed writes
+pub places_apart : (words : ℕ) (placed : List Operation) (writes : List ℕ) → IsMemoryTrace words placed writes
     → (x y : ℕ) → AreWrites placed x y → x ≢ y → (operation_at placed x).place ≢ (operation_at placed y).place
 places_apart words placed writes t x y w other same =
     other (sym (t.written x w.low-x w.write-x) ∙ ap (λ p. slice_index writes p) same ∙ t.written y w.low-y w.write-y)
@@ -130,10 +131,10 @@ writes_placed ops sources placed writes x y tx ty size lx ly wx wy word = record
   word = tx.word ∙ word ∙ sym ty.word;
 }
 
-pub opening_rises : (rules : List Rule) (ops : List Operation) (sources : List ℕ) (words openings : ℕ) (turn : ℕ → ℕ)
-    → ExplainsLog rules ops sources words openings turn → (x y : ℕ) → x < length ops → y < length ops → IsOpeningOf openings ops x y → turn x < turn y
-opening_rises rules ops sources words openings turn ex x y lx ly begins =
-    let e = explained rules ops sources words openings turn ex in
+pub opening_rises : (rules : List Rule) (ops : List Operation) (sources : List ℕ) (words openings closing : ℕ) (turn : ℕ → ℕ)
+    → ExplainsLog rules ops sources words openings closing turn → (x y : ℕ) → x < length ops → y < length ops → IsOpeningOf openings ops x y → turn x < turn y
+opening_rises rules ops sources words openings closing turn ex x y lx ly begins =
+    let e = explained rules ops sources words openings closing turn ex in
     places_rise rules ex.placed ex.writes turn e.order x y
     (writes_placed ops sources ex.placed ex.writes x y (e.told x lx) (e.told y ly) e.size lx ly begins.first begins.second begins.word)
     (e.opened x y lx ly begins)
@@ -158,18 +159,18 @@ own_placed : (ops : List Operation) (sources : List ℕ) (placed : List Operatio
     → IsToldAt ops sources placed writes x → IsToldAt ops sources placed writes y → IsOwn ops x y → IsOwn placed x y
 own_placed ops sources placed writes x y tx ty own = record { processor = tx.processor ∙ own.processor ∙ sym ty.processor; before = own.before }
 
-read_by_some : (rules : List Rule) (ops : List Operation) (sources : List ℕ) (words openings : ℕ) (placed : List Operation) (writes : List ℕ) (turn : ℕ → ℕ)
-    → IsExplained rules ops sources words openings placed writes turn → (x y : ℕ) → x < length ops → y < length ops → slice_index sources y ≡ x
+read_by_some : (rules : List Rule) (ops : List Operation) (sources : List ℕ) (words openings closing : ℕ) (placed : List Operation) (writes : List ℕ) (turn : ℕ → ℕ)
+    → IsExplained rules ops sources words openings closing placed writes turn → (x y : ℕ) → x < length ops → y < length ops → slice_index sources y ≡ x
     → is_write (operation_at ops x).kind ≡ true → (operation_at ops x).word ≡ (operation_at ops y).word
     → ((is_load (operation_at ops y).kind ≡ true) × (IsOwn ops x y → ⊥)) ⊎ ((operation_at ops y).kind ≡ Atomic) → turn x < turn y
-read_by_some rules ops sources words openings placed writes turn e x y lx ly source write word (inl load) =
+read_by_some rules ops sources words openings closing placed writes turn e x y lx ly source write word (inl load) =
     let tx = e.told x lx in
     let ty = e.told y ly in
     let at : source_at placed writes y ≡ x = ty.read load.0 ∙ source in
     let some = e.order.source y (subst (λ n. y < n) (sym e.size) ly) (subst (λ k. is_load k ≡ true) (sym ty.kind) load.0) in
     let there : (turn x < turn y) ⊎ IsOwn placed x y = subst (λ s. (turn s < turn y) ⊎ IsOwn placed s y) at some in
     before_or_not ops placed turn x y (λ own. load.1 (own_told ops sources placed writes x y tx ty own)) there
-read_by_some rules ops sources words openings placed writes turn e x y lx ly source write word (inr atomic) =
+read_by_some rules ops sources words openings closing placed writes turn e x y lx ly source write word (inr atomic) =
     let tx = e.told x lx in
     let ty = e.told y ly in
     let next : (operation_at placed y).place ≡ (operation_at placed x).place + 1 =
@@ -178,18 +179,18 @@ read_by_some rules ops sources words openings placed writes turn e x y lx ly sou
     (writes_placed ops sources placed writes x y tx ty e.size lx ly write (subst (λ k. is_write k ≡ true) (sym atomic) refl) word)
     (omega (arith, next))
 
-pub read_rises : (rules : List Rule) (ops : List Operation) (sources : List ℕ) (words openings : ℕ) (turn : ℕ → ℕ)
-    → ExplainsLog rules ops sources words openings turn → (x y : ℕ) → x < length ops → y < length ops → IsReadBy ops sources x y → turn x < turn y
-read_rises rules ops sources words openings turn ex x y lx ly r =
-    read_by_some rules ops sources words openings ex.placed ex.writes turn (explained rules ops sources words openings turn ex) x y lx ly r.source r.written r.word r.reads
+pub read_rises : (rules : List Rule) (ops : List Operation) (sources : List ℕ) (words openings closing : ℕ) (turn : ℕ → ℕ)
+    → ExplainsLog rules ops sources words openings closing turn → (x y : ℕ) → x < length ops → y < length ops → IsReadBy ops sources x y → turn x < turn y
+read_rises rules ops sources words openings closing turn ex x y lx ly r =
+    read_by_some rules ops sources words openings closing ex.placed ex.writes turn (explained rules ops sources words openings closing turn ex) x y lx ly r.source r.written r.word r.reads
 
 -- behind the source of a load or an atomic is behind itself
-later_some : (rules : List Rule) (ops : List Operation) (sources : List ℕ) (words openings : ℕ) (placed : List Operation) (writes : List ℕ) (turn : ℕ → ℕ)
-    → IsExplained rules ops sources words openings placed writes turn → (x w : ℕ) → IsRival ops sources x w
+later_some : (rules : List Rule) (ops : List Operation) (sources : List ℕ) (words openings closing : ℕ) (placed : List Operation) (writes : List ℕ) (turn : ℕ → ℕ)
+    → IsExplained rules ops sources words openings closing placed writes turn → (x w : ℕ) → IsRival ops sources x w
     → (operation_at placed (slice_index sources x)).place < (operation_at placed w).place
     → (is_load (operation_at ops x).kind ≡ true) ⊎ ((operation_at ops x).kind ≡ Atomic)
     → (turn x < turn w) × (is_load (operation_at ops x).kind ≡ true → IsOwn ops w x → ⊥)
-later_some rules ops sources words openings placed writes turn e x w r above (inl load) =
+later_some rules ops sources words openings closing placed writes turn e x w r above (inl load) =
     let tx = e.told x r.reader in
     let tw = e.told w r.writer in
     let low : x < length placed = subst (λ n. x < n) (sym e.size) r.reader in
@@ -200,7 +201,7 @@ later_some rules ops sources words openings placed writes turn e x w r above (in
     (record { first = load_uses (operation_at placed x).kind loads; second = write_uses (operation_at placed w).kind write; word = tx.word ∙ r.word ∙ sym tw.word })
     (omega (arith, here, above)) in
     (newest.0, λ _ own. newest.1 (own_placed ops sources placed writes w x tw tx own))
-later_some rules ops sources words openings placed writes turn e x w r above (inr atomic) =
+later_some rules ops sources words openings closing placed writes turn e x w r above (inr atomic) =
     let tx = e.told x r.reader in
     let tw = e.told w r.writer in
     let next = tx.next atomic in
@@ -210,33 +211,33 @@ later_some rules ops sources words openings placed writes turn e x w r above (in
     let less : (operation_at placed x).place < (operation_at placed w).place = omega (arith, next, above, apart) in
     (places_rise rules placed writes turn e.order x w both less, λ load _. (let bad : false ≡ true = subst (λ k. is_load k ≡ true) atomic load in cc))
 
-source_and : (rules : List Rule) (ops : List Operation) (sources : List ℕ) (words openings : ℕ) (placed : List Operation) (writes : List ℕ) (turn : ℕ → ℕ)
-    → IsExplained rules ops sources words openings placed writes turn → (x w : ℕ) → IsRival ops sources x w
+source_and : (rules : List Rule) (ops : List Operation) (sources : List ℕ) (words openings closing : ℕ) (placed : List Operation) (writes : List ℕ) (turn : ℕ → ℕ)
+    → IsExplained rules ops sources words openings closing placed writes turn → (x w : ℕ) → IsRival ops sources x w
     → AreWrites placed (slice_index sources x) w
-source_and rules ops sources words openings placed writes turn e x w r =
+source_and rules ops sources words openings closing placed writes turn e x w r =
     writes_placed ops sources placed writes (slice_index sources x) w (e.told (slice_index sources x) r.source) (e.told w r.writer) e.size r.source r.writer
     r.written r.writes (r.sourced ∙ r.word)
 
 -- a write behind the source is behind what read it
-pub later_rises : (rules : List Rule) (ops : List Operation) (sources : List ℕ) (words openings : ℕ) (turn : ℕ → ℕ)
-    → ExplainsLog rules ops sources words openings turn → (x w : ℕ) → IsRival ops sources x w → turn (slice_index sources x) < turn w → turn x < turn w
-later_rises rules ops sources words openings turn ex x w r less =
-    let e = explained rules ops sources words openings turn ex in
-    let both = source_and rules ops sources words openings ex.placed ex.writes turn e x w r in
+pub later_rises : (rules : List Rule) (ops : List Operation) (sources : List ℕ) (words openings closing : ℕ) (turn : ℕ → ℕ)
+    → ExplainsLog rules ops sources words openings closing turn → (x w : ℕ) → IsRival ops sources x w → turn (slice_index sources x) < turn w → turn x < turn w
+later_rises rules ops sources words openings closing turn ex x w r less =
+    let e = explained rules ops sources words openings closing turn ex in
+    let both = source_and rules ops sources words openings closing ex.placed ex.writes turn e x w r in
     let above = turns_place rules words ex.placed ex.writes turn e.trace e.order (slice_index sources x) w both (λ same. r.unread (sym same)) less in
-    (later_some rules ops sources words openings ex.placed ex.writes turn e x w r above r.reads).0
+    (later_some rules ops sources words openings closing ex.placed ex.writes turn e x w r above r.reads).0
 
 -- a write before what read the source, or of its own processor before it, is before the source
-pub earlier_rises : (rules : List Rule) (ops : List Operation) (sources : List ℕ) (words openings : ℕ) (turn : ℕ → ℕ)
-    → ExplainsLog rules ops sources words openings turn → (x w : ℕ) → IsRival ops sources x w → (turn w < turn x) ⊎ IsOwnLoad ops w x
+pub earlier_rises : (rules : List Rule) (ops : List Operation) (sources : List ℕ) (words openings closing : ℕ) (turn : ℕ → ℕ)
+    → ExplainsLog rules ops sources words openings closing turn → (x w : ℕ) → IsRival ops sources x w → (turn w < turn x) ⊎ IsOwnLoad ops w x
     → turn w < turn (slice_index sources x)
-earlier_rises rules ops sources words openings turn ex x w r why =
-    let e = explained rules ops sources words openings turn ex in
+earlier_rises rules ops sources words openings closing turn ex x w r why =
+    let e = explained rules ops sources words openings closing turn ex in
     let s : ℕ = slice_index sources x in
-    let both = source_and rules ops sources words openings ex.placed ex.writes turn e x w r in
+    let both = source_and rules ops sources words openings closing ex.placed ex.writes turn e x w r in
     let apart = places_apart words ex.placed ex.writes e.trace s w both (λ same. r.unread (sym same)) in
     elim (cases_lt (operation_at ex.placed s).place (operation_at ex.placed w).place) [
-      | inl above ↦ (let later = later_some rules ops sources words openings ex.placed ex.writes turn e x w r above r.reads in
+      | inl above ↦ (let later = later_some rules ops sources words openings closing ex.placed ex.writes turn e x w r above r.reads in
           elim why [
             | inl less ↦ (let behind = later.0 in absurd (omega (arith, behind, less)))
             | inr own ↦ absurd (later.1 own.load own.own)
@@ -245,10 +246,10 @@ earlier_rises rules ops sources words openings turn ex x w r why =
     ]
 
 -- of two operations one comes first
-pub one_first : (rules : List Rule) (ops : List Operation) (sources : List ℕ) (words openings : ℕ) (turn : ℕ → ℕ)
-    → ExplainsLog rules ops sources words openings turn → (x y : ℕ) → x < length ops → y < length ops → x ≢ y → (turn x < turn y) ⊎ (turn y < turn x)
-one_first rules ops sources words openings turn ex x y lx ly other =
-    let e = explained rules ops sources words openings turn ex in
+pub one_first : (rules : List Rule) (ops : List Operation) (sources : List ℕ) (words openings closing : ℕ) (turn : ℕ → ℕ)
+    → ExplainsLog rules ops sources words openings closing turn → (x y : ℕ) → x < length ops → y < length ops → x ≢ y → (turn x < turn y) ⊎ (turn y < turn x)
+one_first rules ops sources words openings closing turn ex x y lx ly other =
+    let e = explained rules ops sources words openings closing turn ex in
     elim (cases_lt (turn x) (turn y)) [
       | inl less ↦ inl less
       | inr high ↦ (let apart : turn x ≢ turn y = λ same. other (e.order.apart x y (subst (λ n. x < n) (sym e.size) lx) (subst (λ n. y < n) (sym e.size) ly) same) in

@@ -11,6 +11,7 @@ use Rattle.memory_models.specs.Trace.{is_write, operation_at}
 use Rattle.model_values.specs.Forced.{AreForced, IsForced, IsOrderWithSome}
 use Rattle.model_values.specs.Known.{IsFirstOf, IsOwnLoad, IsRival}
 use Rattle.model_values.specs.Unordered.{IsOrderOf}
+use Rattle.model_values.proofs.Closed.{closing_rises}
 use Rattle.model_values.proofs.Explained.{kept_rises, opening_rises, read_rises, later_rises, earlier_rises}
 
 some_rival : (q : Unordered) (turn : ℕ → ℕ) (order : IsOrderWithSome q turn) (x w : ℕ) → IsRival q.operations.now q.sources.now x w
@@ -35,13 +36,15 @@ some_rival q turn order x w r =
 
 -- what comes first does in each order that explains the trace
 some_first : (q : Unordered) (turn : ℕ → ℕ) (order : IsOrderWithSome q turn) (x y : ℕ) → x < length q.operations.now → y < length q.operations.now
-    → IsFirstOf q.rules.now q.operations.now q.sources.now q.openings x y → turn x < turn y
-some_first q turn order x y lx ly (inl kept) = kept_rises q.rules.now q.operations.now order.sources q.words q.openings turn order.is x y lx ly kept
+    → IsFirstOf q.rules.now q.operations.now q.sources.now q.openings q.closing x y → turn x < turn y
+some_first q turn order x y lx ly (inl kept) = kept_rises q.rules.now q.operations.now order.sources q.words q.openings q.closing turn order.is x y lx ly kept
 some_first q turn order x y lx ly (inr (inl opening)) =
-    opening_rises q.rules.now q.operations.now order.sources q.words q.openings turn order.is x y lx ly opening
-some_first q turn order x y lx ly (inr (inr read)) =
+    opening_rises q.rules.now q.operations.now order.sources q.words q.openings q.closing turn order.is x y lx ly opening
+some_first q turn order x y lx ly (inr (inr (inr closed))) =
+    closing_rises q.rules.now q.operations.now order.sources q.words q.openings q.closing turn order.is x y lx ly closed
+some_first q turn order x y lx ly (inr (inr (inl read))) =
     let from : slice_index q.sources.now y < length q.operations.now = subst (λ z. z < length q.operations.now) (sym read.source) lx in
-    read_rises q.rules.now q.operations.now order.sources q.words q.openings turn order.is x y lx ly (record {
+    read_rises q.rules.now q.operations.now order.sources q.words q.openings q.closing turn order.is x y lx ly (record {
       source = order.agrees y ly from ∙ read.source;
       written = read.written;
       word = read.word;
@@ -49,7 +52,7 @@ some_first q turn order x y lx ly (inr (inr read)) =
     })
 
 pub forced_first : (q : Unordered) (edges : List Edge) (x y : ℕ) → x < length q.operations.now → y < length q.operations.now
-    → IsFirstOf q.rules.now q.operations.now q.sources.now q.openings x y → IsForced q edges x y
+    → IsFirstOf q.rules.now q.operations.now q.sources.now q.openings q.closing x y → IsForced q edges x y
 forced_first q edges x y lx ly why = record { from = lx; to = ly; rises = λ turn order up. some_first q turn order x y lx ly why }
 
 pub forced_earlier : (q : Unordered) (edges : List Edge) (x w to : ℕ) → IsRival q.operations.now q.sources.now x w → to ≡ slice_index q.sources.now x
@@ -58,7 +61,7 @@ forced_earlier q edges x w to rival is leads = subst (λ z. IsForced q edges w z
   from = rival.writer;
   to = rival.source;
   rises = λ turn order up. subst (λ z. turn w < turn z) (order.agrees x rival.reader rival.source)
-      (earlier_rises q.rules.now q.operations.now order.sources q.words q.openings turn order.is x w (some_rival q turn order x w rival)
+      (earlier_rises q.rules.now q.operations.now order.sources q.words q.openings q.closing turn order.is x w (some_rival q turn order x w rival)
       (inl (leads turn up)));
 })
 
@@ -69,7 +72,7 @@ forced_own q edges x w to rival is own = subst (λ z. IsForced q edges w z) (sym
   from = rival.writer;
   to = rival.source;
   rises = λ turn order up. subst (λ z. turn w < turn z) (order.agrees x rival.reader rival.source)
-      (earlier_rises q.rules.now q.operations.now order.sources q.words q.openings turn order.is x w (some_rival q turn order x w rival) (inr own));
+      (earlier_rises q.rules.now q.operations.now order.sources q.words q.openings q.closing turn order.is x w (some_rival q turn order x w rival) (inr own));
 })
 
 pub forced_later : (q : Unordered) (edges : List Edge) (x w from : ℕ) → IsRival q.operations.now q.sources.now x w → from ≡ x
@@ -77,7 +80,7 @@ pub forced_later : (q : Unordered) (edges : List Edge) (x w from : ℕ) → IsRi
 forced_later q edges x w from rival is leads = subst (λ z. IsForced q edges z w) (sym is) (record {
   from = rival.reader;
   to = rival.writer;
-  rises = λ turn order up. later_rises q.rules.now q.operations.now order.sources q.words q.openings turn order.is x w
+  rises = λ turn order up. later_rises q.rules.now q.operations.now order.sources q.words q.openings q.closing turn order.is x w
       (some_rival q turn order x w rival)
       (subst (λ z. turn z < turn w) (sym (order.agrees x rival.reader rival.source)) (leads turn up));
 })

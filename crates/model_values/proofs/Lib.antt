@@ -19,6 +19,7 @@ pub mod Choosing
 pub mod Looked
 pub mod Taking
 pub mod Opened
+pub mod Closed
 pub mod Replies
 pub mod Sorted
 pub mod Laid

@@ -22,12 +22,13 @@ use Rattle.model_values.specs.Values.{IsLeftBy, IsReader}
 use Rattle.model_values.proofs.Chosen.{all_at, all_size, all_sources, gives_words, keeps_all, keeps_sources}
 
 placing_of : (rules : List Rule) (v : Valued) (sources : List ℕ) (q : Unordered) → Asks rules v sources q → (placed : List Operation) (writes : List ℕ)
-    → IsPlacing q.operations.now q.sources.now q.words q.openings placed writes → IsPlacing v.operations.now sources v.words v.openings placed writes
+    → IsPlacing q.operations.now q.sources.now q.words q.openings q.closing placed writes → IsPlacing v.operations.now sources v.words v.openings v.closing placed writes
 placing_of rules v sources q asks placed writes is =
-    subst (λ (z : List Operation). IsPlacing z sources v.words v.openings placed writes) asks.operations
-    (subst (λ (z : List ℕ). IsPlacing q.operations.now z v.words v.openings placed writes) asks.chosen
-    (subst (λ (z : ℕ). IsPlacing q.operations.now q.sources.now z v.openings placed writes) asks.words
-    (subst (λ (z : ℕ). IsPlacing q.operations.now q.sources.now q.words z placed writes) asks.openings is)))
+    subst (λ (z : List Operation). IsPlacing z sources v.words v.openings v.closing placed writes) asks.operations
+    (subst (λ (z : List ℕ). IsPlacing q.operations.now z v.words v.openings v.closing placed writes) asks.chosen
+    (subst (λ (z : ℕ). IsPlacing q.operations.now q.sources.now z v.openings v.closing placed writes) asks.words
+    (subst (λ (z : ℕ). IsPlacing q.operations.now q.sources.now q.words z v.closing placed writes) asks.openings
+    (subst (λ (z : ℕ). IsPlacing q.operations.now q.sources.now q.words q.openings z placed writes) asks.closing is))))
 
 -- an order with sources that left what was found explains the words
 pub explains_values : {A : Type 0} (rules : List Rule) (v : Valued) (sources : List ℕ) (q : Unordered) (e : Explanation A) → Asks rules v sources q
@@ -75,13 +76,14 @@ refuted_path rules v path depth sources q asks chosen none placed writes e gives
   is = asked (record { placed = placed; writes = writes; is = keeps_all v placed writes e.valued; order = e.order });
 })
   where
-    asked : ExplainsLog rules v.operations.now (all_sources v placed writes) v.words v.openings e.turn
-        → ExplainsLog q.rules.now q.operations.now (all_sources v placed writes) q.words q.openings e.turn
+    asked : ExplainsLog rules v.operations.now (all_sources v placed writes) v.words v.openings v.closing e.turn
+        → ExplainsLog q.rules.now q.operations.now (all_sources v placed writes) q.words q.openings q.closing e.turn
     asked order =
-        subst (λ (z : List Rule). ExplainsLog z q.operations.now (all_sources v placed writes) q.words q.openings e.turn) (sym asks.by)
-        (subst (λ (z : List Operation). ExplainsLog rules z (all_sources v placed writes) q.words q.openings e.turn) (sym asks.operations)
-        (subst (λ (z : ℕ). ExplainsLog rules v.operations.now (all_sources v placed writes) z q.openings e.turn) (sym asks.words)
-        (subst (λ (z : ℕ). ExplainsLog rules v.operations.now (all_sources v placed writes) v.words z e.turn) (sym asks.openings) order)))
+        subst (λ (z : List Rule). ExplainsLog z q.operations.now (all_sources v placed writes) q.words q.openings q.closing e.turn) (sym asks.by)
+        (subst (λ (z : List Operation). ExplainsLog rules z (all_sources v placed writes) q.words q.openings q.closing e.turn) (sym asks.operations)
+        (subst (λ (z : ℕ). ExplainsLog rules v.operations.now (all_sources v placed writes) z q.openings q.closing e.turn) (sym asks.words)
+        (subst (λ (z : ℕ). ExplainsLog rules v.operations.now (all_sources v placed writes) v.words z q.closing e.turn) (sym asks.openings)
+        (subst (λ (z : ℕ). ExplainsLog rules v.operations.now (all_sources v placed writes) v.words v.openings z e.turn) (sym asks.closing) order))))
 
 -- the order with the sources of all operations
 all_path : (rules : List Rule) (v : Valued) (path : List (ℕ × ℕ)) (sources : List ℕ) (q : Unordered) → Asks rules v sources q
@@ -93,13 +95,14 @@ all_path rules v path sources q asks chosen left none placed writes e gives = no
     same : (x : ℕ) → x < length v.operations.now → IsReader v.operations.now x → source_in v placed writes x ≡ slice_index sources x
     same x low reads = chosen_given v placed writes path (length path) x (slice_index sources x) (chosen.each x low (left x low reads).low) gives
 
-    asked : ExplainsLog rules v.operations.now sources v.words v.openings e.turn → IsOrderOf q e.turn
+    asked : ExplainsLog rules v.operations.now sources v.words v.openings v.closing e.turn → IsOrderOf q e.turn
     asked order =
-        subst (λ (z : List Rule). ExplainsLog z q.operations.now q.sources.now q.words q.openings e.turn) (sym asks.by)
-        (subst (λ (z : List Operation). ExplainsLog rules z q.sources.now q.words q.openings e.turn) (sym asks.operations)
-        (subst (λ (z : List ℕ). ExplainsLog rules v.operations.now z q.words q.openings e.turn) (sym asks.chosen)
-        (subst (λ (z : ℕ). ExplainsLog rules v.operations.now sources z q.openings e.turn) (sym asks.words)
-        (subst (λ (z : ℕ). ExplainsLog rules v.operations.now sources v.words z e.turn) (sym asks.openings) order))))
+        subst (λ (z : List Rule). ExplainsLog z q.operations.now q.sources.now q.words q.openings q.closing e.turn) (sym asks.by)
+        (subst (λ (z : List Operation). ExplainsLog rules z q.sources.now q.words q.openings q.closing e.turn) (sym asks.operations)
+        (subst (λ (z : List ℕ). ExplainsLog rules v.operations.now z q.words q.openings q.closing e.turn) (sym asks.chosen)
+        (subst (λ (z : ℕ). ExplainsLog rules v.operations.now sources z q.openings q.closing e.turn) (sym asks.words)
+        (subst (λ (z : ℕ). ExplainsLog rules v.operations.now sources v.words z q.closing e.turn) (sym asks.openings)
+        (subst (λ (z : ℕ). ExplainsLog rules v.operations.now sources v.words v.openings z e.turn) (sym asks.closing) order)))))
 
 -- what a verdict on the sources of all operations says of a path
 abbrev pub SeesOrder : {A : Type 0} → List Rule → Valued → List (ℕ × ℕ) → ℕ → OrderVerdict A → Type 0

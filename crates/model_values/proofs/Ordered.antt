@@ -1,5 +1,5 @@
 -- An order in which the replies follow is that of an explanation.
-use Rattle.std.proofs.Common.{◌≡◌, ◌⊎◌, inl, inr, ℕ, ◌+◌, ◌<◌, true, false, List, length, refl, sym, ap, subst, ◌∙◌, arith}
+use Rattle.std.proofs.Common.{◌≡◌, ◌⊎◌, inl, inr, ℕ, ◌+◌, ◌<◌, ◌≤◌, true, false, List, length, refl, sym, ap, subst, ◌∙◌, arith}
 use Rattle.std.specs.Prelude.{slice_index}
 use Rattle.std.proofs.lemmas.Bool.{cases_eq, cases_lt}
 use Rattle.memory_models.specs.declared.kinds.Kind.{Kind}
@@ -9,8 +9,10 @@ use Rattle.memory_models.specs.declared.kinds.Rule.{Rule}
 use Rattle.memory_models.specs.Order.{IsMemoryOrder}
 use Rattle.memory_models.specs.Trace.{is_load, is_write, uses_word, operation_at, source_at, IsOwn, IsMemoryTrace}
 use Rattle.memory_models.proofs.Lasts.{from_write}
+use Rattle.memory_models.proofs.Orders.{load_uses}
 use Rattle.model_values.specs.declared.valued.Valued.{Valued}
 use Rattle.model_values.specs.Replies.{AreGrouped, CanSee, FindsNewest, IsReplyOrder}
+use Rattle.model_values.specs.Unordered.{IsClosingOf}
 use Rattle.model_values.specs.Values.{FindsAt, FindsBefore, IsValuedPlacing}
 use Rattle.model_values.proofs.Explained.{IsLike, keeps_placed, kept_before, write_uses}
 use Rattle.model_values.proofs.Laid.{AreWritten, IsLaid, laid, one_place, written_of}
@@ -247,6 +249,25 @@ ordered_order rules v turn placed writes e = record {
           })
         ])
 
+-- a closing load stands behind all writes on its word
+ordered_closed : (rules : List Rule) (v : Valued) (turn : ℕ → ℕ) (placed : List Operation) (writes : List ℕ) → IsOrdered rules v turn placed writes
+    → (x y : ℕ) → x < length v.operations.now → y < length v.operations.now → IsClosingOf v.closing v.operations.now x y
+    → (operation_at placed y).place ≤ (operation_at placed x).place
+ordered_closed rules v turn placed writes e x y lx ly c =
+    let l = (e.each x lx).load c.load in
+    let f = l.0 in
+    let s : ℕ = f.newest in
+    let es = (e.each s f.left.low).write f.left.write in
+    let low-x = (e.each x lx).low (load_uses (operation_at v.operations.now x).kind c.load) in
+    let low-s = (e.each s f.left.low).low (write_uses (operation_at v.operations.now s).kind f.left.write) in
+    let at : (operation_at placed s).place ≡ (operation_at placed x).place =
+    one_place v.operations.now turn writes e.written (operation_at placed s).place (operation_at placed x).place low-s low-x (es ∙ sym l.1) in
+    elim (f.closed y ly c) [
+      | inl same ↦ (let there = ap (λ z. (operation_at placed z).place) same in omega (arith, there, at))
+      | inr less ↦ (let before = turn_place rules v turn placed writes e y s ly f.left.low c.write f.left.write (sym c.word ∙ sym f.left.word) less in
+          omega (arith, before, at))
+    ]
+
 pub ordered : (rules : List Rule) (v : Valued) (turn : ℕ → ℕ) → AreGrouped v → IsReplyOrder rules v turn
     → (placed : List Operation) × (writes : List ℕ) × IsValuedPlacing v placed writes × IsMemoryOrder rules placed writes turn
 ordered rules v turn groups order =
@@ -261,6 +282,7 @@ ordered rules v turn groups order =
         trace = ordered_trace rules v turn all.items w.0 groups e;
         same = λ x lx. (let l = all.each x lx in record { processor = l.processor; kind = l.kind; word = l.word; fence = l.fence });
         finds = ordered_finds rules v turn all.items w.0 e;
+        closed = λ x y lx ly c. ordered_closed rules v turn all.items w.0 e x y lx ly c;
         opened = λ x y lx ly opens. turn_place rules v turn all.items w.0 e x y lx ly opens.first opens.second opens.word (order.opened x y lx ly opens);
       },
       ordered_order rules v turn all.items w.0 e,

@@ -1,7 +1,8 @@
 -- The replies follow along the order of an explanation.
-use Rattle.std.proofs.Common.{◌≡◌, ◌⊎◌, inl, inr, ℕ, ◌<◌, true, List, length, refl, sym, ap, subst, ◌∙◌, arith}
+use Rattle.std.proofs.Common.{◌≡◌, ◌⊎◌, inl, inr, ℕ, ◌<◌, ◌≤◌, true, List, length, refl, sym, ap, subst, ◌∙◌, arith}
 use Rattle.std.specs.Prelude.{slice_index}
 use Rattle.std.proofs.lemmas.Bool.{cases_eq, cases_lt}
+use Rattle.memory_models.specs.declared.kinds.Kind.TheVariants.{Atomic}
 use Rattle.memory_models.specs.declared.kinds.Operation.{Operation}
 use Rattle.memory_models.specs.declared.kinds.Rule.{Rule}
 use Rattle.memory_models.specs.Order.{IsMemoryOrder}
@@ -12,6 +13,7 @@ use Rattle.memory_models.proofs.Orders.{load_uses}
 use Rattle.memory_models.proofs.Runs.{both_on}
 use Rattle.model_values.specs.declared.valued.Valued.{Valued}
 use Rattle.model_values.specs.Replies.{CanSee, FindsNewest, IsReplyOrder}
+use Rattle.model_values.specs.Unordered.{IsClosingOf}
 use Rattle.model_values.specs.Values.{IsReader, IsValuedPlacing}
 use Rattle.model_values.proofs.Explained.{keeps_placed, same_like}
 
@@ -41,8 +43,10 @@ newest_at : (rules : List Rule) (v : Valued) (placed : List Operation) (writes :
     → CanSee placed turn x (slice_index writes p)
     → ((w : ℕ) → w < length placed → is_write (operation_at placed w).kind ≡ true → (operation_at placed w).word ≡ (operation_at placed x).word
     → CanSee placed turn x w → (w ≡ slice_index writes p) ⊎ (turn w < turn (slice_index writes p)))
+    → ((w : ℕ) → w < length v.operations.now → IsClosingOf v.closing v.operations.now x w
+    → (w ≡ slice_index writes p) ⊎ (turn w < turn (slice_index writes p)))
     → FindsNewest v turn x
-newest_at rules v placed writes turn e x p lx lp word left seen last =
+newest_at rules v placed writes turn e x p lx lp word left seen last closed =
     let low : slice_index writes p < length v.operations.now = subst (λ n. slice_index writes p < n) e.is.size (e.is.trace.low p lp) in
     let same = e.is.same (slice_index writes p) low in
     record {
@@ -56,14 +60,15 @@ newest_at rules v placed writes turn e x p lx lp word left seen last =
       seen = placed_sees rules v placed writes turn e x (slice_index writes p) lx low seen;
       last = λ w lw write on see. last w (subst (λ n. w < n) (sym e.is.size) lw) (subst (λ k. is_write k ≡ true) (sym (e.is.same w lw).kind) write)
           ((e.is.same w lw).word ∙ (on ∙ sym (e.is.same x lx).word)) (sees_placed rules v placed writes turn e x w lx lw see);
+      closed = closed;
     }
 
--- of a load the newest write is its source
-load_last : (rules : List Rule) (v : Valued) (placed : List Operation) (writes : List ℕ) (turn : ℕ → ℕ) → IsExplaining rules v placed writes turn
+-- a write on its word that is no later than a load's source
+no_later : (rules : List Rule) (v : Valued) (placed : List Operation) (writes : List ℕ) (turn : ℕ → ℕ) → IsExplaining rules v placed writes turn
     → (x w : ℕ) → x < length placed → w < length placed → is_load (operation_at placed x).kind ≡ true → is_write (operation_at placed w).kind ≡ true
-    → (operation_at placed w).word ≡ (operation_at placed x).word → CanSee placed turn x w
+    → (operation_at placed w).word ≡ (operation_at placed x).word → (operation_at placed w).place ≤ (operation_at placed x).place
     → (w ≡ source_at placed writes x) ⊎ (turn w < turn (source_at placed writes x))
-load_last rules v placed writes turn e x w lx lw load write on see =
+no_later rules v placed writes turn e x w lx lw load write on not =
     let t = e.is.trace in
     let place : ℕ = (operation_at placed x).place in
     let uses : uses_word (operation_at placed x).kind ≡ true = load_uses (operation_at placed x).kind load in
@@ -71,6 +76,20 @@ load_last rules v placed writes turn e x w lx lw load write on see =
     let s : ℕ = slice_index writes place in
     let there : (operation_at placed s).place ≡ place = t.places place inside in
     let source-write : is_write (operation_at placed s).kind ≡ true = t.writes_are place inside in
+    elim (cases_eq (operation_at placed w).place place) [
+      | inl same ↦ inl (sym (t.written w lw write) ∙ ap (λ z. slice_index writes z) same)
+      | inr other ↦ inr (e.order.word_order w s lw (t.low place inside) write source-write
+          (both_on placed w s write source-write (on ∙ sym (t.source x lx uses))) (omega (arith, not, other, there)))
+    ]
+
+-- of a load the newest write is its source
+load_last : (rules : List Rule) (v : Valued) (placed : List Operation) (writes : List ℕ) (turn : ℕ → ℕ) → IsExplaining rules v placed writes turn
+    → (x w : ℕ) → x < length placed → w < length placed → is_load (operation_at placed x).kind ≡ true → is_write (operation_at placed w).kind ≡ true
+    → (operation_at placed w).word ≡ (operation_at placed x).word → CanSee placed turn x w
+    → (w ≡ source_at placed writes x) ⊎ (turn w < turn (source_at placed writes x))
+load_last rules v placed writes turn e x w lx lw load write on see =
+    let place : ℕ = (operation_at placed x).place in
+    let uses : uses_word (operation_at placed x).kind ≡ true = load_uses (operation_at placed x).kind load in
     elim (cases_lt place (operation_at placed w).place) [
       | inl behind ↦ (let uses-w = (both_on placed w w write write refl).first in
           let no = e.order.newest x w lx lw load write (record { first = uses; second = uses-w; word = sym on }) behind in
@@ -78,11 +97,7 @@ load_last rules v placed writes turn e x w lx lw load write on see =
             | inl less ↦ absurd (let up = no.0 in omega (arith, up, less))
             | inr own ↦ absurd (no.1 own)
           ])
-      | inr not ↦ elim (cases_eq (operation_at placed w).place place) [
-        | inl same ↦ inl (sym (t.written w lw write) ∙ ap (λ z. slice_index writes z) same)
-        | inr other ↦ inr (e.order.word_order w s lw (t.low place inside) write source-write
-            (both_on placed w s write source-write (on ∙ sym (t.source x lx uses))) (omega (arith, not, other, there)))
-      ]
+      | inr not ↦ no_later rules v placed writes turn e x w lx lw load write on not
     ]
 
 -- what an atomic can see is before it
@@ -106,6 +121,9 @@ reader_finds rules v placed writes turn e x lx (inl load) =
     newest_at rules v placed writes turn e x (operation_at placed x).place lx (e.is.trace.place x low-x uses) (e.is.trace.source x low-x uses)
     ((e.is.finds x lx).read load) (e.order.source x low-x loads)
     (λ w lw write on see. load_last rules v placed writes turn e x w low-x lw loads write on see)
+    (λ w lw c. no_later rules v placed writes turn e x w low-x (subst (λ n. w < n) (sym e.is.size) lw) loads
+    (subst (λ k. is_write k ≡ true) (sym (e.is.same w lw).kind) c.write)
+    ((e.is.same w lw).word ∙ (sym c.word ∙ sym (e.is.same x lx).word)) (e.is.closed x w lx lw c))
 reader_finds rules v placed writes turn e x lx (inr atomic) =
     let low-x : x < length placed = subst (λ n. x < n) (sym e.is.size) lx in
     let kind = (e.is.same x lx).kind ∙ atomic in
@@ -117,6 +135,7 @@ reader_finds rules v placed writes turn e x lx (inr atomic) =
     newest_at rules v placed writes turn e x before.place lx (omega (arith, inside, before.next)) before.word before.leaves (inl last.0)
     (λ w lw write on see. last.1 w lw write (both_on placed x w write-x write (sym on))
     (sees_before rules placed writes turn e.order x w low-x write-x write on see))
+    (λ w lw c. absurd (let bad : is_load Atomic ≡ true = sym (ap is_load atomic) ∙ c.load in cc))
 
 pub replies : (rules : List Rule) (v : Valued) (placed : List Operation) (writes : List ℕ) (turn : ℕ → ℕ) → IsValuedPlacing v placed writes
     → IsMemoryOrder rules placed writes turn → IsReplyOrder rules v turn

@@ -6,23 +6,26 @@ use Rattle.std.proofs.lemmas.Nat.{mul-add-lt}
 use Rattle.model_values.specs.declared.question.Unordered.{Unordered}
 use Rattle.model_values.specs.Known.{is_known, AgreesWith, HasNoted, HasSpreadOrder, IsFirstOf, IsOwnLoad, IsRival}
 use Rattle.model_values.specs.Unordered.{IsOrderOf}
+use Rattle.model_values.proofs.Closed.{closing_rises}
 use Rattle.model_values.proofs.Explained.{kept_rises, opening_rises, read_rises, later_rises, earlier_rises}
 use Rattle.model_values.proofs.Table.{has_spread, spread_noted, known_le}
 
 -- what comes first does in each order that explains the trace
 pub first_rises : (q : Unordered) (x y : ℕ) (turn : ℕ → ℕ) → x < length q.operations.now → y < length q.operations.now
-    → IsFirstOf q.rules.now q.operations.now q.sources.now q.openings x y → IsOrderOf q turn → turn x < turn y
-first_rises q x y turn lx ly (inl kept) order = kept_rises q.rules.now q.operations.now q.sources.now q.words q.openings turn order x y lx ly kept
-first_rises q x y turn lx ly (inr (inl opening)) order = opening_rises q.rules.now q.operations.now q.sources.now q.words q.openings turn order x y lx ly opening
-first_rises q x y turn lx ly (inr (inr read)) order = read_rises q.rules.now q.operations.now q.sources.now q.words q.openings turn order x y lx ly read
+    → IsFirstOf q.rules.now q.operations.now q.sources.now q.openings q.closing x y → IsOrderOf q turn → turn x < turn y
+first_rises q x y turn lx ly (inl kept) order = kept_rises q.rules.now q.operations.now q.sources.now q.words q.openings q.closing turn order x y lx ly kept
+first_rises q x y turn lx ly (inr (inl opening)) order = opening_rises q.rules.now q.operations.now q.sources.now q.words q.openings q.closing turn order x y lx ly opening
+first_rises q x y turn lx ly (inr (inr (inl read))) order = read_rises q.rules.now q.operations.now q.sources.now q.words q.openings q.closing turn order x y lx ly read
+first_rises q x y turn lx ly (inr (inr (inr closed))) order =
+    closing_rises q.rules.now q.operations.now q.sources.now q.words q.openings q.closing turn order x y lx ly closed
 
 early_rises : (q : Unordered) (level x w : ℕ) (table : List ℕ) (turn : ℕ → ℕ) → IsRival q.operations.now q.sources.now x w → IsOrderOf q turn
     → AgreesWith table (length q.operations.now) level turn
     → (is_known table (length q.operations.now) level w x ≡ true) ⊎ IsOwnLoad q.operations.now w x → turn w < turn (slice_index q.sources.now x)
 early_rises q level x w table turn rival order agrees (inl known) =
-    earlier_rises q.rules.now q.operations.now q.sources.now q.words q.openings turn order x w rival (inl (agrees w x rival.writer rival.reader known))
+    earlier_rises q.rules.now q.operations.now q.sources.now q.words q.openings q.closing turn order x w rival (inl (agrees w x rival.writer rival.reader known))
 early_rises q level x w table turn rival order agrees (inr own) =
-    earlier_rises q.rules.now q.operations.now q.sources.now q.words q.openings turn order x w rival (inr own)
+    earlier_rises q.rules.now q.operations.now q.sources.now q.words q.openings q.closing turn order x w rival (inr own)
 
 -- both conclusions on a load or an atomic and a write
 pub rival_more : (q : Unordered) (level x w : ℕ) (forth back : Bool) (a b c : List ℕ) → IsRival q.operations.now q.sources.now x w
@@ -34,7 +37,7 @@ rival_more q level x w forth back a b c rival early one late two =
     let first = spread_noted q level forth w (slice_index q.sources.now x) a a b (has_spread q level a) one
     (λ turn order agrees fact. early_rises q level x w a turn rival order agrees (early fact)) in
     spread_noted q level back x w a b c first two
-    (λ turn order agrees fact. later_rises q.rules.now q.operations.now q.sources.now q.words q.openings turn order x w rival
+    (λ turn order agrees fact. later_rises q.rules.now q.operations.now q.sources.now q.words q.openings q.closing turn order x w rival
     (agrees (slice_index q.sources.now x) w rival.source rival.writer (late fact)))
 
 fresh_at : (n k : ℕ) → k < n → slice_index (replicate n 18446744073709551615) k ≡ 18446744073709551615

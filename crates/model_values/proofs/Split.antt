@@ -219,7 +219,7 @@ turned_agrees : (q : Unordered) (last x y : ℕ) (s k t : List ℕ) → last + 1
     → IsRefuted q s (last + 1) → IsForgotten last s k → HasNoted (length q.operations.now) last true y x k t
     → (turn : ℕ → ℕ) → IsOrderOf q turn → AgreesWith s (length q.operations.now) last turn → AgreesWith t (length q.operations.now) last turn
 turned_agrees q last x y s k t small split none f n turn order agrees =
-    elim (one_first q.rules.now q.operations.now q.sources.now q.words q.openings turn order x y split.first split.second split.apart) [
+    elim (one_first q.rules.now q.operations.now q.sources.now q.words q.openings q.closing turn order x y split.first split.second split.apart) [
       | inl less ↦ absurd (none turn order (split.next turn order agrees less))
       | inr less ↦ n.agrees turn
           (same_agrees last (length q.operations.now) s k turn (turned_below (length q.operations.now) last s k small f) agrees) (λ _. less)

@@ -17,8 +17,8 @@ use Rattle.model_values.specs.ValuedVerdict.{IsJudgedOn}
 -- the orders of a question are those that give the words
 abbrev pub AsksValues : Valued → Unordered → Type 0
 AsksValues v q = (placed : List Operation) (writes : List ℕ)
-    → (IsValuedPlacing v placed writes → IsPlacing q.operations.now q.sources.now q.words q.openings placed writes)
-    × (IsPlacing q.operations.now q.sources.now q.words q.openings placed writes → IsValuedPlacing v placed writes)
+    → (IsValuedPlacing v placed writes → IsPlacing q.operations.now q.sources.now q.words q.openings q.closing placed writes)
+    × (IsPlacing q.operations.now q.sources.now q.words q.openings q.closing placed writes → IsValuedPlacing v placed writes)
 
 pub judged_values : {A : Type 0} (rules : List Rule) (v : Valued) (q : Unordered) (nodes : ℕ) (verdict : OrderVerdict A) → q.rules.now ≡ rules
     → q.operations.now ≡ v.operations.now → AsksValues v q → IsOrderVerdict q (Some nodes) verdict → IsJudgedOn rules v nodes verdict

@@ -17,7 +17,7 @@ use Rattle.model_values.specs.Searches.{IsCutOff}
 -- an order of each word's writes, and turns by which the trace obeys the model with it
 pub record IsExplanation {A : Type 0} (q : Unordered) (e : Explanation A) : Type 0 where
   pub turns : IsPermutationBelow (length q.operations.now) e.turns.items
-  pub is : IsPlacing q.operations.now q.sources.now q.words q.openings e.operations.items
+  pub is : IsPlacing q.operations.now q.sources.now q.words q.openings q.closing e.operations.items
       e.writes.items
   pub order : IsMemoryOrder q.rules.now e.operations.items e.writes.items
       (slice_index e.turns.items)

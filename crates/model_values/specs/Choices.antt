@@ -102,6 +102,7 @@ pub record Asks (rules : List Rule) (v : Valued) (sources : List ℕ) (q : Unord
   pub chosen : q.sources.now ≡ sources
   pub words : q.words ≡ v.words
   pub openings : q.openings ≡ v.openings
+  pub closing : q.closing ≡ v.closing
 
 -- the search for an order with the sources of a path, which has all, was cut off
 pub record IsCutOffWith (rules : List Rule) (v : Valued) (path : List (ℕ × ℕ)) (left : ℕ) : Type 0

@@ -15,7 +15,7 @@ pub record IsOrderWithSome (q : Unordered) (turn : ℕ → ℕ) : Type 0 where
   pub agrees : (x : ℕ) → x < length q.operations.now
       → slice_index q.sources.now x < length q.operations.now
       → slice_index sources x ≡ slice_index q.sources.now x
-  pub is : ExplainsLog q.rules.now q.operations.now sources q.words q.openings turn
+  pub is : ExplainsLog q.rules.now q.operations.now sources q.words q.openings q.closing turn
 
 -- an operation comes before another in each order that explains the trace, where some pairs do
 pub record IsForced (q : Unordered) (edges : List Edge) (x y : ℕ) : Type 0 where

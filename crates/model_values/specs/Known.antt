@@ -8,7 +8,7 @@ use Rattle.memory_models.specs.Trace.{is_load, is_write, operation_at, IsOwn}
 use Rattle.model_values.specs.declared.question.Unordered.{Unordered}
 use Rattle.memory_models.specs.declared.kinds.Rule.{Rule}
 use Rattle.memory_models.specs.Order.{KeepsOrder}
-use Rattle.model_values.specs.Unordered.{IsOpeningOf, IsOrderOf}
+use Rattle.model_values.specs.Unordered.{IsClosingOf, IsOpeningOf, IsOrderOf}
 
 -- whether a pair is noted at a level, or at a lower one
 abbrev pub is_known : List ℕ → ℕ → ℕ → ℕ → ℕ → Bool
@@ -88,11 +88,18 @@ pub record IsReadBy (ops : List Operation) (sources : List ℕ) (x y : ℕ) : Ty
   pub reads : ((is_load (operation_at ops y).kind ≡ true) × (IsOwn ops x y → ⊥))
       ⊎ ((operation_at ops y).kind ≡ Atomic)
 
+-- a write, and a closing load on its word that is the first operation of its processor
+pub record IsClosedBy (closing : ℕ) (ops : List Operation) (x y : ℕ) : Type 0 where
+  pub closes : IsClosingOf closing ops y x
+  pub first : (b : ℕ) → b + 1 ≡ y
+      → (operation_at ops b).processor ≢ (operation_at ops y).processor
+
 -- why one operation comes before another in each order that explains the trace: the model keeps
--- their program order, the first is the opening store, or the second read it
-abbrev pub IsFirstOf : List Rule → List Operation → List ℕ → ℕ → ℕ → ℕ → Type 0
-IsFirstOf rules ops sources openings x y =
-    KeepsOrder rules ops x y ⊎ (IsOpeningOf openings ops x y ⊎ IsReadBy ops sources x y)
+-- their program order, the first is the opening store, the second read it, or it is a closing load
+abbrev pub IsFirstOf : List Rule → List Operation → List ℕ → ℕ → ℕ → ℕ → ℕ → Type 0
+IsFirstOf rules ops sources openings closing x y =
+    KeepsOrder rules ops x y
+    ⊎ (IsOpeningOf openings ops x y ⊎ (IsReadBy ops sources x y ⊎ IsClosedBy closing ops x y))
 
 -- two different writes on one word
 pub record AreRivals (ops : List Operation) (x y : ℕ) : Type 0 where

@@ -6,7 +6,7 @@ use Rattle.memory_models.specs.declared.kinds.Rule.{Rule}
 use Rattle.memory_models.specs.Order.{KeepsOrder}
 use Rattle.memory_models.specs.Trace.{is_write, operation_at, IsOwn}
 use Rattle.model_values.specs.declared.valued.Valued.{Valued}
-use Rattle.model_values.specs.Unordered.{IsOpeningOf}
+use Rattle.model_values.specs.Unordered.{IsClosingOf, IsOpeningOf}
 use Rattle.model_values.specs.Values.{IsLeftBy, IsReader}
 
 -- an operation can see a write: one before it in the order, or one before it in its own processor's
@@ -14,7 +14,8 @@ use Rattle.model_values.specs.Values.{IsLeftBy, IsReader}
 abbrev pub CanSee : List Operation → (ℕ → ℕ) → ℕ → ℕ → Type 0
 CanSee ops turn x w = (turn w < turn x) ⊎ IsOwn ops w x
 
--- of the writes on its word that an operation can see, the newest one left what it found
+-- of the writes on its word that an operation can see, the newest one left what it found; of a
+-- closing load it is the newest one of all writes on its word
 pub record FindsNewest (v : Valued) (turn : ℕ → ℕ) (x : ℕ) : Type 0 where
   pub newest : ℕ
   pub left : IsLeftBy v.operations.now v.left.now v.found.now x newest
@@ -23,6 +24,8 @@ pub record FindsNewest (v : Valued) (turn : ℕ → ℕ) (x : ℕ) : Type 0 wher
       → is_write (operation_at v.operations.now w).kind ≡ true
       → (operation_at v.operations.now w).word ≡ (operation_at v.operations.now x).word
       → CanSee v.operations.now turn x w → (w ≡ newest) ⊎ (turn w < turn newest)
+  pub closed : (w : ℕ) → w < length v.operations.now → IsClosingOf v.closing v.operations.now x w
+      → (w ≡ newest) ⊎ (turn w < turn newest)
 
 -- the operations of each processor stand together, and their words are below the number of words
 pub record AreGrouped (v : Valued) : Type 0 where

@@ -35,9 +35,9 @@ pub record CutsOffValues (rules : List Rule) (v : Valued) (nodes : Option ℕ) :
   pub same : (placed : List Operation) (writes : List ℕ)
       → (IsValuedPlacing v placed writes
       → IsPlacing question.operations.now question.sources.now question.words question.openings
-      placed writes)
+      question.closing placed writes)
       × (IsPlacing question.operations.now question.sources.now question.words question.openings
-      placed writes
+      question.closing placed writes
       → IsValuedPlacing v placed writes)
   pub cut : IsCutOff question nodes
 

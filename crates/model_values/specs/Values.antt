@@ -1,5 +1,5 @@
 -- A trace that gives the words that its operations left and found, and neither sources nor orders.
-use Rattle.std.specs.Prelude.{◌≡◌, ◌≢◌, ◌⊎◌, ℕ, ◌+◌, ◌<◌, true, List, length, slice_index}
+use Rattle.std.specs.Prelude.{◌≡◌, ◌≢◌, ◌⊎◌, ℕ, ◌+◌, ◌<◌, ◌≤◌, true, List, length, slice_index}
 use Rattle.memory_models.specs.declared.kinds.Kind.TheVariants.{Atomic}
 use Rattle.memory_models.specs.declared.kinds.Operation.{Operation}
 use Rattle.memory_models.specs.Trace.{is_load, is_write, operation_at, source_at, IsMemoryTrace}
@@ -7,7 +7,7 @@ use Rattle.model_values.specs.declared.valued.Sources.{Sources}
 use Rattle.model_values.specs.declared.valued.Sources.TheVariants.{Told, Alike, Lost, Unwritten}
 use Rattle.model_values.specs.declared.valued.Valued.{Valued}
 use Rattle.model_values.specs.Placed.{IsSame}
-use Rattle.model_values.specs.Unordered.{IsOpeningOf, IsPlacing}
+use Rattle.model_values.specs.Unordered.{IsClosingOf, IsOpeningOf, IsPlacing}
 
 -- the write just before an operation in its word's order left the word that the operation found
 pub record FindsBefore (left found : List ℕ) (placed : List Operation) (writes : List ℕ) (x : ℕ) :
@@ -27,7 +27,7 @@ pub record FindsAt (ops : List Operation) (left found : List ℕ) (placed : List
     pub next : (operation_at ops x).kind ≡ Atomic → FindsBefore left found placed writes x
 
 -- an order of each word's writes that begins with the opening store and gives the words that were
--- found
+-- found; a closing load stands at the last write of its word, and so found what that left
 pub record IsValuedPlacing (v : Valued) (placed : List Operation) (writes : List ℕ) : Type 0 where
   pub size : length placed ≡ length v.operations.now
   pub trace : IsMemoryTrace v.words placed writes
@@ -37,6 +37,9 @@ pub record IsValuedPlacing (v : Valued) (placed : List Operation) (writes : List
   pub opened : (x y : ℕ) → x < length v.operations.now → y < length v.operations.now
       → IsOpeningOf v.openings v.operations.now x y
       → (operation_at placed x).place < (operation_at placed y).place
+  pub closed : (x y : ℕ) → x < length v.operations.now → y < length v.operations.now
+      → IsClosingOf v.closing v.operations.now x y
+      → (operation_at placed y).place ≤ (operation_at placed x).place
 
 -- an operation reads its word: a load or an atomic
 abbrev pub IsReader : List Operation → ℕ → Type 0
@@ -101,8 +104,8 @@ pub record AreKnownSources (v : Valued) (sources : List ℕ) : Type 0 where
   pub kept : HasNoLostUpdate v
   pub same : (placed : List Operation) (writes : List ℕ)
       → (IsValuedPlacing v placed writes
-      → IsPlacing v.operations.now sources v.words v.openings placed writes)
-      × (IsPlacing v.operations.now sources v.words v.openings placed writes
+      → IsPlacing v.operations.now sources v.words v.openings v.closing placed writes)
+      × (IsPlacing v.operations.now sources v.words v.openings v.closing placed writes
       → IsValuedPlacing v placed writes)
 
 -- the sources; or two writes that left the same in one word, and no update is lost; or a lost update,

@@ -45,6 +45,7 @@ pub fn judge_valued<A: Allocator + Copy>(
         sources,
         words: valued.words,
         openings: valued.openings,
+        closing: valued.closing,
     };
     judge_unordered(alloc, &question, Some(nodes))
 }

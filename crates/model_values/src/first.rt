@@ -1,8 +1,9 @@
 //! What is known of every order that explains a trace, before anything is concluded.
 
-ghost use Rattle.std.specs.Prelude.{◌≡◌, ℕ, ◌*◌, ◌<◌, true, false, length, IfOk, IfSome};
+ghost use Rattle.std.specs.Prelude.{◌≡◌, ◌≢◌, ℕ, ◌+◌, ◌*◌, ◌<◌, true, false, length, IfOk, IfSome};
 ghost use Rattle.memory_models.specs.Order.{KeepsOrder};
-ghost use Rattle.model_values.specs.Known.{AgreesWith, HasSpreadOrder, IsFirstOf, IsReadBy};
+ghost use Rattle.memory_models.specs.Trace.{operation_at};
+ghost use Rattle.model_values.specs.Known.{AgreesWith, HasSpreadOrder, IsClosedBy, IsFirstOf, IsReadBy};
 ghost use Rattle.model_values.specs.Unordered.{IsOrderOf, IsOpeningOf};
 
 use crate::known::add;
@@ -59,12 +60,38 @@ fn is_read_by(operations: &[Operation], sources: &[usize], x: usize, y: usize) -
     }
 }
 
+/// Whether the operation just before another one is of another processor, or there is none.
+fn begins_program(operations: &[Operation], y: usize) -> bool
+    requires y { y < length operations.now }
+    ensures yes { result ≡ true → (b : ℕ) → b + 1 ≡ y
+        → (operation_at operations.now b).processor ≢ (operation_at operations.now y).processor }
+    ensures no { result ≡ false → ((b : ℕ) → b + 1 ≡ y
+        → (operation_at operations.now b).processor ≢ (operation_at operations.now y).processor)
+        → ⊥ }
+{
+    y == 0 || operations[y - 1].processor != operations[y].processor
+}
+
+/// Whether the second is a closing load of the first's word, and the first operation of its processor.
+fn is_closed_by(operations: &[Operation], closing: usize, x: usize, y: usize) -> bool
+    requires x { x < length operations.now }
+    requires y { y < length operations.now }
+    ensures yes { result ≡ true → IsClosedBy closing operations.now x y }
+    ensures no { result ≡ false → IsClosedBy closing operations.now x y → ⊥ }
+{
+    y >= closing
+        && is_load(operations[y].kind)
+        && is_write(operations[x].kind)
+        && operations[y].word == operations[x].word
+        && begins_program(operations, y)
+}
+
 /// Whether one operation comes before another in every order that explains the trace.
 pub(crate) fn starts(question: &Unordered, x: usize, y: usize) -> bool
     requires x { x < length question.now.operations.now }
     requires y { y < length question.now.operations.now }
     ensures { result ≡ true → IsFirstOf question.now.rules.now question.now.operations.now
-        question.now.sources.now question.now.openings x y }
+        question.now.sources.now question.now.openings question.now.closing x y }
 {
     if is_kept(question.rules, question.operations, x, y) {
         return true;
@@ -72,7 +99,10 @@ pub(crate) fn starts(question: &Unordered, x: usize, y: usize) -> bool
     if is_opening_of(question.operations, question.openings, x, y) {
         return true;
     }
-    is_read_by(question.operations, question.sources, x, y)
+    if is_read_by(question.operations, question.sources, x, y) {
+        return true;
+    }
+    is_closed_by(question.operations, question.closing, x, y)
 }
 
 /// Notes all that comes behind one operation.

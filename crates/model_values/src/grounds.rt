@@ -47,6 +47,7 @@ fn is_bare(question: &Unordered, step: Step) -> bool {
         sources: &[],
         words: question.words,
         openings: question.openings,
+        closing: question.closing,
     };
     if step.from >= question.operations.len() || step.to >= question.operations.len() {
         return false;

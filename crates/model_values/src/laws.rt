@@ -11,8 +11,8 @@ ghost use Rattle.model_values.specs.Values.{IsValuedPlacing};
 
 /// The replies follow along the order of an explanation. Each load and each atomic found the word that
 /// the newest write left of those that it can see: those before it in the order, and those before it in
-/// its own processor's program. And each such order is that of an explanation. So where a trace breaks a
-/// model, the replies follow along no order of its operations.
+/// its own processor's program; a closing load that of the newest of all. And each such order is that of
+/// an explanation. So where a trace breaks a model, the replies follow along no order of its operations.
 pub fn replies_follow()
     ensures follow { (rules : List Rule) (v : Valued) (placed : List Operation) (writes : List ℕ)
         → IsValuedPlacing v placed writes

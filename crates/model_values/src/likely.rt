@@ -54,7 +54,13 @@ fn positions_of<A: Allocator + Copy>(
         }
         let place = x.saturating_sub(begin).saturating_mul(WHOLE);
         let size = end.saturating_sub(begin).max(1);
-        positions.push(if x < valued.openings { 0 } else { place / size })?;
+        positions.push(if x < valued.openings {
+            0
+        } else if x >= valued.closing {
+            WHOLE
+        } else {
+            place / size
+        })?;
     }
     Ok(positions)
 }
@@ -202,6 +208,7 @@ pub(crate) fn likely_of<A: Allocator + Copy>(
             sources: &found.sources,
             words: valued.words,
             openings: valued.openings,
+            closing: valued.closing,
         };
         let guess = guess_of(alloc, &question)?;
         if guess.places.len() == count {

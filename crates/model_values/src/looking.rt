@@ -106,6 +106,7 @@ fn explained_by<A: Allocator + Copy>(
         sources,
         words: valued.words,
         openings: valued.openings,
+        closing: valued.closing,
     };
     explained(alloc, &question, places)
 }
@@ -130,6 +131,7 @@ fn is_refuted_by<A: Allocator + Copy>(
         sources: &sources,
         words: valued.words,
         openings: valued.openings,
+        closing: valued.closing,
     };
     is_refuted(alloc, &question, &likely.steps, &likely.paths)
 }
@@ -157,6 +159,7 @@ fn look_for_order<A: Allocator + Copy>(
         sources,
         words: valued.words,
         openings: valued.openings,
+        closing: valued.closing,
     };
     match judge_unordered(alloc, &question, Some(left))? {
         OrderVerdict::Obeys(explanation) => Ok(Seen::Answer(OrderVerdict::Obeys(explanation))),

@@ -18,6 +18,8 @@ pub struct Unordered<'a> {
     pub words: usize,
     /// How many of the first operations are opening stores.
     pub openings: usize,
+    /// The number from which on each load is a closing one: it read the last write of its word.
+    pub closing: usize,
 }
 
 /// An order of each word's writes with which a trace obeys a memory model.

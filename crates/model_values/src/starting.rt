@@ -117,6 +117,43 @@ fn add_openings<A: Allocator + Copy>(
     Ok(())
 }
 
+/// Of each word a closing load; `NONE` where it has none.
+fn closings_of<A: Allocator + Copy>(
+    alloc: A,
+    question: &Unordered,
+) -> Result<Vec<usize, A>, AllocError> {
+    let mut closings = vec![in alloc; NONE; question.words]?;
+    for y in 0..question.operations.len() {
+        let operation = question.operations[y];
+        if y >= question.closing && matches!(operation.kind, Kind::Load) {
+            put(&mut closings, operation.word, y);
+        }
+    }
+    Ok(closings)
+}
+
+/// Adds the arcs from each write of a word to its closing load, and so to what that read.
+fn add_closings<A: Allocator + Copy>(
+    alloc: A,
+    question: &Unordered,
+    arcs: &mut Arcs<A>,
+) -> Result<(), AllocError> {
+    let closings = closings_of(alloc, question)?;
+    for x in 0..question.operations.len() {
+        let operation = question.operations[x];
+        let y = at(&closings, operation.word);
+        if is_write(operation.kind) && y != NONE {
+            let step = arcs.steps.len();
+            arcs.add_first(x, y, Reason::First)?;
+            let source = at(question.sources, y);
+            if source != x {
+                arcs.add_behind(step, x, source, Reason::Earlier(y))?;
+            }
+        }
+    }
+    Ok(())
+}
+
 impl<A: Allocator + Copy> Nexts<A> {
     /// Adds the arc from the last write of its processor on its word to a write.
     fn add_own(&mut self, arcs: &mut Arcs<A>, last: usize, y: usize) -> Result<(), AllocError> {
@@ -228,6 +265,7 @@ pub(crate) fn first_arcs<A: Allocator + Copy>(
     };
     add_rules(alloc, question, &mut arcs)?;
     add_openings(alloc, question, &mut arcs)?;
+    add_closings(alloc, question, &mut arcs)?;
     add_reads(alloc, question, &mut nexts, &mut arcs)?;
     for y in 0..count {
         if reads(question.operations, y) {

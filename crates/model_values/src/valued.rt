@@ -25,6 +25,8 @@ pub struct Valued<'a> {
     pub words: usize,
     /// How many of the first operations are opening stores.
     pub openings: usize,
+    /// The number from which on each load is a closing one: it read the last write of its word.
+    pub closing: usize,
 }
 
 /// What the words show of the sources.

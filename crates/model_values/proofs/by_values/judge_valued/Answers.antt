@@ -12,7 +12,7 @@ returns g c =
     subst (λ z. AreSourcesOf {A = g.row.A.Denot} v z) c.in-Told.is c.requires.sources in
     judged_ok {A = g.row.A.Denot} c.args.rules.now v _ c.args.nodes c.judge_unordered.result refl refl
     (subst (λ (s : List ℕ). (placed : List Operation) (writes : List ℕ)
-    → (IsValuedPlacing v placed writes → IsPlacing v.operations.now s v.words v.openings placed writes)
-    × (IsPlacing v.operations.now s v.words v.openings placed writes → IsValuedPlacing v placed writes))
+    → (IsValuedPlacing v placed writes → IsPlacing v.operations.now s v.words v.openings v.closing placed writes)
+    × (IsPlacing v.operations.now s v.words v.openings v.closing placed writes → IsValuedPlacing v placed writes))
     (sym c.deref.ensures.value) known.same)
     c.judge_unordered.ensures
