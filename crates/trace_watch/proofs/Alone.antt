@@ -1,7 +1,7 @@
 -- The loop that tells of operations whether no other asks the same.
-use Rattle.std.proofs.Common.{◌≡◌, ◌⊎◌, inl, inr, ⊎_elim, ℕ, ◌+◌, ◌≤◌, Bool, true, false, List, [], ◌∷◌, ◌++◌, length, length-append, Some, None, refl, ◌∙◌, sym, ap, subst, arith, slice_get}
+use Rattle.std.proofs.Common.{◌≡◌, ◌⊎◌, inl, inr, ⊎_elim, ℕ, ◌+◌, Bool, true, false, List, [], ◌∷◌, ◌++◌, length, length-append, Some, None, refl, ◌∙◌, sym, ap, subst, arith, slice_get}
 use Rattle.trace_laws.specs.declared.event.Call.{Call}
-use Rattle.trace_laws.proofs.Lists.{get_push_cases, get_within}
+use Rattle.trace_laws.proofs.Lists.{get_push_cases}
 use Rattle.trace_watch.specs.Matchings.{AreToldAlone, IsAlone}
 
 -- of the first so many it is told
