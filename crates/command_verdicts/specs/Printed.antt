@@ -1,6 +1,9 @@
 -- What the command that judges a network prints (this project's own format).
-use Rattle.std.specs.Prelude.{◌≡◌, List, ℕ, Bool, Result, Ok, Err}
+use Rattle.std.specs.Prelude.{◌≡◌, List, ◌∷◌, ℕ, Bool, true, false, Result, Ok, Err}
 use Rattle.network_answer.specs.declared.answer.Answer.{Answer}
+use Rattle.network_answer.specs.declared.causes.Cause.{Cause}
+use Rattle.network_answer.specs.declared.causes.Cause.TheVariants.{Chooses}
+use Rattle.network_names.specs.Named.{named_verdict}
 use Rattle.network_text.specs.Network.{network_of}
 use Rattle.network_text.specs.Routing.{Routing, routing_of}
 use Rattle.network_answer.specs.Routing.{TellsRouting}
@@ -16,6 +19,26 @@ pub record IsAnsweredText {A : Type 0} (lines : List (List ℕ)) (answer : Answe
   pub read : routing_of lines ≡ Ok network
   pub tells : TellsRouting network answer
   pub is : text ≡ answer.text.items
+
+-- whether routers choose, by why a verdict is so
+abbrev pub is_chosen : List Cause → Bool
+is_chosen (Chooses ∷ causes) = true
+is_chosen _ = false
+
+-- the text of an answer, with what a text of these lines calls channels, of which all have numbers
+-- below 2 ^ 16, and so have routers
+abbrev pub named_text : {A : Type 0} → List (List ℕ) → Answer A → List ℕ
+named_text lines answer =
+    named_verdict 65536 lines answer.kinds.items (is_chosen answer.causes.items) answer.text.items
+
+-- a text is that of an answer, what is judged of the network that the lines of a text give, and behind
+-- each number of a channel stands what they call it
+pub record IsNamedText {A : Type 0} (lines : List (List ℕ)) (answer : Answer A) (text : List ℕ)
+    : Type 0 where
+  pub network : Routing
+  pub read : routing_of lines ≡ Ok network
+  pub tells : TellsRouting network answer
+  pub is : text ≡ named_text lines answer
 
 -- a text is what is judged of the network that the lines of a text give, of fixed routes or of
 -- routers that choose; and whether its numbers rise
@@ -42,6 +65,11 @@ IsNetworkFault lines _ = ⊥
 abbrev pub AnswersNetwork : (A : Type 0) → List (List ℕ) → Output → Output
     → Result (Answer A) ProgramFault → Type 0
 AnswersNetwork A lines = Does (IsAnsweredText lines) (IsRoutingFault lines)
+
+-- it was printed with what the text calls channels
+abbrev pub AnswersNamed : (A : Type 0) → List (List ℕ) → Output → Output
+    → Result (Answer A) ProgramFault → Type 0
+AnswersNamed A lines = Does (IsNamedText lines) (IsRoutingFault lines)
 
 -- the verdict on a network was printed
 abbrev pub PrintsNetwork : (A : Type 0) → List (List ℕ) → Output → Output → Result Bool ProgramFault

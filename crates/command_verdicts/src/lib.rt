@@ -30,7 +30,7 @@ pub use json::{Verdict, json_object, verdict_of_status};
 pub use model::{
     AskedModels, Modelled, is_report, judged_models_text, model_text, report_models_text,
 };
-pub use network::{network_text, network_text_once};
+pub use network::{named_network_text, network_text, network_text_once};
 pub use report::report_text;
 pub use run_model::{run_models_text, texts_models_text};
 pub use runs::{lock_up_text, replay_network_text, simulate_text};

@@ -1,14 +1,21 @@
 //! The judge of networks, from a text to an output.
 
+ghost use Rattle.std.specs.Prelude.{◌≡◌, IfOk, IfErr};
 ghost use Rattle.std.specs.Str.Lines.{lines};
 ghost use Rattle.program_fault.specs.Done.{output};
-ghost use Rattle.command_verdicts.specs.Printed.{AnswersNetwork, PrintsNetwork};
+ghost use Rattle.command_verdicts.specs.Printed.{is_chosen, named_text};
+ghost use Rattle.command_verdicts.specs.Printed.{AnswersNamed, AnswersNetwork, PrintsNetwork};
 
-use network_answer::{Answer, routing_answer, routing_answer_once};
+use network_answer::{Answer, Cause, routing_answer, routing_answer_once};
+use network_names::named_verdict;
 use program_fault::ProgramFault;
 use report_lines::Out;
 use report_lines::output::put_all;
 use std::alloc::Allocator;
+use torus::Fault;
+
+/// Routers and channels have numbers below this.
+const MOST_NUMBERS: usize = 65536;
 
 /// Judges the network of a text, and prints the verdict: the numbers of its channels if they can rise, so
 /// that it never deadlocks; or the first pair without a route; or a cycle of channels, and behind it the
@@ -29,6 +36,55 @@ pub fn network_text<A: Allocator + Copy, W: Out>(
 {
     let answer = routing_answer(alloc, network)?;
     put_all(out, &answer.text)?;
+    Ok(answer)
+}
+
+/// Whether routers choose, by why a verdict is so.
+fn is_chosen(causes: &[Cause]) -> bool
+    ensures { result ≡ is_chosen causes.now }
+{
+    match causes {
+        [Cause::Chooses, ..] => true,
+        _ => false,
+    }
+}
+
+/// The text of an answer to the text of a network, with what that calls its channels.
+///
+/// Errors: out of memory.
+fn named_text<A: Allocator + Copy>(
+    alloc: A,
+    network: &[u8],
+    answer: &Answer<A>,
+) -> Result<Vec<u8, A>, ProgramFault>
+    ensures value { IfOk result
+        (λ text. text.items ≡ named_text (lines network.now) answer.now) }
+    ensures memory { IfErr result (λ e. e ≡ ProgramFault.Fault Fault.Memory) }
+{
+    let chosen = is_chosen(&answer.causes);
+    let kinds = &answer.kinds;
+    match named_verdict(alloc, network, MOST_NUMBERS, kinds, chosen, &answer.text) {
+        Ok(text) => Ok(text),
+        Err(_) => Err(ProgramFault::Fault(Fault::Memory)),
+    }
+}
+
+/// Prints the verdict on the network of a text as `network_text` does, and behind each number of a channel
+/// what the text calls it. Answers as that does.
+///
+/// Errors: the text's first fault, or out of memory; and nothing was written then. If the output
+/// fails, a beginning was written.
+pub fn named_network_text<A: Allocator + Copy, W: Out>(
+    alloc: A,
+    network: &[u8],
+    out: &mut W,
+) -> Result<Answer<A>, ProgramFault>
+    ensures { AnswersNamed A (lines network.now) (output (W.taken out.old) (W.failures out.old))
+        (output (W.taken out.new) (W.failures out.new)) result }
+{
+    let answer = routing_answer(alloc, network)?;
+    let text = named_text(alloc, network, &answer)?;
+    put_all(out, &text)?;
     Ok(answer)
 }
 
