@@ -50,6 +50,9 @@ int main(int count, char **words) {
   if (strcmp(misuse, "null buffer") == 0) return (int)torusmem_report(&m, NULL, 9).code;
   if (strcmp(misuse, "null saved") == 0) return (int)torusmem_watch_save(&w, NULL, 9).code;
   if (strcmp(misuse, "null restored") == 0) return (int)torusmem_watch_restore(&w, NULL, 9).code;
+  if (strcmp(misuse, "null listed") == 0) return (int)torusmem_outcomes(NULL, 0, NULL, 0, 1, NULL, 9).code;
+  if (strcmp(misuse, "null run") == 0) return (int)torusmem_outcomes_run(NULL, 0, NULL, 0, 1, 0, NULL, 9).code;
+  if (strcmp(misuse, "null answer") == 0) return (int)torusmem_reach(NULL, 0, NULL, 0, NULL, 9, 1, NULL, 0).code;
   if (strcmp(misuse, "one watch cloned") == 0) return (int)torusmem_watch_clone(&w, &w).code;
   if (strcmp(misuse, "one machine twice") == 0) return (int)torusmem_reopen(&m, &m).code;
   if (strcmp(misuse, "one machine cloned") == 0) return (int)torusmem_clone(&m, &m).code;

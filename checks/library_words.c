@@ -37,10 +37,10 @@ int main(void) {
   MUST(said.code == TORUSMEM_FAULT_ADDRESS && said.value == 1);
   MUST(is_text(torusmem_code_text(said.code), "an address is not below the number of words"));
   MUST(is_text(torusmem_code_text(torusmem_round(&m).code), "the handle holds no machine"));
-  for (uint32_t code = 0; code <= TORUSMEM_LOST_UPDATE; code++)
+  for (uint32_t code = 0; code <= TORUSMEM_OTHER_COUNT; code++)
     for (uint32_t other = 0; other <= code; other++)
       MUST(is_text(torusmem_code_text(code), torusmem_code_text(other)) == (code == other));
-  MUST(is_text(torusmem_code_text(TORUSMEM_LOST_UPDATE + 1), torusmem_code_text(UINT32_MAX)));
+  MUST(is_text(torusmem_code_text(TORUSMEM_OTHER_COUNT + 1), torusmem_code_text(UINT32_MAX)));
   MUST(strncmp(torusmem_version(), TORUSMEM_VERSION, sizeof TORUSMEM_VERSION - 1) == 0);
   int first = 0, second = 0, third = 0;
   MUST(sscanf(torusmem_version(), "%d.%d.%d", &first, &second, &third) == 3);

@@ -10,9 +10,10 @@
    torusmem_free frees all of it. Of a machine that keeps a record, the calls that make steps or rounds also allocate what the record needs.
    torusmem_report, torusmem_save, torusmem_events, torusmem_events_from, torusmem_check, torusmem_explain, torusmem_spins_out,
    torusmem_network, torusmem_network_answer, torusmem_linearize, torusmem_linearize_answer, torusmem_model,
-   torusmem_model_values and torusmem_watch_save free what they allocate before they return. torusmem_watch_begin, torusmem_watch_clone and torusmem_watch_restore allocate what a watch needs at first,
-   torusmem_watch_issue and torusmem_watch_answer allocate and free as operations open and end, and torusmem_watch_end frees all
-   of it. No other call allocates.
+   torusmem_model_values, torusmem_outcomes, torusmem_outcomes_run, torusmem_reach and torusmem_watch_save free what they
+   allocate before they return. torusmem_watch_begin, torusmem_watch_clone and torusmem_watch_restore allocate what a watch
+   needs at first, torusmem_watch_issue and torusmem_watch_answer allocate and free as operations open and end, and
+   torusmem_watch_end frees all of it. No other call allocates.
 
    COSTS. Of a machine with t tiles, p ports of a router and r words of its row, after n operations: torusmem_step and
    torusmem_enabled, looks at a word, an answer, an entry or a number of them, torusmem_ask and torusmem_append take O(1);
@@ -142,7 +143,13 @@ enum {
   TORUSMEM_NOT_RISING = 32,  /* the numbers of a network's channels don't rise; value: the length of the answer's text */
   /* Of a log whose replies alone count. */
   TORUSMEM_UNWRITTEN = 33,   /* a reply is what no write of its word left; value: its line */
-  TORUSMEM_LOST_UPDATE = 34  /* two atomics found what only one write of their word left; value: the line of the one */
+  TORUSMEM_LOST_UPDATE = 34, /* two atomics found what only one write of their word left; value: the line of the one */
+  /* Of a search over all schedules. */
+  TORUSMEM_UNDECIDED = 35,   /* more states are reached than it was allowed; value: the length of the text */
+  TORUSMEM_NEVER = 36,       /* no run of any schedule has these replies; value: the length of the text */
+  TORUSMEM_TOO_LONG = 37,    /* the scripts have more than 256 operations, a spin its greatest number of loads */
+  TORUSMEM_NO_REPLY = 38,    /* a word of an answer is no reply */
+  TORUSMEM_OTHER_COUNT = 39  /* the scripts have other numbers of replies than an answer */
 };
 
 /* What a code says, in a few words of ASCII, as "an address is not below the number of words". For any number. */
@@ -692,6 +699,47 @@ typedef struct torusmem_decided {
 torusmem_decided torusmem_model_values(const uint8_t *log, size_t log_length, uint64_t nodes, uint32_t order, uint8_t *out,
                                        size_t out_length) TORUSMEM_RESULT;
 
+/* What a search for outcomes has found. */
+typedef struct torusmem_searched {
+  uint32_t code;     /* OK, UNDECIDED, SHORT, TOO_LONG or a fault */
+  uint64_t outcomes; /* of OK, UNDECIDED and SHORT: how many are known; they are numbered from 0; else 0 */
+  uint64_t states;   /* of these: how many states were looked at; else 0 */
+  uint64_t value;    /* of these: the length of the text; of a fault its line; else 0 */
+} torusmem_searched;
+
+/* Finds the outcomes of a scripts text on the machine of a machine text, over all schedules (docs/OUTCOMES.md): the replies,
+   and the words in the end. states: at most how many states are looked at, 1 to 10000000; 100000 is what the program takes.
+   Needs no machine.
+   The text that `outcomes` prints is put into a buffer: a line for each outcome that is known, then `exact` or `undecided`
+   (docs/FORMATS.md, "Outcomes"). Some run comes to each, and where it is exact there are no others (proved).
+   OK: it is exact. UNDECIDED: there may be others. Of these two, the text is the first `value` bytes of out, and the bytes
+   behind them are as they were.
+   SHORT: `value` is what the text needs, and out is as it was; so is it on all other codes.
+   TOO_LONG. A fault: the first one of the machine text, else the first one of the scripts; FAULT_RANGE with value 0: `states`
+   isn't 1 to 10000000; or FAULT_MEMORY. A search takes time and memory; where a buffer was short, it is made again. */
+torusmem_searched torusmem_outcomes(const uint8_t *machine, size_t machine_length, const uint8_t *scripts,
+                                    size_t scripts_length, uint64_t states, uint8_t *out,
+                                    size_t out_length) TORUSMEM_RESULT;
+
+/* Finds outcomes as torusmem_outcomes does, and puts the steps of a run to the one of a number into a buffer: the text that
+   `outcomes --run` prints, a steps text.
+   OK: it is the first `value` bytes of out, and the bytes behind them are as they were. NONE: there is no outcome of this number.
+   UNDECIDED: none of this number is known, and there may be others; value is 0, and out is as it was.
+   SHORT, TOO_LONG, a fault: as of torusmem_outcomes. */
+torusmem_outcome torusmem_outcomes_run(const uint8_t *machine, size_t machine_length, const uint8_t *scripts,
+                                       size_t scripts_length, uint64_t states, uint64_t number, uint8_t *out,
+                                       size_t out_length) TORUSMEM_RESULT;
+
+/* Finds a run whose replies are those of an answer, as `ok ok / 1 *`: those of each processor that has any, in the order of
+   issue, ` / ` between two processors, `*` for any reply. The text that `reach` prints is put into a buffer.
+   OK: the steps of a run with these replies, and `# reached`. NEVER: no run of any schedule has them. UNDECIDED: none is
+   known that has. Of these three, the text is the first `value` bytes of out, and the bytes behind them are as they were.
+   NO_REPLY, OTHER_COUNT: of the answer; value is 0, and out is as it was.
+   SHORT, TOO_LONG, a fault: as of torusmem_outcomes. */
+torusmem_outcome torusmem_reach(const uint8_t *machine, size_t machine_length, const uint8_t *scripts, size_t scripts_length,
+                                const uint8_t *answer, size_t answer_length, uint64_t states, uint8_t *out,
+                                size_t out_length) TORUSMEM_RESULT;
+
 /* A watch of a trace that goes on: what torusmem_linearize judges at the end, it judges at each event, so that a host
    checks itself while it runs. Its memory follows the operations that are open, and not the length of the trace. Room
    for a watch is the caller's, as that of a machine: begun by TORUSMEM_WATCH_INIT, then changed by calls alone. */
@@ -766,7 +814,7 @@ static inline void torusmem_look_at(bool is_right, const char *why, const char *
 }
 #endif
 
-/* The library's own calls take no null pointer. So a C program that calls one of the twenty-three below has a call in front
+/* The library's own calls take no null pointer. So a C program that calls one of the twenty-eight below has a call in front
    of it, by which a pointer with the length 0 becomes one to an item that is not looked at. */
 #ifdef TORUSMEM_DEBUG
 static inline void torusmem_look_at_items(const void *at, size_t length, const char *why) {
@@ -960,6 +1008,39 @@ static inline torusmem_decided torusmem_model_values_text(const uint8_t *log, si
   return torusmem_model_values(torusmem_text_at(log, log_length), log_length, nodes, order, TORUSMEM_OUT(&none), out_length);
 }
 #define torusmem_model_values torusmem_model_values_text
+
+TORUSMEM_RESULT
+static inline torusmem_searched torusmem_outcomes_text(const uint8_t *machine, size_t machine_length, const uint8_t *scripts,
+                                                       size_t scripts_length, uint64_t states, uint8_t *out,
+                                                       size_t out_length) {
+  uint8_t none = 0;
+  return torusmem_outcomes(torusmem_text_at(machine, machine_length), machine_length,
+                           torusmem_text_at(scripts, scripts_length), scripts_length, states, TORUSMEM_OUT(&none),
+                           out_length);
+}
+#define torusmem_outcomes torusmem_outcomes_text
+
+TORUSMEM_RESULT
+static inline torusmem_outcome torusmem_outcomes_run_text(const uint8_t *machine, size_t machine_length,
+                                                          const uint8_t *scripts, size_t scripts_length, uint64_t states,
+                                                          uint64_t number, uint8_t *out, size_t out_length) {
+  uint8_t none = 0;
+  return torusmem_outcomes_run(torusmem_text_at(machine, machine_length), machine_length,
+                               torusmem_text_at(scripts, scripts_length), scripts_length, states, number,
+                               TORUSMEM_OUT(&none), out_length);
+}
+#define torusmem_outcomes_run torusmem_outcomes_run_text
+
+TORUSMEM_RESULT
+static inline torusmem_outcome torusmem_reach_text(const uint8_t *machine, size_t machine_length, const uint8_t *scripts,
+                                                   size_t scripts_length, const uint8_t *answer, size_t answer_length,
+                                                   uint64_t states, uint8_t *out, size_t out_length) {
+  uint8_t none = 0;
+  return torusmem_reach(torusmem_text_at(machine, machine_length), machine_length,
+                        torusmem_text_at(scripts, scripts_length), scripts_length,
+                        torusmem_text_at(answer, answer_length), answer_length, states, TORUSMEM_OUT(&none), out_length);
+}
+#define torusmem_reach torusmem_reach_text
 
 TORUSMEM_RESULT
 static inline torusmem_outcome torusmem_watch_begin_at(torusmem_watch *w, const uint64_t *opening,
@@ -1159,10 +1240,16 @@ static inline void torusmem_watch_end_marked(torusmem_watch *w) {
 #undef torusmem_linearize_answer
 #undef torusmem_model
 #undef torusmem_model_values
+#undef torusmem_outcomes
+#undef torusmem_outcomes_run
+#undef torusmem_reach
 #define torusmem_linearize(...) (TORUSMEM_HERE("torusmem_linearize"), torusmem_linearize_events(__VA_ARGS__))
 #define torusmem_linearize_answer(...) (TORUSMEM_HERE("torusmem_linearize_answer"), torusmem_linearize_answer_text(__VA_ARGS__))
 #define torusmem_model(...) (TORUSMEM_HERE("torusmem_model"), torusmem_model_entries(__VA_ARGS__))
 #define torusmem_model_values(...) (TORUSMEM_HERE("torusmem_model_values"), torusmem_model_values_text(__VA_ARGS__))
+#define torusmem_outcomes(...) (TORUSMEM_HERE("torusmem_outcomes"), torusmem_outcomes_text(__VA_ARGS__))
+#define torusmem_outcomes_run(...) (TORUSMEM_HERE("torusmem_outcomes_run"), torusmem_outcomes_run_text(__VA_ARGS__))
+#define torusmem_reach(...) (TORUSMEM_HERE("torusmem_reach"), torusmem_reach_text(__VA_ARGS__))
 #define torusmem_explain(...) (TORUSMEM_HERE("torusmem_explain"), torusmem_explain_texts(__VA_ARGS__))
 #define torusmem_check(...) (TORUSMEM_HERE("torusmem_check"), torusmem_check_text(__VA_ARGS__))
 #define torusmem_network(...) (TORUSMEM_HERE("torusmem_network"), torusmem_network_text(__VA_ARGS__))

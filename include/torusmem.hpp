@@ -463,5 +463,55 @@ inline decided model_values(text log, uint64_t nodes = 10000, bool order = false
   return {told.code, told.obeyed, told.broken, made, 0, 0};
 }
 
+// The outcomes of a scripts text on the machine of a machine text, over all schedules, in at most so many states: OK where
+// these are all, else UNDECIDED; how many are known, in how many states; and the text that the program prints.
+struct searched {
+  uint32_t code;
+  uint64_t outcomes, states;
+  std::string text;
+};
+inline searched outcomes(text shape, text scripts, uint64_t states = 100000) {
+  std::string made(4096, ' ');
+  torusmem_searched said;
+  for (;;) {
+    said = torusmem_outcomes(shape.data(), shape.size(), scripts.data(), scripts.size(), states,
+                             reinterpret_cast<uint8_t *>(&made[0]), made.size());
+    if (said.code != TORUSMEM_SHORT) break;
+    made.resize(static_cast<size_t>(said.value));
+  }
+  if (said.code != TORUSMEM_UNDECIDED) granted("outcomes", {said.code, said.value});
+  made.resize(static_cast<size_t>(said.value));
+  return {said.code, said.outcomes, said.states, made};
+}
+
+// What a search says of a run: OK and its steps; or, of reach(), NEVER or UNDECIDED and the line that says so.
+struct found_run {
+  uint32_t code;
+  std::string text;
+};
+// The steps of a run to the outcome of a number, as outcomes() counts them; UNDECIDED without a text where none of this number
+// is known, and there may be others.
+inline found_run outcomes_run(text shape, text scripts, uint64_t number, uint64_t states = 100000) {
+  found_run made{TORUSMEM_OK, ""};
+  made.text = filled<std::string>("outcomes_run", 4096, [&](char *at, size_t room) {
+    torusmem_outcome said = torusmem_outcomes_run(shape.data(), shape.size(), scripts.data(), scripts.size(), states, number,
+                                                  reinterpret_cast<uint8_t *>(at), room);
+    if (said.code == TORUSMEM_UNDECIDED) made.code = said.code, said.code = TORUSMEM_OK;
+    return said;
+  });
+  return made;
+}
+// The steps of a run whose replies are those of an answer, as "ok ok / 1 *".
+inline found_run reach(text shape, text scripts, text answer, uint64_t states = 100000) {
+  found_run made{TORUSMEM_OK, ""};
+  made.text = filled<std::string>("reach", 4096, [&](char *at, size_t room) {
+    torusmem_outcome said = torusmem_reach(shape.data(), shape.size(), scripts.data(), scripts.size(), answer.data(),
+                                           answer.size(), states, reinterpret_cast<uint8_t *>(at), room);
+    if (said.code == TORUSMEM_NEVER || said.code == TORUSMEM_UNDECIDED) made.code = said.code, said.code = TORUSMEM_OK;
+    return said;
+  });
+  return made;
+}
+
 }  // namespace torusmem
 #endif

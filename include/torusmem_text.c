@@ -40,6 +40,11 @@ static const char *const texts[] = {
   "the numbers of a network's channels don't rise",
   "a reply of a log is what no write of its word left",
   "two atomics of a log found what only one write of their word left",
+  "more states are reached than a search was allowed",
+  "no run of any schedule has these replies",
+  "the scripts have more operations than a search takes",
+  "a word of an answer is no reply",
+  "the scripts have other numbers of replies than an answer",
 };
 
 const char *torusmem_code_text(uint32_t code) {

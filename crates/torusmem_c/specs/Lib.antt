@@ -7,6 +7,7 @@ pub mod Records
 pub mod Room
 pub mod Routes
 pub mod Saving
+pub mod Searches
 pub mod Shapes
 pub mod Orders
 pub mod Happened

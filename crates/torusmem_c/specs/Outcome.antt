@@ -48,6 +48,11 @@ c_code code.NoPair = 31
 c_code code.NotRising = 32
 c_code code.Unwritten = 33
 c_code code.LostUpdate = 34
+c_code code.Undecided = 35
+c_code code.Never = 36
+c_code code.TooLong = 37
+c_code code.NoReply = 38
+c_code code.OtherCount = 39
 
 -- a code, and the number that goes with it
 abbrev pub c_outcome : Code → ℕ → Outcome

@@ -17,6 +17,7 @@ pub mod records;
 mod room;
 pub mod routes;
 pub mod saving;
+pub mod searches;
 pub mod shape;
 pub mod spinning;
 pub mod stepping;

@@ -54,13 +54,23 @@ pub enum Code {
     Unwritten,
     /// Two atomics of a log found what only one write of their word left.
     LostUpdate,
+    /// More states are reached than a search was allowed.
+    Undecided,
+    /// No run of any schedule has these replies.
+    Never,
+    /// The scripts have more operations than a search takes.
+    TooLong,
+    /// A word of an answer is no reply.
+    NoReply,
+    /// The scripts have other numbers of replies than an answer.
+    OtherCount,
 }
 
 impl Code {
     /// The number by which C knows it.
     pub fn number(self) -> u32
         ensures value { result ≡ c_code self }
-        ensures small { result ≤ 34 }
+        ensures small { result ≤ 39 }
     {
         match self {
             Code::Done => 0,
@@ -85,6 +95,11 @@ impl Code {
             Code::NotRising => 32,
             Code::Unwritten => 33,
             Code::LostUpdate => 34,
+            Code::Undecided => 35,
+            Code::Never => 36,
+            Code::TooLong => 37,
+            Code::NoReply => 38,
+            Code::OtherCount => 39,
         }
     }
 }
@@ -165,6 +180,16 @@ pub(crate) fn no_memory() -> Outcome
     ensures { result ≡ no_memory }
 {
     Outcome::of(Code::Fault(Fault::Memory), 0)
+}
+
+/// Out of memory, which is of no line.
+pub(crate) fn memory_fault() -> LineFault
+    ensures { result ≡ record { fault = Fault.Memory; line = 0 } }
+{
+    LineFault {
+        fault: Fault::Memory,
+        line: 0,
+    }
 }
 
 /// What C sees of a fault of a text.

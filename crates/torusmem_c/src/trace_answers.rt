@@ -7,13 +7,12 @@ ghost use Rattle.torusmem_c.specs.TraceAnswers.{BeginsWithLine, IsSaidOf, IsUnsa
 ghost use Rattle.torusmem_c.specs.TraceAnswers.{RefusesTrace, SaysFinding, SaysFirst, SaysUndecided};
 ghost use Rattle.torusmem_c.specs.TraceAnswers.{SaysTrace, SaysWhy, said_record, unsaid_record};
 
-use crate::outcome::{Code, Outcome, fault_outcome};
+use crate::outcome::{Code, Outcome, fault_outcome, memory_fault};
 use crate::room::put_code;
 use crate::texts::Text;
 use lexer::Named;
 use script::LineFault;
 use std::alloc::{AllocError, Global};
-use torus::Fault;
 use trace_answer::{LineText, not_linearizable, not_linearizable_by, undecided, write_order};
 use trace_laws::Call;
 use trace_text::{Finding, Issued, TraceText, Unfound, read_trace};
@@ -180,16 +179,6 @@ fn undecided_as(
     };
     let text = line_said(alloc, &first)?;
     Ok(TraceSaid { code, line, text })
-}
-
-/// Out of memory, which is of no line.
-fn memory_fault() -> LineFault
-    ensures { result ≡ record { fault = Fault.Memory; line = 0 } }
-{
-    LineFault {
-        fault: Fault::Memory,
-        line: 0,
-    }
 }
 
 /// What is said of a trace that isn't judged, for this reason.

@@ -18,6 +18,7 @@ from torusmem import Answer, Answered, BadReport, Channel, Choice, Closed, Cycle
 from torusmem import Linearizable, Link, Machine, NoPair, NoRoute, NotLinearizable, Operation, Rising, Spin, TextFault
 from torusmem import Init, LogFault, Made, Model, Read, Replied, Served, Steps, TooMany, Undecided, Watch, WrongReply, Wrote
 from torusmem import Unwritten, linearize, linearize_answer, model, model_values, network, network_answer
+from torusmem import Outcomes, Reached, Unsearched, outcomes, outcomes_run, reach
 
 ROOT = os.path.dirname(os.path.dirname(os.path.dirname(os.path.dirname(os.path.realpath(__file__)))))
 EXAMPLES = os.path.join(ROOT, "examples")
@@ -421,6 +422,28 @@ class Networks(unittest.TestCase):
         self.assertRaises(TextFault, model_values, made)
         self.assertRaises(ValueError, model_values, made, 2**64)
 
+    def test_outcomes_of_scripts(self):
+        texts = [read("machine.txt"), read("message/fenced.txt")]
+        lines = ["outcome 0 : ok ok / 0 42 ; 0 1 1 42", "outcome 1 : ok ok / 0 0 ; 0 1 1 42", "outcome 2 : ok ok / 1 42 ; 0 1 1 42"]
+        found = outcomes(*texts)
+        self.assertEqual(found, Outcomes(True, 3, 67, "\n".join([*lines, "exact, 67 states", ""])))
+        self.assertEqual(outcomes(*texts, 7)[:3], (False, 0, 7))
+        run = outcomes_run(*texts, 1)
+        self.assertTrue(run.endswith("# finished\n"), run)
+        self.assertEqual(reach(*texts, "ok ok / 0 0"), Reached(True, run + "# reached\n"))
+        self.assertRaises(IndexError, outcomes_run, *texts, 3)
+        self.assertIsNone(outcomes_run(*texts, 3, 7))
+        self.assertEqual(reach(*texts, "ok ok / 1 0"), Reached(False, "never, 67 states\n"))
+        self.assertEqual(reach(*texts, "ok ok / 1 0", 7), Reached(None, "undecided, 7 states\n"))
+        for answer in ("ok ok / 1 x", "ok ok / 1"):
+            self.assertRaises(Unsearched, reach, *texts, answer)
+        self.assertRaises(Unsearched, outcomes, texts[0], "0 load 1\n" * 257)
+        for states in (0, 10_000_001, -1):
+            self.assertRaises(ValueError, outcomes, *texts, states)
+        with self.assertRaises(TextFault) as raised:
+            outcomes(texts[0], "0 load 8\n")
+        self.assertEqual((raised.exception.file, raised.exception.line, raised.exception.fault), ("scripts text", 1, 7))
+
     def test_cycles(self):
         there, back = Link(2, 5, None), Link(3, 4, None)
         one, two = Fill(0, 5, 1), Fill(1, 4, 1)
@@ -738,7 +761,7 @@ class Threads(unittest.TestCase):
 
 class Words(unittest.TestCase):
     def test_the_example_of_the_help(self):
-        for module in (torusmem, torusmem._judges, torusmem._watch):
+        for module in (torusmem, torusmem._judges, torusmem._searches, torusmem._watch):
             found = doctest.testmod(module)
             self.assertEqual((found.failed, found.attempted > 0), (0, True), module)
 
@@ -765,6 +788,7 @@ class Words(unittest.TestCase):
         names += ["NO_TEXT", "MACHINE_TEXT", "SCRIPTS_TEXT", "ISSUE", "ANSWER"]
         names += ["NOT_LINEARIZABLE", "TOO_MANY", "TOO_OPEN", "BEHIND_SPIN", "NOT_YET"]
         names += ["NO_RECORD", "BAD_RECORD", "BAD_ACTION", "WRONG_REPLY", "NO_PAIR", "NOT_RISING", "UNWRITTEN", "LOST_UPDATE", "ISSUED", "SERVED", "ANSWERED"]
+        names += ["UNDECIDED", "NEVER", "TOO_LONG", "NO_REPLY", "OTHER_COUNT"]
         names += ["LOG_INIT", "LOG_MADE", "LOG_WROTE", "LOG_READ", "LOG_READ_OPENING", "LOG_SERVED", "LOG_REPLIED"]
         names += ["FENCE", "SPIN", "FIRST_IS_LAST", "SECOND_IS_LAST"]
         codes = {name: getattr(library, name) for name in names}

@@ -21,7 +21,8 @@ network() judges any network that is written down, and answers numbers that rise
 route, or a cycle with the channels that fill up; network_answer() one whose routers choose, too, and gives the text. linearize() finds an order that explains a trace of calls and answers,
 or the event from which on there is none, or that the trace is undecided; linearize_answer() says why. A Watch judges a trace
 event by event, while it goes on. model() tells which memory models a log of programs obeys, and the cycle of the weakest that
-it breaks; model_values() asks the replies alone.
+it breaks; model_values() asks the replies alone. outcomes() finds all outcomes of small scripts, over every schedule,
+outcomes_run() a run to one, and reach() a run with given replies, or that there is none.
 
 The library beneath is proved; this package, which only passes numbers and texts on, is tested.
 """
@@ -38,6 +39,7 @@ from ._models import Decided, Init, LogEntry, LostUpdate, Made, Model, Obeyed, R
 from ._models import WrongReply, Wrote, model, model_values
 from ._records import Answer, Channel, Choice, Entry, FENCE, Happened, Kind, Line, Operation, Ordered, SPIN, Shape, Spin
 from ._records import Steps
+from ._searches import Outcomes, Reached, Unsearched, outcomes, outcomes_run, reach
 from ._watch import Watch
 
 __version__ = "0.3.0"
@@ -79,7 +81,9 @@ __all__ = [
     "Obeyed",
     "Operation",
     "Ordered",
+    "Outcomes",
     "REASONS",
+    "Reached",
     "Read",
     "Replied",
     "Rising",
@@ -92,6 +96,7 @@ __all__ = [
     "TextFault",
     "TooMany",
     "Undecided",
+    "Unsearched",
     "Unwritten",
     "Verdict",
     "Watch",
@@ -104,4 +109,7 @@ __all__ = [
     "model_values",
     "network",
     "network_answer",
+    "outcomes",
+    "outcomes_run",
+    "reach",
 ]

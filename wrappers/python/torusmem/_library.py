@@ -15,6 +15,7 @@ NOT_LINEARIZABLE, TOO_MANY, TOO_OPEN = 22, 23, 24
 BEHIND_SPIN, NOT_YET = 25, 26
 NO_RECORD, BAD_RECORD, BAD_ACTION, WRONG_REPLY, NO_PAIR, NOT_RISING = 27, 28, 29, 30, 31, 32
 UNWRITTEN, LOST_UPDATE = 33, 34
+UNDECIDED, NEVER, TOO_LONG, NO_REPLY, OTHER_COUNT = 35, 36, 37, 38, 39
 ISSUE, ANSWER = 0, 1
 ISSUED, SERVED, ANSWERED = 0, 1, 2
 LOG_INIT, LOG_MADE, LOG_WROTE, LOG_READ, LOG_READ_OPENING, LOG_SERVED, LOG_REPLIED = 0, 1, 2, 3, 4, 5, 6
@@ -108,6 +109,10 @@ class RawDecided(Structure):
     _fields_ = [(it, c_uint32) for it in ("code", "obeyed", "broken")] + [(it, c_uint64) for it in ("value", "other")]
 
 
+class RawSearched(Structure):
+    _fields_ = [("code", c_uint32)] + [(it, c_uint64) for it in ("outcomes", "states", "value")]
+
+
 class Explanation(Structure):
     """Why a load is refused."""
 
@@ -174,6 +179,9 @@ CALLS = {
     ),
     "linearize_answer": (RawSaid, [c_char_p, c_size_t, c_uint64, c_void_p, c_size_t]),
     "model_values": (RawDecided, [c_char_p, c_size_t, c_uint64, c_uint32, c_void_p, c_size_t]),
+    "outcomes": (RawSearched, [c_char_p, c_size_t, c_char_p, c_size_t, c_uint64, c_void_p, c_size_t]),
+    "outcomes_run": (Outcome, [c_char_p, c_size_t, c_char_p, c_size_t, c_uint64, c_uint64, c_void_p, c_size_t]),
+    "reach": (Outcome, [c_char_p, c_size_t, c_char_p, c_size_t, c_char_p, c_size_t, c_uint64, c_void_p, c_size_t]),
     "model": (RawModels, [c_uint64, POINTER(RawLogEntry), c_size_t, c_uint32, c_void_p, c_size_t]),
     "watch_begin": (Outcome, [_M, POINTER(c_uint64), c_size_t]),
     "watch_issue": (Outcome, [_M, c_uint64, c_uint32, c_uint32, c_uint64, c_uint64]),

@@ -66,6 +66,11 @@ pub const TORUSMEM_NO_PAIR: u32 = 31;
 pub const TORUSMEM_NOT_RISING: u32 = 32;
 pub const TORUSMEM_UNWRITTEN: u32 = 33;
 pub const TORUSMEM_LOST_UPDATE: u32 = 34;
+pub const TORUSMEM_UNDECIDED: u32 = 35;
+pub const TORUSMEM_NEVER: u32 = 36;
+pub const TORUSMEM_TOO_LONG: u32 = 37;
+pub const TORUSMEM_NO_REPLY: u32 = 38;
+pub const TORUSMEM_OTHER_COUNT: u32 = 39;
 
 pub const TORUSMEM_SEND: u32 = 0;
 pub const TORUSMEM_TAKE: u32 = 1;
@@ -287,6 +292,16 @@ pub struct torusmem_decided {
     pub other: u64,
 }
 
+/// What a search for outcomes has found.
+#[repr(C)]
+#[derive(Clone, Copy, Debug, PartialEq, Eq)]
+pub struct torusmem_searched {
+    pub code: u32,
+    pub outcomes: u64,
+    pub states: u64,
+    pub value: u64,
+}
+
 /// Which memory models a log obeys.
 #[repr(C)]
 #[derive(Clone, Copy, Debug, PartialEq, Eq)]
@@ -472,6 +487,36 @@ extern "C" {
         out: *mut u8,
         out_length: usize,
     ) -> torusmem_decided;
+    pub fn torusmem_outcomes(
+        machine: *const u8,
+        machine_length: usize,
+        scripts: *const u8,
+        scripts_length: usize,
+        states: u64,
+        out: *mut u8,
+        out_length: usize,
+    ) -> torusmem_searched;
+    pub fn torusmem_outcomes_run(
+        machine: *const u8,
+        machine_length: usize,
+        scripts: *const u8,
+        scripts_length: usize,
+        states: u64,
+        number: u64,
+        out: *mut u8,
+        out_length: usize,
+    ) -> torusmem_outcome;
+    pub fn torusmem_reach(
+        machine: *const u8,
+        machine_length: usize,
+        scripts: *const u8,
+        scripts_length: usize,
+        answer: *const u8,
+        answer_length: usize,
+        states: u64,
+        out: *mut u8,
+        out_length: usize,
+    ) -> torusmem_outcome;
     pub fn torusmem_model(
         words: u64,
         entries: *const torusmem_log_entry,

@@ -23,6 +23,7 @@ mod log;
 mod network;
 #[allow(unsafe_code)]
 mod raw;
+mod searches;
 mod trace;
 mod watch;
 
@@ -30,6 +31,7 @@ pub use line::{Line, Refused, RefusedLine, Value};
 pub use log::{model, model_values, Decided, LogEntry, LogFault, Obeyed, Undecided};
 pub use network::{network, network_answer, By, Fill, Link, Verdict, Why};
 use raw::Raw;
+pub use searches::{outcomes, outcomes_run, reach, Outcomes, Reached, Unsearched};
 use std::error::Error;
 use std::fmt;
 use torusmem_sys as sys;

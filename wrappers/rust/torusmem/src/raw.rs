@@ -308,6 +308,31 @@ pub fn model_values(log: &[u8], nodes: u64, order: u32, out: &mut [u8]) -> torus
     unsafe { torusmem_model_values(text_at(log), log.len(), nodes, order, at, room) }
 }
 
+pub fn outcomes(machine: &[u8], scripts: &[u8], states: u64, out: &mut [u8]) -> torusmem_searched {
+    let (machine_at, scripts_at) = (text_at(machine), text_at(scripts));
+    let (mut no_byte, room) = (0, out.len());
+    let at = buffer_at(out, &mut no_byte);
+    // SAFETY: the slices have as many bytes as they say; what is written is nobody else's. There is no machine.
+    unsafe { torusmem_outcomes(machine_at, machine.len(), scripts_at, scripts.len(), states, at, room) }
+}
+
+pub fn outcomes_run(machine: &[u8], scripts: &[u8], states: u64, number: u64, out: &mut [u8]) -> torusmem_outcome {
+    let (machine_at, scripts_at) = (text_at(machine), text_at(scripts));
+    let (mut no_byte, room) = (0, out.len());
+    let at = buffer_at(out, &mut no_byte);
+    // SAFETY: the slices have as many bytes as they say; what is written is nobody else's. There is no machine.
+    unsafe { torusmem_outcomes_run(machine_at, machine.len(), scripts_at, scripts.len(), states, number, at, room) }
+}
+
+pub fn reach(machine: &[u8], scripts: &[u8], answer: &[u8], states: u64, out: &mut [u8]) -> torusmem_outcome {
+    let (machine_at, scripts_at, answer_at) = (text_at(machine), text_at(scripts), text_at(answer));
+    let (mut no_byte, room) = (0, out.len());
+    let at = buffer_at(out, &mut no_byte);
+    let (machines, answers) = (machine.len(), answer.len());
+    // SAFETY: the slices have as many bytes as they say; what is written is nobody else's. There is no machine.
+    unsafe { torusmem_reach(machine_at, machines, scripts_at, scripts.len(), answer_at, answers, states, at, room) }
+}
+
 pub struct RawWatch(torusmem_watch);
 
 // SAFETY: as of a machine.

@@ -3,6 +3,7 @@ use std::fs;
 use std::path::{Path, PathBuf};
 use std::thread;
 use torusmem::{check, explain, linearize, linearize_answer, model, model_values, network, network_answer};
+use torusmem::{outcomes, outcomes_run, reach, Reached, Unsearched};
 use torusmem::{Answer, Asked, By, Channel, Choice, Class, Dir, Said, Undecided};
 use torusmem::{Entry, Event, EventFault, LogEntry, LogFault};
 use torusmem::{Fault, Judged, Kind, Line, Link, Machine, NotTaken, Operation, Refused, Reply, Spin, Text, Value};
@@ -26,7 +27,10 @@ fn first() -> Machine {
 
 /// The attempts of a steps text.
 fn steps(name: &str) -> Vec<(u32, Choice)> {
-    let text = String::from_utf8(read(name)).expect("a text");
+    steps_of(&String::from_utf8(read(name)).expect("a text"))
+}
+
+fn steps_of(text: &str) -> Vec<(u32, Choice)> {
     let lines = text.lines().filter(|line| !line.is_empty() && !line.starts_with('#'));
     lines.map(|line| step(&line.split_whitespace().collect::<Vec<_>>())).collect()
 }
@@ -451,6 +455,33 @@ fn replies_are_judged() {
     assert!(decided.sc == Some(false) && decided.text.contains("\nsc no\nan order of tso:\n"));
     assert_eq!(of("replied 0 1 7\nreplied 1 1 0\n"), Err(Undecided::Unwritten { line: 7 }));
     assert_eq!(of(""), Err(Undecided::Fault(Fault::Text { fault: 5, line: 4 })));
+}
+
+/// All outcomes of message passing with fences, a run to one, and replies that no run has.
+#[test]
+fn outcomes_are_found() {
+    let (machine, scripts) = (read("examples/machine.txt"), read("examples/message/fenced.txt"));
+    let found = outcomes(&machine, &scripts, 100000).unwrap();
+    assert_eq!((found.exact, found.outcomes, found.states), (true, 3, 67));
+    assert!(found.text.starts_with("outcome 0 : ok ok / 0 42 ; 0 1 1 42\n") && found.text.ends_with("\nexact, 67 states\n"));
+    let run = outcomes_run(&machine, &scripts, 1, 100000).unwrap().expect("an outcome");
+    let mut made = Machine::load(&machine, &scripts).expect("the texts are loaded");
+    assert!(steps_of(&run).into_iter().all(|(agent, choice)| made.step(agent, choice)) && made.finished());
+    let replies: Vec<_> = made.answers(1).expect("a processor").iter().map(|answer| answer.reply).collect();
+    assert!(replies == [Reply::Old(0); 2] && run.ends_with("# finished\n"));
+    let text = format!("{run}# reached\n");
+    assert_eq!(reach(&machine, &scripts, b"ok ok / 0 0", 100000), Ok(Reached::Run { text }));
+    assert_eq!(outcomes_run(&machine, &scripts, 3, 100000), Ok(None));
+    assert_eq!(outcomes_run(&machine, &scripts, 3, 7), Err(Unsearched::Undecided));
+    let text = "never, 67 states\n".to_string();
+    assert_eq!(reach(&machine, &scripts, b"ok ok / 1 0", 100000), Ok(Reached::Never { text }));
+    let text = "undecided, 7 states\n".to_string();
+    assert_eq!(reach(&machine, &scripts, b"ok ok / 1 0", 7), Ok(Reached::Undecided { text }));
+    assert_eq!(reach(&machine, &scripts, b"ok ok / 1 x", 7), Err(Unsearched::NoReply));
+    assert_eq!(reach(&machine, &scripts, b"ok ok / 1", 7), Err(Unsearched::OtherCount));
+    assert_eq!(outcomes(&machine, &b"0 load 1\n".repeat(257), 7), Err(Unsearched::TooLong));
+    assert_eq!(outcomes(&machine, b"0 load 8\n", 7), Err(Unsearched::Fault(Fault::Text { fault: 7, line: 1 })));
+    assert_eq!(outcomes(&machine, &scripts, 0), Err(Unsearched::Fault(Fault::Text { fault: 6, line: 0 })));
 }
 
 /// A chain so long that its verdict doesn't fit at once: the numbers rise from the one end to the other.
