@@ -1,5 +1,5 @@
 -- A closing load comes behind all writes on its word, where it is the first operation of its processor.
-use Rattle.std.proofs.Common.{◌≡◌, ◌≢◌, ◌⊎◌, inl, inr, ℕ, ◌+◌, ◌-◌, ◌<◌, ◌≤◌, true, List, length, sym, ap, subst, ◌∙◌, arith}
+use Rattle.std.proofs.Common.{◌≡◌, inl, inr, ℕ, ◌+◌, ◌-◌, ◌<◌, ◌≤◌, true, List, length, sym, ap, subst, ◌∙◌, arith}
 use Rattle.std.specs.Prelude.{slice_index}
 use Rattle.std.proofs.lemmas.Bool.{cases_eq, cases_lt}
 use Rattle.memory_models.specs.declared.kinds.Operation.{Operation}
@@ -8,8 +8,8 @@ use Rattle.memory_models.specs.Trace.{is_load, is_write, uses_word, operation_at
 use Rattle.memory_models.proofs.Orders.{load_uses}
 use Rattle.model_values.specs.Known.{IsClosedBy}
 use Rattle.model_values.specs.Placed.{IsTraceOf}
-use Rattle.model_values.specs.Unordered.{IsClosingOf, IsToldAt, ExplainsLog}
-use Rattle.model_values.proofs.Explained.{AreWrites, IsExplained, explained, places_apart, places_rise, writes_placed}
+use Rattle.model_values.specs.Unordered.{IsClosingOf, ExplainsLog}
+use Rattle.model_values.proofs.Explained.{AreWrites, IsExplained, explained, places_apart, places_rise}
 use Rattle.model_values.proofs.Opened.{stands_at}
 
 -- what reads its word stands at a write of it
