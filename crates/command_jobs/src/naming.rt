@@ -73,6 +73,7 @@ pub fn names<'a>(job: &Job<'a>) -> Names<'a> {
         | Job::LockUp { network: name, .. }
         | Job::Linearize { trace: name, .. }
         | Job::Report { trace: name, .. }
+        | Job::Smallest { trace: name, .. }
         | Job::Model { log: name, .. }
         | Job::ValueModel { log: name, .. } => (name, None, None),
     };

@@ -11,8 +11,8 @@ use Rattle.command_line.specs.declared.command.Job.{Job}
 use Rattle.command_line.specs.declared.command.Job.TheVariants.{Steps, Round, Run, Live, Route}
 use Rattle.command_line.specs.declared.command.Job.TheVariants.{Channels, Check}
 use Rattle.command_line.specs.declared.command.Job.TheVariants.{Network, LockUp, Replay, Simulate}
-use Rattle.command_line.specs.declared.command.Job.TheVariants.{Linearize, Report, Watch, Model, RunModel}
-use Rattle.command_line.specs.declared.command.Job.TheVariants.{ValueModel}
+use Rattle.command_line.specs.declared.command.Job.TheVariants.{Linearize, Report, Smallest, Watch, Model}
+use Rattle.command_line.specs.declared.command.Job.TheVariants.{RunModel, ValueModel}
 use Rattle.command_line.specs.declared.command.Job.TheVariants.{Schedule, Draw, Moves, Outcomes, Reach}
 
 -- the values of a subcommand's arguments
@@ -34,9 +34,10 @@ abbrev pub class_word : Class → Text
 class_word Request = flag_text false
 class_word Reply = flag_text true
 
--- the subcommand of a job: `steps` both of the report of a run, and of its moves; `linearize` both
--- of the lines of an order, and of its report; `network` of a verdict, a run and a replay; `model` of a
--- log or report, of a report with the texts of its run, and of a log by its replies alone
+-- the subcommand of a job: `steps` both of the report of a run, and of its moves; `linearize` of the
+-- lines of an order, of its report, and of a small part without one; `network` of a verdict, a run
+-- and a replay; `model` of a log or report, of a report with the texts of its run, and of a log by
+-- its replies alone
 abbrev pub name_of : Job → Text
 name_of (Steps machine script steps) = codes "steps"
 name_of (Round machine script rounds pace) = codes "round"
@@ -51,6 +52,7 @@ name_of (Replay network run depth) = codes "network"
 name_of (Simulate network traffic depth arbiter) = codes "simulate"
 name_of (Linearize trace configurations seconds) = codes "linearize"
 name_of (Report trace configurations seconds) = codes "linearize"
+name_of (Smallest trace configurations seconds) = codes "linearize"
 name_of (Watch trace configurations) = codes "watch"
 name_of (Model log model order) = codes "model"
 name_of (RunModel log model order machine script) = codes "model"
@@ -129,12 +131,18 @@ AreOfJob (Linearize trace configurations seconds) rows =
     (first_of (codes "TRACE") rows ≡ Some trace.now)
     × (number_in (codes "configurations") rows ≡ Some configurations)
     × (number_in (codes "seconds") rows ≡ seconds)
-    × IsFlag (codes "report") false rows
+    × IsFlag (codes "report") false rows × IsFlag (codes "smallest") false rows
 AreOfJob (Report trace configurations seconds) rows =
     (first_of (codes "TRACE") rows ≡ Some trace.now)
     × (number_in (codes "configurations") rows ≡ Some configurations)
     × (number_in (codes "seconds") rows ≡ seconds)
-    × IsFlag (codes "report") true rows
+    × IsFlag (codes "report") true rows × IsFlag (codes "smallest") false rows
+AreOfJob (Smallest trace configurations seconds) rows =
+    (first_of (codes "TRACE") rows ≡ Some trace.now)
+    × (number_in (codes "configurations") rows ≡ Some configurations)
+    × (number_in (codes "seconds") rows ≡ seconds)
+    × IsFlag (codes "report") false rows × IsFlag (codes "smallest") true rows
+    × IsGiven (codes "json") false rows
 AreOfJob (Watch trace configurations) rows = (first_of (codes "TRACE") rows ≡ Some trace.now)
     × (number_in (codes "configurations") rows ≡ Some configurations)
 AreOfJob (Model log model order) rows = (first_of (codes "LOG") rows ≡ Some log.now)
@@ -184,6 +192,7 @@ AreJobLimits (Replay network run depth) = (1 ≤ depth) × (depth ≤ 8)
 AreJobLimits (Simulate network traffic depth arbiter) = (1 ≤ depth) × (depth ≤ 8)
 AreJobLimits (Linearize trace configurations seconds) = 1 ≤ configurations
 AreJobLimits (Report trace configurations seconds) = 1 ≤ configurations
+AreJobLimits (Smallest trace configurations seconds) = 1 ≤ configurations
 AreJobLimits (Watch trace configurations) = 1 ≤ configurations
 AreJobLimits (ValueModel log model order nodes) = 1 ≤ nodes
 AreJobLimits (Schedule machine script rounds pace) = (1 ≤ rounds) × (rounds ≤ 1000000)

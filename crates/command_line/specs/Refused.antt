@@ -6,7 +6,8 @@ use Rattle.command_line.specs.declared.refused.Misuse.{Misuse}
 use Rattle.command_line.specs.declared.refused.Misuse.TheVariants.{RunAndReplay, DepthAlone}
 use Rattle.command_line.specs.declared.refused.Misuse.TheVariants.{TextsAndValues, NodesAlone}
 use Rattle.command_line.specs.declared.refused.Misuse.TheVariants.{ArbiterAlone, GuardByTurn}
-use Rattle.command_line.specs.declared.refused.Misuse.TheVariants.{OtherArbiter}
+use Rattle.command_line.specs.declared.refused.Misuse.TheVariants.{OtherArbiter, ReportAndSmallest}
+use Rattle.command_line.specs.declared.refused.Misuse.TheVariants.{SmallestAndJson}
 use Rattle.command_line.specs.declared.refused.NoJob.{NoJob}
 use Rattle.command_line.specs.declared.refused.NoJob.TheVariants.{Options, Missing}
 use Rattle.command_line.specs.declared.refused.NoRequest.{NoRequest}
@@ -15,13 +16,15 @@ use Rattle.command_line.specs.declared.pace.AskedPace.{AskedPace}
 use Rattle.command_line.specs.declared.command.Job.{Job}
 use Rattle.command_line.specs.declared.words.WordKind.TheVariants.{Flag, Long}
 use Rattle.command_line.specs.CommandLine.{name_by, rows_by, torusmem_app}
-use Rattle.command_line.specs.Job.{IsFlag, IsPace, NamesJob, number_in}
+use Rattle.command_line.specs.Job.{IsFlag, IsGiven, IsPace, NamesJob, number_in}
 use Rattle.command_line.specs.Values.{IsNoCommand, IsOfKind, IsOfKindIfGiven, Lacks}
 
 -- the subcommands whose options are misused so
 abbrev pub misused : Misuse → List Text
 misused RunAndReplay = codes "network" ∷ []
 misused DepthAlone = codes "network" ∷ []
+misused ReportAndSmallest = codes "linearize" ∷ []
+misused SmallestAndJson = codes "linearize" ∷ []
 misused TextsAndValues = codes "model" ∷ []
 misused NodesAlone = codes "model" ∷ []
 misused ArbiterAlone = codes "round" ∷ codes "schedule" ∷ []
@@ -29,7 +32,8 @@ misused GuardByTurn = codes "round" ∷ codes "schedule" ∷ []
 misused OtherArbiter = codes "round" ∷ codes "schedule" ∷ []
 
 -- options are misused so: a run and a replay are both asked for; or a depth is given, and neither is;
--- or texts are given where replies alone count; or a number of nodes is given where they don't; or an
+-- or a report and a small part are; or a small part and an object are; or texts are given where
+-- replies alone count; or a number of nodes is given where they don't; or an
 -- arbiter or a guard is given, and rounds are in order; or a guard is, and puts go by turns; or the
 -- arbiter is another than those of machines
 abbrev pub IsMisuse : Misuse → List Row → Type 0
@@ -37,6 +41,10 @@ IsMisuse RunAndReplay rows = IsFlag (codes "run") true rows
     × (is_some (first_of (codes "replay") rows) ≡ true)
 IsMisuse DepthAlone rows = IsFlag (codes "run") false rows
     × (first_of (codes "replay") rows ≡ None) × (is_some (number_in (codes "depth") rows) ≡ true)
+IsMisuse ReportAndSmallest rows = IsFlag (codes "report") true rows
+    × IsFlag (codes "smallest") true rows
+IsMisuse SmallestAndJson rows = IsFlag (codes "smallest") true rows
+    × IsGiven (codes "json") true rows
 IsMisuse TextsAndValues rows = IsFlag (codes "values") true rows
     × (is_some (all_of (codes "texts") rows) ≡ true)
 IsMisuse NodesAlone rows = IsFlag (codes "values") false rows
@@ -91,6 +99,9 @@ abbrev pub misuse_text : Misuse → Text
 misuse_text RunAndReplay = codes "network takes --run or --replay, not both"
 misuse_text DepthAlone =
     codes "--depth goes with --run or --replay: a verdict is that of every depth"
+misuse_text ReportAndSmallest = codes "linearize takes --report or --smallest, not both"
+misuse_text SmallestAndJson =
+    codes "--smallest prints a trace text: it does not go with --json"
 misuse_text TextsAndValues = codes "model takes --texts or --values, not both"
 misuse_text NodesAlone = codes "--nodes goes with --values: without it nothing is searched"
 misuse_text ArbiterAlone =

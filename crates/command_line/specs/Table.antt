@@ -255,6 +255,7 @@ linearize_command = record {
       ∷ configurations_word
       ∷ seconds_word
       ∷ free_option (codes "report") Flag (codes "Prints the order as a report")
+      ∷ free_option (codes "smallest") Flag (codes "Prints a small part that has no order")
       ∷ json_word
       ∷ [];
 }

@@ -100,6 +100,13 @@ pub enum Job<'a> {
         configurations: u32,
         seconds: Option<u64>,
     },
+    /// Find the one order of a trace, as `Linearize` does, and print it; where there is none, print a small part
+    /// of the trace that has none.
+    Smallest {
+        trace: &'a str,
+        configurations: u32,
+        seconds: Option<u64>,
+    },
     /// Judge a trace while it comes, line by line, with so many configurations of a word at once at
     /// most.
     Watch {
@@ -173,36 +180,6 @@ pub struct Request<'a> {
     pub job: Job<'a>,
     pub explain: bool,
     pub json: bool,
-}
-
-/// The word of the subcommand of a job.
-pub fn name_of(job: &Job) -> &'static str
-    ensures { result.now ≡ name_of job.now }
-{
-    match *job {
-        Job::Steps { .. } => "steps",
-        Job::Round { .. } => "round",
-        Job::Run { .. } => "run",
-        Job::Live { .. } => "live",
-        Job::Route { .. } => "route",
-        Job::Channels { .. } => "channels",
-        Job::Check { .. } => "check",
-        Job::Network { .. } => "network",
-        Job::LockUp { .. } => "network",
-        Job::Replay { .. } => "network",
-        Job::Simulate { .. } => "simulate",
-        Job::Linearize { .. } => "linearize",
-        Job::Report { .. } => "linearize",
-        Job::Watch { .. } => "watch",
-        Job::Model { .. } => "model",
-        Job::RunModel { .. } => "model",
-        Job::ValueModel { .. } => "model",
-        Job::Schedule { .. } => "schedule",
-        Job::Draw { .. } => "draw",
-        Job::Moves { .. } => "steps",
-        Job::Outcomes { .. } => "outcomes",
-        Job::Reach { .. } => "reach",
-    }
 }
 
 /// Reads the words of a command line, the program's own name among them.

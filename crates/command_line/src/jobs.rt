@@ -8,7 +8,8 @@ use crate::pace::AskedPace;
 use crate::refused::Misuse;
 use crate::table::{MOST_DEPTH, MOST_ROUNDS, MOST_STATES, MOST_TURNS, MOST_WORKERS};
 use crate::values::{
-    class, flag_of, long_number, long_number_if_given, number, number_if_given, two_words, word,
+    class, flag_of, is_given, long_number, long_number_if_given, number, number_if_given,
+    two_words, word,
 };
 use clap::ArgMatches;
 
@@ -201,25 +202,36 @@ pub(crate) fn simulate_job<'a>(given: &ArgMatches<'a>) -> Answer<'a>
     }))
 }
 
-/// The trace of `linearize`, of which the lines of an order or its report are asked for.
+/// The trace of `linearize`, of which the lines of an order or its report are asked for, or a small part without
+/// an order; a misuse where both are asked for, or an object in place of the part.
 pub(crate) fn linearize_job<'a>(given: &ArgMatches<'a>) -> Answer<'a>
     ensures { AnswersBy (codes "linearize") (rows_of (found_of given.now)) result }
 {
     let trace = word(given, "TRACE")?;
     let configurations = number(given, "configurations", 1, u32::MAX)?;
     let seconds = long_number_if_given(given, "seconds")?;
-    if flag_of(given, "report")? {
-        Some(Ok(Job::Report {
+    match (
+        flag_of(given, "report")?,
+        flag_of(given, "smallest")?,
+        is_given(given, "json"),
+    ) {
+        (true, true, _) => Some(Err(Misuse::ReportAndSmallest)),
+        (true, false, _) => Some(Ok(Job::Report {
             trace,
             configurations,
             seconds,
-        }))
-    } else {
-        Some(Ok(Job::Linearize {
+        })),
+        (false, true, true) => Some(Err(Misuse::SmallestAndJson)),
+        (false, true, false) => Some(Ok(Job::Smallest {
             trace,
             configurations,
             seconds,
-        }))
+        })),
+        (false, false, _) => Some(Ok(Job::Linearize {
+            trace,
+            configurations,
+            seconds,
+        })),
     }
 }
 

@@ -5,6 +5,7 @@ pub mod asking;
 pub mod command;
 mod jobs;
 mod making;
+pub mod naming;
 pub mod pace;
 pub mod refused;
 pub mod table;
@@ -12,7 +13,8 @@ mod values;
 pub mod words;
 
 pub use asking::{asks_commands, asks_version, request_told, words_told};
-pub use command::{Job, Request, name_of, read_command, read_request};
+pub use command::{Job, Request, read_command, read_request};
+pub use naming::name_of;
 pub use pace::AskedPace;
 pub use refused::{Misuse, NoJob, NoRequest, misuse_text};
 pub use table::CommandTable;

@@ -4,13 +4,17 @@ ghost use Rattle.command_line.specs.Refused.{misuse_text};
 
 use clap::Error;
 
-/// How the options of `network`, `model`, `round` or `schedule` are misused.
+/// How the options of `network`, `linearize`, `model`, `round` or `schedule` are misused.
 #[derive(Clone, Copy)]
 pub enum Misuse {
     /// A run and a replay are both asked for.
     RunAndReplay,
     /// A depth is given, and neither a run nor a replay is asked for.
     DepthAlone,
+    /// A report and a small part of a trace are both asked for.
+    ReportAndSmallest,
+    /// A small part of a trace is asked for, and an object in place of a text.
+    SmallestAndJson,
     /// Texts are given where replies alone count.
     TextsAndValues,
     /// A number of nodes is given where not replies alone count.
@@ -49,6 +53,8 @@ pub fn misuse_text(misuse: Misuse) -> &'static str
         Misuse::RunAndReplay => "network takes --run or --replay, not both",
         Misuse::DepthAlone =>
             "--depth goes with --run or --replay: a verdict is that of every depth",
+        Misuse::ReportAndSmallest => "linearize takes --report or --smallest, not both",
+        Misuse::SmallestAndJson => "--smallest prints a trace text: it does not go with --json",
         Misuse::TextsAndValues => "model takes --texts or --values, not both",
         Misuse::NodesAlone => "--nodes goes with --values: without it nothing is searched",
         Misuse::ArbiterAlone =>

@@ -254,6 +254,7 @@ const ROWS: [CommandRow; 16] = [
             CONFIGURATIONS,
             SECONDS,
             Optional("report", Flag, "Prints the order as a report"),
+            Optional("smallest", Flag, "Prints a small part that has no order"),
             JSON,
         ],
     },

@@ -11,3 +11,4 @@ pub mod Watched
 pub mod Hints
 pub mod Json
 pub mod WatchedTable
+pub mod Smallest

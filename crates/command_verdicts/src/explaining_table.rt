@@ -32,7 +32,7 @@ pub(crate) fn explain_table<R: Eprint + AllocGlobal>(
 
 /// The last line of the trace text of a table that is of this line of it, where the events are of these
 /// lines.
-fn last_line(events: &[u64], line: u64) -> Option<u64> {
+pub(crate) fn last_line(events: &[u64], line: u64) -> Option<u64> {
     let mut last = None;
     for place in 0..events.len() {
         if events[place] == line {

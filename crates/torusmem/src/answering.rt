@@ -87,6 +87,11 @@ pub(crate) fn answer<R: Eprint + Clock + AllocGlobal + Threads + Wait + Sync, W:
             configurations,
             seconds,
             ..
+        }
+        | Job::Smallest {
+            configurations,
+            seconds,
+            ..
         } => {
             let is_report = false;
             let wanted = Wanted {

@@ -12,6 +12,7 @@ fn begin_line<R: Eprint>(rt: &R, job: &Job, bytes: usize) -> bool {
     match *job {
         Job::Linearize { .. }
         | Job::Report { .. }
+        | Job::Smallest { .. }
         | Job::Model { .. }
         | Job::RunModel { .. }
         | Job::ValueModel { .. } => {

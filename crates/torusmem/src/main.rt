@@ -7,6 +7,7 @@ mod answering;
 mod as_json;
 mod judging;
 mod running;
+mod shrinking;
 mod talking;
 mod telling;
 mod watching;
@@ -25,6 +26,7 @@ use network_answer::Answer;
 use network_rounds::Arbiter;
 use program_fault::{ProgramFault, Texts};
 use report_lines::Piped;
+use shrinking::smallest_told;
 use std::alloc::Global;
 use std::io::{Input, IsTerminal};
 use std::process::ExitCode;
@@ -151,7 +153,7 @@ fn other_done<R: Files + Input + Print + Eprint + Clock + AllocGlobal + Threads 
             if is_explained {
                 explain_outcome(rt, &request.job, &texts, &outcome, &told);
             }
-            status
+            smallest_told(rt, &request.job, &texts, &outcome, status)
         }
         Err(fault) => {
             let status = fault_told(rt, &fault);

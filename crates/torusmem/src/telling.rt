@@ -152,7 +152,10 @@ pub(crate) fn explain_outcome<R: Eprint + AllocGlobal>(
     if let (Job::Network { network } | Job::LockUp { network, .. }, Some(answer)) = (*job, told) {
         explain_verdict(rt, network, &texts.first, answer);
     }
-    if let (Job::Linearize { trace, .. }, Outcome::Judged(judged, bounds)) = (*job, *outcome)
+    if let (
+        Job::Linearize { trace, .. } | Job::Smallest { trace, .. },
+        Outcome::Judged(judged, bounds),
+    ) = (*job, *outcome)
         && let Judged::NotLinearizable { line } | Judged::NotLinearizableBy { line, .. } = judged
     {
         explain_no_order(rt, trace, &texts.first, line, bounds.reached);
@@ -202,7 +205,7 @@ pub(crate) fn explain_fault<R: Eprint + AllocGlobal>(
         } => explain_run_models(rt, (log, machine, script), &names(job), texts, fault),
         Job::Model { log, .. } => explain_models(rt, log, &names(job), texts, fault),
         Job::ValueModel { log, .. } => explain_values(rt, log, &texts.first, fault),
-        Job::Linearize { trace, .. } | Job::Report { trace, .. } => {
+        Job::Linearize { trace, .. } | Job::Report { trace, .. } | Job::Smallest { trace, .. } => {
             explain_trace(rt, trace, &texts.first, fault);
         }
         _ => explain(rt, kind(job), &names(job), texts, fault),

@@ -7,7 +7,7 @@ fault.
 """
 from __future__ import annotations
 
-from typing import Callable, Iterator, List, Optional, Tuple, TypeVar
+from typing import Callable, Iterator, List, Tuple, TypeVar
 
 from torusmem_tools.model.campaign_cases import Case
 
@@ -15,19 +15,13 @@ Fails = Callable[[Case], bool]
 Item = TypeVar("Item")
 
 
-def without_parts(
-    items: List[Item],
-    fails: Callable[[List[Item]], bool],
-    without: Optional[Callable[[List[Item], List[Item]], List[Item]]] = None,
-    is_spent: Callable[[], bool] = lambda: False,
-) -> List[Item]:
-    """As few of the items as one comes to by leaving out parts, larger ones first, until no more tries are left; `without` says what
-    goes with a part, if more does."""
+def without_parts(items: List[Item], fails: Callable[[List[Item]], bool]) -> List[Item]:
+    """As few of the items as one comes to by leaving out parts, larger ones first."""
     size = max(1, len(items) // 2)
-    while items and not is_spent():
+    while items:
         at, is_less = 0, False
-        while at < len(items) and not is_spent():
-            rest = without(items, items[at : at + size]) if without else items[:at] + items[at + size :]
+        while at < len(items):
+            rest = items[:at] + items[at + size :]
             if fails(rest):
                 items, is_less = rest, True
             else:

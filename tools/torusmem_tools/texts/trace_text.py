@@ -2,7 +2,7 @@
 from __future__ import annotations
 
 from dataclasses import dataclass
-from typing import Callable, Dict, List, Optional, Set, Tuple
+from typing import Dict, List, Optional, Tuple
 
 from torusmem_tools.model.operations import Operation, word_after
 
@@ -36,10 +36,6 @@ class Call:
         """Whether it may have left a word that isn't known."""
         return self.answered is None and self.asked.kind in FOLLOWING
 
-    def says_nothing(self) -> bool:
-        """Whether every order has room for it: it is a load, and never answered."""
-        return self.answered is None and self.asked.kind == "load"
-
 
 @dataclass
 class TraceText:
@@ -66,43 +62,6 @@ def parse(text: str) -> TraceText:
         elif line.strip():
             found.others.append((number, line.rstrip()))
     return found
-
-
-def up_to(calls: List[Call], line: int) -> List[Call]:
-    """The operations that are issued up to a line, with the answers up to it; but for those that say nothing."""
-    made = []
-    for it in calls:
-        if it.issued <= line:
-            is_told = it.answered is not None and it.answered <= line
-            made.append(Call(it.asked, it.issued, it.answered if is_told else None, it.reply if is_told else ""))
-    return [it for it in made if not it.says_nothing()]
-
-
-def resting(calls: List[Call], gone: List[Call]) -> List[Call]:
-    """Those of the operations that found a word which one of the others may have left, or on whose word one of them may have left
-    any."""
-    left: Set[Tuple[int, int]] = set()
-    whole: Set[int] = set()
-    for it in gone:
-        if it.may_leave_any():
-            whole.add(it.asked.word)
-        word = it.left()
-        if word is not None:
-            left.add((it.asked.word, word))
-    changed = {address for address, _ in left}
-    rests: Callable[[Call], bool] = lambda it: (it.asked.word, it.found()) in left or it.may_leave_any() and it.asked.word in changed
-    return [it for it in calls if it.asked.word in whole or rests(it)]
-
-
-def with_writers(calls: List[Call], some: List[Call]) -> List[Call]:
-    """Some operations, and all that may have left what one of these found, and so on."""
-    kept = {id(it) for it in some}
-    wanted = list(some)
-    while wanted:
-        words = {(it.asked.word, it.found()) for it in wanted}
-        wanted = [it for it in calls if id(it) not in kept and it.left() is not None and (it.asked.word, it.left()) in words]
-        kept.update(map(id, wanted))
-    return [it for it in calls if id(it) in kept]
 
 
 def text_of(trace: TraceText, calls: List[Call]) -> str:

@@ -1,0 +1,4 @@
+pub mod Noting
+pub mod Keeping
+pub mod Judging
+pub mod Telling
