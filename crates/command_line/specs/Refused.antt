@@ -4,6 +4,7 @@ use Rattle.std.specs.Prelude.{IfSome, IsSomeAnd, Result, Ok, Err, codes, is_some
 use Rattle.clap.specs.Words.{HasKind, Row, Text, all_of, fault_of, first_of}
 use Rattle.command_line.specs.declared.refused.Misuse.{Misuse}
 use Rattle.command_line.specs.declared.refused.Misuse.TheVariants.{RunAndReplay, DepthAlone}
+use Rattle.command_line.specs.declared.refused.Misuse.TheVariants.{NamesOfMoves}
 use Rattle.command_line.specs.declared.refused.Misuse.TheVariants.{TextsAndValues, NodesAlone}
 use Rattle.command_line.specs.declared.refused.Misuse.TheVariants.{ArbiterAlone, GuardByTurn}
 use Rattle.command_line.specs.declared.refused.Misuse.TheVariants.{OtherArbiter}
@@ -22,6 +23,7 @@ use Rattle.command_line.specs.Values.{IsNoCommand, IsOfKind, IsOfKindIfGiven, La
 abbrev pub misused : Misuse → List Text
 misused RunAndReplay = codes "network" ∷ []
 misused DepthAlone = codes "network" ∷ []
+misused NamesOfMoves = codes "network" ∷ []
 misused TextsAndValues = codes "model" ∷ []
 misused NodesAlone = codes "model" ∷ []
 misused ArbiterAlone = codes "round" ∷ codes "schedule" ∷ []
@@ -29,7 +31,7 @@ misused GuardByTurn = codes "round" ∷ codes "schedule" ∷ []
 misused OtherArbiter = codes "round" ∷ codes "schedule" ∷ []
 
 -- options are misused so: a run and a replay are both asked for; or a depth is given, and neither is;
--- or texts are given where replies alone count; or a number of nodes is given where they don't; or an
+-- or names are asked for, and so is either; or texts are given where replies alone count; or a number of nodes is given where they don't; or an
 -- arbiter or a guard is given, and rounds are in order; or a guard is, and puts go by turns; or the
 -- arbiter is another than those of machines
 abbrev pub IsMisuse : Misuse → List Row → Type 0
@@ -37,6 +39,8 @@ IsMisuse RunAndReplay rows = IsFlag (codes "run") true rows
     × (is_some (first_of (codes "replay") rows) ≡ true)
 IsMisuse DepthAlone rows = IsFlag (codes "run") false rows
     × (first_of (codes "replay") rows ≡ None) × (is_some (number_in (codes "depth") rows) ≡ true)
+IsMisuse NamesOfMoves rows = IsFlag (codes "names") true rows
+    × (IsFlag (codes "run") true rows ⊎ (is_some (first_of (codes "replay") rows) ≡ true))
 IsMisuse TextsAndValues rows = IsFlag (codes "values") true rows
     × (is_some (all_of (codes "texts") rows) ≡ true)
 IsMisuse NodesAlone rows = IsFlag (codes "values") false rows
@@ -91,6 +95,8 @@ abbrev pub misuse_text : Misuse → Text
 misuse_text RunAndReplay = codes "network takes --run or --replay, not both"
 misuse_text DepthAlone =
     codes "--depth goes with --run or --replay: a verdict is that of every depth"
+misuse_text NamesOfMoves =
+    codes "--names goes with neither --run nor --replay: it is of a verdict"
 misuse_text TextsAndValues = codes "model takes --texts or --values, not both"
 misuse_text NodesAlone = codes "--nodes goes with --values: without it nothing is searched"
 misuse_text ArbiterAlone =

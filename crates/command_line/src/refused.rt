@@ -11,6 +11,8 @@ pub enum Misuse {
     RunAndReplay,
     /// A depth is given, and neither a run nor a replay is asked for.
     DepthAlone,
+    /// Names are asked for where moves are, or how a replay ends.
+    NamesOfMoves,
     /// Texts are given where replies alone count.
     TextsAndValues,
     /// A number of nodes is given where not replies alone count.
@@ -49,6 +51,7 @@ pub fn misuse_text(misuse: Misuse) -> &'static str
         Misuse::RunAndReplay => "network takes --run or --replay, not both",
         Misuse::DepthAlone =>
             "--depth goes with --run or --replay: a verdict is that of every depth",
+        Misuse::NamesOfMoves => "--names goes with neither --run nor --replay: it is of a verdict",
         Misuse::TextsAndValues => "model takes --texts or --values, not both",
         Misuse::NodesAlone => "--nodes goes with --values: without it nothing is searched",
         Misuse::ArbiterAlone =>
