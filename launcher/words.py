@@ -230,6 +230,8 @@ def misuse(given: list[str]) -> str:
     runs = {"run", "replay"} & set(given)
     if len(runs) == 2:
         return "network takes --run or --replay, not both\n"
+    if "names" in given and runs:
+        return "--names goes with neither --run nor --replay: it is of a verdict\n"
     if "depth" in given and not runs:
         return "--depth goes with --run or --replay: a verdict is that of every depth\n"
     return ""

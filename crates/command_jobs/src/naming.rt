@@ -69,7 +69,7 @@ pub fn names<'a>(job: &Job<'a>) -> Names<'a> {
         | Job::Route { machine: name, .. }
         | Job::Channels { machine: name }
         | Job::Check { report: name }
-        | Job::Network { network: name }
+        | Job::Network { network: name, .. }
         | Job::LockUp { network: name, .. }
         | Job::Linearize { trace: name, .. }
         | Job::Report { trace: name, .. }

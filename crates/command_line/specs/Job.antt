@@ -46,7 +46,7 @@ name_of (Live machine) = codes "live"
 name_of (Route machine src dst class) = codes "route"
 name_of (Channels machine) = codes "channels"
 name_of (Check report) = codes "check"
-name_of (Network network) = codes "network"
+name_of (Network network names) = codes "network"
 name_of (LockUp network depth) = codes "network"
 name_of (Replay network run depth) = codes "network"
 name_of (Simulate network traffic depth arbiter) = codes "simulate"
@@ -113,15 +113,15 @@ AreOfJob (Route machine src dst class) rows = (first_of (codes "MACHINE") rows �
     × (one_of (codes "reply") rows ≡ Some (class_word class))
 AreOfJob (Channels machine) rows = first_of (codes "MACHINE") rows ≡ Some machine.now
 AreOfJob (Check report) rows = first_of (codes "REPORT") rows ≡ Some report.now
-AreOfJob (Network network) rows = (first_of (codes "NETWORK") rows ≡ Some network.now)
+AreOfJob (Network network names) rows = (first_of (codes "NETWORK") rows ≡ Some network.now)
     × IsFlag (codes "run") false rows × (first_of (codes "replay") rows ≡ None)
-    × (number_in (codes "depth") rows ≡ None)
+    × (number_in (codes "depth") rows ≡ None) × IsFlag (codes "names") names rows
 AreOfJob (LockUp network depth) rows = (first_of (codes "NETWORK") rows ≡ Some network.now)
     × IsFlag (codes "run") true rows × (first_of (codes "replay") rows ≡ None)
-    × (depth_in rows ≡ depth)
+    × (depth_in rows ≡ depth) × IsFlag (codes "names") false rows
 AreOfJob (Replay network run depth) rows = (first_of (codes "NETWORK") rows ≡ Some network.now)
     × IsFlag (codes "run") false rows × (first_of (codes "replay") rows ≡ Some run.now)
-    × (depth_in rows ≡ depth)
+    × (depth_in rows ≡ depth) × IsFlag (codes "names") false rows
 AreOfJob (Simulate network traffic depth arbiter) rows =
     (first_of (codes "NETWORK") rows ≡ Some network.now)
     × (first_of (codes "TRAFFIC") rows ≡ Some traffic.now)

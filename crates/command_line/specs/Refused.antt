@@ -4,6 +4,7 @@ use Rattle.std.specs.Prelude.{IfSome, IsSomeAnd, Result, Ok, Err, codes, is_some
 use Rattle.clap.specs.Words.{HasKind, Row, Text, all_of, fault_of, first_of}
 use Rattle.command_line.specs.declared.refused.Misuse.{Misuse}
 use Rattle.command_line.specs.declared.refused.Misuse.TheVariants.{RunAndReplay, DepthAlone}
+use Rattle.command_line.specs.declared.refused.Misuse.TheVariants.{NamesOfMoves}
 use Rattle.command_line.specs.declared.refused.Misuse.TheVariants.{TextsAndValues, NodesAlone}
 use Rattle.command_line.specs.declared.refused.Misuse.TheVariants.{ArbiterAlone, GuardByTurn}
 use Rattle.command_line.specs.declared.refused.Misuse.TheVariants.{OtherArbiter, ReportAndSmallest}
@@ -23,6 +24,7 @@ use Rattle.command_line.specs.Values.{IsNoCommand, IsOfKind, IsOfKindIfGiven, La
 abbrev pub misused : Misuse → List Text
 misused RunAndReplay = codes "network" ∷ []
 misused DepthAlone = codes "network" ∷ []
+misused NamesOfMoves = codes "network" ∷ []
 misused ReportAndSmallest = codes "linearize" ∷ []
 misused SmallestAndJson = codes "linearize" ∷ []
 misused TextsAndValues = codes "model" ∷ []
@@ -32,8 +34,9 @@ misused GuardByTurn = codes "round" ∷ codes "schedule" ∷ []
 misused OtherArbiter = codes "round" ∷ codes "schedule" ∷ []
 
 -- options are misused so: a run and a replay are both asked for; or a depth is given, and neither is;
--- or a report and a small part are; or a small part and an object are; or texts are given where
--- replies alone count; or a number of nodes is given where they don't; or an
+-- or names are asked for, and so is either; or a report and a small part are; or a small part
+-- and an object are; or texts are given where replies alone count; or a number of nodes is
+-- given where they don't; or an
 -- arbiter or a guard is given, and rounds are in order; or a guard is, and puts go by turns; or the
 -- arbiter is another than those of machines
 abbrev pub IsMisuse : Misuse → List Row → Type 0
@@ -41,6 +44,8 @@ IsMisuse RunAndReplay rows = IsFlag (codes "run") true rows
     × (is_some (first_of (codes "replay") rows) ≡ true)
 IsMisuse DepthAlone rows = IsFlag (codes "run") false rows
     × (first_of (codes "replay") rows ≡ None) × (is_some (number_in (codes "depth") rows) ≡ true)
+IsMisuse NamesOfMoves rows = IsFlag (codes "names") true rows
+    × (IsFlag (codes "run") true rows ⊎ (is_some (first_of (codes "replay") rows) ≡ true))
 IsMisuse ReportAndSmallest rows = IsFlag (codes "report") true rows
     × IsFlag (codes "smallest") true rows
 IsMisuse SmallestAndJson rows = IsFlag (codes "smallest") true rows
@@ -99,6 +104,8 @@ abbrev pub misuse_text : Misuse → Text
 misuse_text RunAndReplay = codes "network takes --run or --replay, not both"
 misuse_text DepthAlone =
     codes "--depth goes with --run or --replay: a verdict is that of every depth"
+misuse_text NamesOfMoves =
+    codes "--names goes with neither --run nor --replay: it is of a verdict"
 misuse_text ReportAndSmallest = codes "linearize takes --report or --smallest, not both"
 misuse_text SmallestAndJson =
     codes "--smallest prints a trace text: it does not go with --json"

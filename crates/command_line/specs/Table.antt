@@ -228,6 +228,8 @@ network_command = record {
       (codes "Replays the run of this file, and prints how it ends")
       ∷ free_option (codes "depth") (Number 1 8)
       (codes "How many flits a channel holds in a run, 1 to 8; 1 by default")
+      ∷ free_option (codes "names") Flag
+      (codes "Puts what the file calls a channel behind its number in a verdict")
       ∷ json_word
       ∷ [];
 }

@@ -64,9 +64,10 @@ pub enum Job<'a> {
     Check {
         report: &'a str,
     },
-    /// Judge a network that is written down.
+    /// Judge a network that is written down, and name channels as it does, where that is asked for.
     Network {
         network: &'a str,
+        names: bool,
     },
     /// Print the run by which a network deadlocks whose channels hold so many flits.
     LockUp {

@@ -169,24 +169,27 @@ pub(crate) fn check_job<'a>(given: &ArgMatches<'a>) -> Answer<'a>
 }
 
 /// The network of `network`, of which the verdict or a run is asked for, or over which a run is
-/// replayed; a misuse where both are asked for, or a depth is given and neither is.
+/// replayed; a misuse where both are asked for, or either with names, or a depth is given and neither is.
 pub(crate) fn network_job<'a>(given: &ArgMatches<'a>) -> Answer<'a>
     ensures { AnswersBy (codes "network") (rows_of (found_of given.now)) result }
 {
     let network = word(given, "NETWORK")?;
     let given_depth = number_if_given(given, "depth", MOST_DEPTH)?;
     let depth = given_depth.unwrap_or(1);
-    match (flag_of(given, "run")?, word(given, "replay")) {
-        (true, Some(_)) => Some(Err(Misuse::RunAndReplay)),
-        (true, None) => Some(Ok(Job::LockUp { network, depth })),
-        (false, Some(run)) => Some(Ok(Job::Replay {
+    let names = flag_of(given, "names")?;
+    match (flag_of(given, "run")?, word(given, "replay"), names) {
+        (true, Some(_), _) => Some(Err(Misuse::RunAndReplay)),
+        (true, None, true) => Some(Err(Misuse::NamesOfMoves)),
+        (true, None, false) => Some(Ok(Job::LockUp { network, depth })),
+        (false, Some(_), true) => Some(Err(Misuse::NamesOfMoves)),
+        (false, Some(run), false) => Some(Ok(Job::Replay {
             network,
             run,
             depth,
         })),
-        (false, None) => match given_depth {
+        (false, None, _) => match given_depth {
             Some(_) => Some(Err(Misuse::DepthAlone)),
-            None => Some(Ok(Job::Network { network })),
+            None => Some(Ok(Job::Network { network, names })),
         },
     }
 }

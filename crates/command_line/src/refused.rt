@@ -11,6 +11,8 @@ pub enum Misuse {
     RunAndReplay,
     /// A depth is given, and neither a run nor a replay is asked for.
     DepthAlone,
+    /// Names are asked for where moves are, or how a replay ends.
+    NamesOfMoves,
     /// A report and a small part of a trace are both asked for.
     ReportAndSmallest,
     /// A small part of a trace is asked for, and an object in place of a text.
@@ -53,6 +55,7 @@ pub fn misuse_text(misuse: Misuse) -> &'static str
         Misuse::RunAndReplay => "network takes --run or --replay, not both",
         Misuse::DepthAlone =>
             "--depth goes with --run or --replay: a verdict is that of every depth",
+        Misuse::NamesOfMoves => "--names goes with neither --run nor --replay: it is of a verdict",
         Misuse::ReportAndSmallest => "linearize takes --report or --smallest, not both",
         Misuse::SmallestAndJson => "--smallest prints a trace text: it does not go with --json",
         Misuse::TextsAndValues => "model takes --texts or --values, not both",

@@ -223,6 +223,11 @@ const ROWS: [CommandRow; 16] = [
                 Number(1, MOST_DEPTH),
                 "How many flits a channel holds in a run, 1 to 8; 1 by default",
             ),
+            Optional(
+                "names",
+                Flag,
+                "Puts what the file calls a channel behind its number in a verdict",
+            ),
             JSON,
         ],
     },

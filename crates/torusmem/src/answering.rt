@@ -10,6 +10,7 @@ use command_schedule::{
     OutcomesEnd, ReachEnd, clocked_schedule_text, draw_text, fair_schedule_text, moves_text,
     outcomes_text, reach_text, schedule_text,
 };
+use command_verdicts::network::named_network_text;
 use command_verdicts::{
     AskedModels, Decided, Judged, Modelled, judged_models_text, lock_up_text, network_text,
     replay_network_text, simulate_text, texts_models_text, values_text,
@@ -70,7 +71,14 @@ pub(crate) fn answer<R: Eprint + Clock + AllocGlobal + Threads + Wait + Sync, W:
     let alloc = rt.alloc();
     let first = texts.first.as_slice();
     match *job {
-        Job::Network { .. } => network_sound(network_text(alloc, first, out), told),
+        Job::Network { names, .. } => {
+            let judged = if names {
+                named_network_text(alloc, first, out)
+            } else {
+                network_text(alloc, first, out)
+            };
+            network_sound(judged, told)
+        }
         Job::LockUp { depth, .. } => {
             network_sound(lock_up_text(alloc, first, u64::from(depth), out), told)
         }

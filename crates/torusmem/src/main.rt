@@ -141,7 +141,7 @@ fn other_done<R: Files + Input + Print + Eprint + Clock + AllocGlobal + Threads 
         Ok(texts) => texts,
         Err(status) => return status,
     };
-    if let Job::Network { .. } = request.job
+    if let Job::Network { names: false, .. } = request.job
         && !is_explained
     {
         return network_told(rt, texts.first);

@@ -149,7 +149,9 @@ pub(crate) fn explain_outcome<R: Eprint + AllocGlobal>(
     outcome: &Outcome,
     told: &Option<Answer<Global>>,
 ) {
-    if let (Job::Network { network } | Job::LockUp { network, .. }, Some(answer)) = (*job, told) {
+    if let (Job::Network { network, .. } | Job::LockUp { network, .. }, Some(answer)) = (
+        *job, told,
+    ) {
         explain_verdict(rt, network, &texts.first, answer);
     }
     if let (
@@ -184,7 +186,7 @@ pub(crate) fn explain_fault<R: Eprint + AllocGlobal>(
     requires { AreJobLimits job.now }
 {
     match *job {
-        Job::Network { network } | Job::LockUp { network, .. } => {
+        Job::Network { network, .. } | Job::LockUp { network, .. } => {
             explain_network(rt, network, &texts.first, fault);
         }
         Job::Replay {
