@@ -6,7 +6,7 @@ ghost use Rattle.command_line.specs.Refused.{AnswersBy, AnswersPace};
 use crate::command::Job;
 use crate::pace::AskedPace;
 use crate::refused::Misuse;
-use crate::table::{MOST_DEPTH, MOST_ROUNDS, MOST_STATES, MOST_TURNS, MOST_WORKERS};
+use crate::taken::{MOST_DEPTH, MOST_ROUNDS, MOST_STATES, MOST_TURNS, MOST_WORKERS};
 use crate::values::{
     class, flag_of, is_given, long_number, long_number_if_given, number, number_if_given,
     two_words, word,

@@ -9,6 +9,7 @@ pub mod naming;
 pub mod pace;
 pub mod refused;
 pub mod table;
+mod taken;
 mod values;
 pub mod words;
 

@@ -4,87 +4,14 @@ ghost use Rattle.std.specs.Prelude.{◌≡◌, map};
 ghost use Rattle.command_line.specs.Printed.{program_text};
 ghost use Rattle.command_line.specs.Table.{commands, common_words, named_command, taken_word};
 
-use crate::words::CommandWord::{Argument, Optional, Required, Usual};
-use crate::words::WordKind::{
-    Arbiter, Flag, Long, MachineArbiter, Model, Number, Path, Replies, RunTexts,
+use crate::taken::{
+    ARBITER, CLOCKED, CONFIGURATIONS, GUARD, JSON, MACHINE, MOST_DEPTH, MOST_SEARCHED, MOST_TURNS,
+    MOST_WORKERS, NETWORK, ROUNDS, SCRIPT, SECONDS, STATES,
 };
+use crate::words::CommandWord::{Argument, Optional, Required, Usual};
+use crate::words::WordKind::{Arbiter, Flag, Long, Model, Number, Path, Replies, RunTexts};
 use crate::words::{CommandRow, CommandWord, put_common, put_rows};
 use std::fmt;
-
-/// The most rounds of `round` and `schedule`.
-pub(crate) const MOST_ROUNDS: u32 = 1000000;
-
-/// The most workers of `run`.
-pub(crate) const MOST_WORKERS: u32 = 16;
-
-/// The most turns of a worker.
-pub(crate) const MOST_TURNS: u32 = 1000000000;
-
-/// The most flits of a channel.
-pub(crate) const MOST_DEPTH: u32 = 8;
-
-/// The most configurations of a search, or nodes of a model.
-pub(crate) const MOST_SEARCHED: u32 = 4294967295;
-
-/// The most states of a search for outcomes.
-pub(crate) const MOST_STATES: u32 = 10000000;
-
-const MACHINE: CommandWord = Argument("MACHINE", Path, "The file with the machine");
-
-const SCRIPT: CommandWord = Argument("SCRIPT", Path, "The file with the scripts");
-
-const ROUNDS: CommandWord = Usual(
-    "rounds",
-    Number(1, MOST_ROUNDS),
-    "At most this many rounds, 1 to 1000000",
-    "1000000",
-);
-
-const CLOCKED: CommandWord = Optional(
-    "clocked",
-    Flag,
-    "Clocked rounds: each attempts what is enabled when it begins",
-);
-
-const ARBITER: CommandWord = Optional(
-    "arbiter",
-    MachineArbiter,
-    "With --clocked: which head an output takes, oldest (by default) or turn",
-);
-
-const GUARD: CommandWord = Optional(
-    "guard",
-    Long,
-    "With --clocked: none begins while an operation is out for more rounds than this, 0 to 18446744073709551615",
-);
-
-const NETWORK: CommandWord = Argument("NETWORK", Path, "The file with the network");
-
-const CONFIGURATIONS: CommandWord = Usual(
-    "configurations",
-    Number(1, MOST_SEARCHED),
-    "At most this many configurations of a word, 1 to 4294967295",
-    "1000000",
-);
-
-const SECONDS: CommandWord = Optional(
-    "seconds",
-    Long,
-    "Widens the search for about so many seconds, 0 to 18446744073709551615",
-);
-
-const STATES: CommandWord = Usual(
-    "states",
-    Number(1, MOST_STATES),
-    "At most this many states of the search, 1 to 10000000",
-    "100000",
-);
-
-const JSON: CommandWord = Optional(
-    "json",
-    Flag,
-    "Prints the answer as one JSON object on one line",
-);
 
 /// What the program is.
 pub(crate) const ABOUT: &str = "A shared memory spread over a torus of tiles";
