@@ -135,6 +135,10 @@ def listed(found: Found, run: int | None, states: int, is_plain: bool) -> str:
     return ended([*lines, last if is_exact else f"undecided, {states} states: {len(outcomes)} outcomes are known, there may be others"], is_exact, is_plain)
 
 
+# What is found at a placement, with all fences and without each.
+Look = Tuple[Found, Dict[int, Found]]
+
+
 class Table:
     """The table of placements: what is found at each, and without each fence there."""
 
@@ -142,10 +146,14 @@ class Table:
         self.case, self.lines, self.how, self.is_exact = case, lines, how, True
         self.rows: List[Tuple[Place, Found, Dict[int, Found]]] = []
 
-    def look(self, place: Place, fences: List[int]) -> None:
+    def look(self, place: Place, fences: List[int]) -> Look:
         """Looks at a placement, with all fences and without each."""
-        here = outcome_places.found(self.case, place, *self.how)
         others = {it: outcome_places.found(outcome_places.without(self.case, it), place, *self.how) for it in fences}
+        return outcome_places.found(self.case, place, *self.how), others
+
+    def add(self, place: Place, look: Look) -> None:
+        """Adds what is found at a placement."""
+        here, others = look
         self.rows.append((place, here, others))
         self.is_exact &= all(it.search.is_exact for it in (here, *others.values()))
 
@@ -199,9 +207,11 @@ def chosen(case: campaign_cases.Case, given: argparse.Namespace) -> List[Place]:
 def placed(case: campaign_cases.Case, lines: List[int], given: argparse.Namespace) -> str:
     """The table of placements, or the picture."""
     table, places, told = Table(case, lines, (given.states, given.plain)), chosen(case, given), progress.Progress(TOOL)
+    fences = outcome_places.fences(case) if given.fences else []
+    looks = outcome_places.looks(lambda it: table.look(it, fences), places, given.plain)
     for at, place in enumerate(places, 1):
         with told.waiting(f"placement {at} of {len(places)}"):
-            table.look(place, outcome_places.fences(case) if given.fences else [])
+            table.add(place, next(looks))
     if given.runs:
         table.write(given.runs)
     if given.svg:

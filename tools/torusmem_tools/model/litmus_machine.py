@@ -53,11 +53,12 @@ def values(test: Litmus, outcome: Outcome) -> Values:
 def shown(test: Litmus, machine: campaign_cases.Case, most: int, is_plain: bool) -> List[Shown]:
     """What the machine shows at each placement."""
     case = scripts(test, machine)
-    rows = []
-    for place in outcome_places.places(case):
+
+    def look(place: Place) -> Shown:
         found = outcome_places.found(case, place, most, is_plain)
-        rows.append(Shown(place, next((it for it in found.outcomes if test.condition(values(test, it))), None), found))
-    return rows
+        return Shown(place, next((it for it in found.outcomes if test.condition(values(test, it))), None), found)
+
+    return list(outcome_places.looks(look, list(outcome_places.places(case)), is_plain))
 
 
 def allowed(test: Litmus) -> Dict[str, bool]:

@@ -3,6 +3,7 @@
 from __future__ import annotations
 
 import re
+from dataclasses import dataclass
 from typing import Callable, List, NamedTuple, Tuple
 
 from torusmem_tools import command
@@ -27,6 +28,18 @@ class Outcomes(NamedTuple):
     run: Callable[[Outcome], List[str]]
 
 
+@dataclass(frozen=True)
+class Asked:
+    """Asks the program for the steps of a run to an outcome, which it prints by the outcome's number."""
+
+    case: campaign_cases.Case
+    most: int
+    known: List[Outcome]
+
+    def __call__(self, outcome: Outcome) -> List[str]:
+        return asked(self.case, self.most, "--run", str(self.known.index(outcome)))[:-1]
+
+
 def outcomes_of(case: campaign_cases.Case, most: int, is_plain: bool) -> Outcomes:
     """The outcomes of a script, by a search of so many states at most."""
     if is_plain:
@@ -35,11 +48,7 @@ def outcomes_of(case: campaign_cases.Case, most: int, is_plain: bool) -> Outcome
     lines = asked(case, most)
     known = [outcome_of(it) for it in lines[:-1]]
     exact = EXACT.fullmatch(lines[-1])
-
-    def run(outcome: Outcome) -> List[str]:
-        return asked(case, most, "--run", str(known.index(outcome)))[:-1]
-
-    return Outcomes(known, exact is not None, int(exact[1]) if exact else most, run)
+    return Outcomes(known, exact is not None, int(exact[1]) if exact else most, Asked(case, most, known))
 
 
 def asked(case: campaign_cases.Case, most: int, *words: str) -> List[str]:

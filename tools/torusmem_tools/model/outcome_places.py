@@ -3,14 +3,16 @@ from __future__ import annotations
 
 import itertools
 from dataclasses import dataclass
-from typing import Dict, Iterator, List, Tuple
+from typing import Callable, Dict, Iterator, List, Tuple, TypeVar
 
+from torusmem_tools import parallel
 from torusmem_tools.model import campaign_cases
 from torusmem_tools.model.outcome_list import Outcomes, outcomes_of
 from torusmem_tools.model.outcome_states import Outcome
 
 # The tile of each address, in their order.
 Place = Tuple[int, ...]
+Answer = TypeVar("Answer")
 
 
 def addresses(case: campaign_cases.Case) -> List[int]:
@@ -32,6 +34,13 @@ def placed(case: campaign_cases.Case, place: Place) -> campaign_cases.Case:
         lines.append((p, " ".join([words[0], str(new[int(words[1])]), *words[2:]]) if len(words) > 1 else text))
     opening = sorted((new[a], value) for a, value in case.opening if a in new)
     return case.with_(lines=lines, opening=opening, words=max(case.words, case.tiles() * len(new)))
+
+
+def looks(look: Callable[[Place], Answer], some: List[Place], is_plain: bool) -> Iterator[Answer]:
+    """What is found at each of some placements, in their order: by the program at as many at once as there are processors, behind
+    the first, before which it may have to be built."""
+    yield from map(look, some[:1])
+    yield from parallel.answers(look, some[1:], 1 if is_plain else parallel.cores())
 
 
 def fences(case: campaign_cases.Case) -> List[int]:
