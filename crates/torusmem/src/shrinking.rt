@@ -5,6 +5,7 @@ use command_jobs::{all_printed, fault_told};
 use command_line::Job;
 use command_verdicts::{Judged, shrunk_of, tell_smallest};
 use program_fault::{ProgramFault, Texts};
+use std::alloc::Global;
 use trace_parts::Shrunk;
 
 /// Why nothing is shrunk, if there is nothing to shrink.
@@ -29,16 +30,15 @@ fn bad_line(judged: Judged) -> Option<u64> {
 /// Prints a small part of a trace, and says why it has no order.
 ///
 /// Errors: the output failed, or out of memory.
-fn smallest_printed<R: Print + Eprint + AllocGlobal>(
+fn shrunk_printed<R: Print + Eprint + AllocGlobal>(
     rt: &R,
-    trace: &[u8],
-    line: u64,
+    shrunk: &Shrunk<Global>,
     configurations: u32,
 ) -> Result<(), ProgramFault> {
-    match shrunk_of(rt.alloc(), trace, line, u64::from(configurations))? {
+    match shrunk {
         Shrunk::Told(part, told) => {
             all_printed(rt, &told.text)?;
-            tell_smallest(rt, &part, &told, configurations);
+            tell_smallest(rt, part, told, configurations);
         }
         Shrunk::Untold(_) => {
             let _ = eprintln!(rt; "nothing is shrunk: the part isn't read again as it was written");
@@ -48,6 +48,19 @@ fn smallest_printed<R: Print + Eprint + AllocGlobal>(
         }
     }
     Ok(())
+}
+
+/// Finds a small part of a trace, prints it, and says why it has no order.
+///
+/// Errors: the output failed, or out of memory.
+fn smallest_printed<R: Print + Eprint + AllocGlobal>(
+    rt: &R,
+    trace: &[u8],
+    line: u64,
+    configurations: u32,
+) -> Result<(), ProgramFault> {
+    let shrunk = shrunk_of(rt.alloc(), trace, line, u64::from(configurations))?;
+    shrunk_printed(rt, &shrunk, configurations)
 }
 
 /// Prints a small part of a trace that has no order, where the job asks for it, and answers the exit

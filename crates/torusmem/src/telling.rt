@@ -140,6 +140,14 @@ pub(crate) fn status_told<R: Eprint>(rt: &R, outcome: &Outcome) -> u8 {
     outcome_status(outcome)
 }
 
+/// The name of the trace that a job prints an order or a small part of, if it does.
+fn judged_trace<'a>(job: &Job<'a>) -> Option<&'a str> {
+    match *job {
+        Job::Linearize { trace, .. } | Job::Smallest { trace, .. } => Some(trace),
+        _ => None,
+    }
+}
+
 /// Says why a trace has no order from a line on, or why the verdict on a network is as it is, of which this
 /// was told, where that is the answer.
 pub(crate) fn explain_outcome<R: Eprint + AllocGlobal>(
@@ -154,10 +162,7 @@ pub(crate) fn explain_outcome<R: Eprint + AllocGlobal>(
     ) {
         explain_verdict(rt, network, &texts.first, answer);
     }
-    if let (
-        Job::Linearize { trace, .. } | Job::Smallest { trace, .. },
-        Outcome::Judged(judged, bounds),
-    ) = (*job, *outcome)
+    if let (Some(trace), Outcome::Judged(judged, bounds)) = (judged_trace(job), *outcome)
         && let Judged::NotLinearizable { line } | Judged::NotLinearizableBy { line, .. } = judged
     {
         explain_no_order(rt, trace, &texts.first, line, bounds.reached);
