@@ -106,9 +106,9 @@ void judges() {
   MUST(thrown(TORUSMEM_FAULT_SETTING, [&] { torusmem::model_values("log 1\n"); }).find("model_values: ") == 0);
   const char *message = "0 store 1 42\n0 fence\n0 store 0 1\n1 load 0\n1 fence\n1 load 1\n";
   torusmem::searched all = torusmem::outcomes(shape, message);
-  MUST(all.code == TORUSMEM_OK && all.outcomes == 3 && all.states == 67);
+  MUST(all.code == TORUSMEM_OK && all.outcomes == 3 && all.states == 35);
   MUST(all.text.find("outcome 1 : ok ok / 0 0 ; 0 1 1 42\n") != std::string::npos);
-  MUST(all.text.find("exact, 67 states\n") + 17 == all.text.size());
+  MUST(all.text.find("exact, 35 states\n") + 17 == all.text.size());
   all = torusmem::outcomes(shape, message, 7);
   MUST(all.code == TORUSMEM_UNDECIDED && all.outcomes == 0 && all.states == 7);
   MUST(all.text == "undecided, 7 states: 0 outcomes are known, there may be others\n");
@@ -118,7 +118,7 @@ void judges() {
   run = torusmem::outcomes_run(shape, message, 3, 7);
   MUST(run.code == TORUSMEM_UNDECIDED && run.text.empty());
   run = torusmem::reach(shape, message, "ok ok / 1 0");
-  MUST(run.code == TORUSMEM_NEVER && run.text == "never, 67 states\n");
+  MUST(run.code == TORUSMEM_NEVER && run.text == "never, 35 states\n");
   MUST(torusmem::reach(shape, message, "* * / 1 0", 7).code == TORUSMEM_UNDECIDED);
   MUST(thrown(TORUSMEM_NONE, [&] { torusmem::outcomes_run(shape, message, 3); }).find("outcomes_run: ") == 0);
   MUST(thrown(TORUSMEM_NO_REPLY, [&] { torusmem::reach(shape, message, "x"); }).find("reach: a word of") == 0);

@@ -53,16 +53,16 @@ static bool is_searched(torusmem_searched said, uint32_t code, uint64_t outcomes
 
 /* All outcomes; those of a search that may look at 7 states; a buffer that is a byte too short. */
 static void outcomes_are_listed(void) {
-  static const char all[] = "outcome 0 : ok ok / 0 42 ; 0 1 1 42\noutcome 1 : ok ok / 0 0 ; 0 1 1 42\n"
-                            "outcome 2 : ok ok / 1 42 ; 0 1 1 42\nexact, 67 states\n";
+  static const char all[] = "outcome 0 : ok ok / 1 42 ; 0 1 1 42\noutcome 1 : ok ok / 0 0 ; 0 1 1 42\n"
+                            "outcome 2 : ok ok / 0 42 ; 0 1 1 42\nexact, 35 states\n";
   static const char some[] = "undecided, 7 states: 0 outcomes are known, there may be others\n";
-  MUST(is_searched(outcomes(67, MOST_BYTES - 8), TORUSMEM_OK, 3, 67, sizeof all - 1));
+  MUST(is_searched(outcomes(35, MOST_BYTES - 8), TORUSMEM_OK, 3, 35, sizeof all - 1));
   MUST(memcmp(written.bytes, all, sizeof all - 1) == 0 && written.bytes[sizeof all - 1] == 0xAA);
-  MUST(is_searched(outcomes(10000000, sizeof all - 1), TORUSMEM_OK, 3, 67, sizeof all - 1));
-  MUST(is_searched(outcomes(100000, sizeof all - 2), TORUSMEM_SHORT, 3, 67, sizeof all - 1) && written.bytes[0] == 0xAA);
+  MUST(is_searched(outcomes(10000000, sizeof all - 1), TORUSMEM_OK, 3, 35, sizeof all - 1));
+  MUST(is_searched(outcomes(100000, sizeof all - 2), TORUSMEM_SHORT, 3, 35, sizeof all - 1) && written.bytes[0] == 0xAA);
   MUST(is_searched(outcomes(7, MOST_BYTES - 8), TORUSMEM_UNDECIDED, 0, 7, sizeof some - 1));
   MUST(memcmp(written.bytes, some, sizeof some - 1) == 0);
-  MUST(outcomes(66, MOST_BYTES - 8).code == TORUSMEM_UNDECIDED);
+  MUST(outcomes(34, MOST_BYTES - 8).code == TORUSMEM_UNDECIDED);
 }
 
 /* A run to an outcome, and to its replies; an outcome that there isn't, and one that isn't known. */
@@ -78,7 +78,7 @@ static void runs_are_found(void) {
   MUST(says(run_to(1, 100000, run.length - 1), TORUSMEM_SHORT, run.length) && written.bytes[0] == 0xAA);
   MUST(says(run_to(3, 100000, 100), TORUSMEM_NONE, 0) && says(run_to(UINT64_MAX, 100000, 100), TORUSMEM_NONE, 0));
   MUST(says(run_to(3, 7, 100), TORUSMEM_UNDECIDED, 0) && written.bytes[0] == 0xAA);
-  MUST(reaches("ok ok / 1 0", 100000, TORUSMEM_NEVER, "never, 67 states\n"));
+  MUST(reaches("ok ok / 1 0", 100000, TORUSMEM_NEVER, "never, 35 states\n"));
   MUST(reaches("ok ok / 1 0", 7, TORUSMEM_UNDECIDED, "undecided, 7 states\n"));
   MUST(says(reach("ok ok / 1 0", 11, 7, 19), TORUSMEM_SHORT, 20) && written.bytes[0] == 0xAA);
   MUST(reaches("ok ok / 1 x", 100000, TORUSMEM_NO_REPLY, "") && reaches("ok ok / 1", 100000, TORUSMEM_OTHER_COUNT, ""));

@@ -424,16 +424,16 @@ class Networks(unittest.TestCase):
 
     def test_outcomes_of_scripts(self):
         texts = [read("machine.txt"), read("message/fenced.txt")]
-        lines = ["outcome 0 : ok ok / 0 42 ; 0 1 1 42", "outcome 1 : ok ok / 0 0 ; 0 1 1 42", "outcome 2 : ok ok / 1 42 ; 0 1 1 42"]
+        lines = ["outcome 0 : ok ok / 1 42 ; 0 1 1 42", "outcome 1 : ok ok / 0 0 ; 0 1 1 42", "outcome 2 : ok ok / 0 42 ; 0 1 1 42"]
         found = outcomes(*texts)
-        self.assertEqual(found, Outcomes(True, 3, 67, "\n".join([*lines, "exact, 67 states", ""])))
+        self.assertEqual(found, Outcomes(True, 3, 35, "\n".join([*lines, "exact, 35 states", ""])))
         self.assertEqual(outcomes(*texts, 7)[:3], (False, 0, 7))
         run = outcomes_run(*texts, 1)
         self.assertTrue(run.endswith("# finished\n"), run)
         self.assertEqual(reach(*texts, "ok ok / 0 0"), Reached(True, run + "# reached\n"))
         self.assertRaises(IndexError, outcomes_run, *texts, 3)
         self.assertIsNone(outcomes_run(*texts, 3, 7))
-        self.assertEqual(reach(*texts, "ok ok / 1 0"), Reached(False, "never, 67 states\n"))
+        self.assertEqual(reach(*texts, "ok ok / 1 0"), Reached(False, "never, 35 states\n"))
         self.assertEqual(reach(*texts, "ok ok / 1 0", 7), Reached(None, "undecided, 7 states\n"))
         for answer in ("ok ok / 1 x", "ok ok / 1"):
             self.assertRaises(Unsearched, reach, *texts, answer)

@@ -43,8 +43,8 @@ def outcomes(machine: Text, scripts: Text, states: int = 100_000, files: Tuple[s
         >>> from torusmem import outcomes
         >>> machine, scripts = "radix 2\\ndims 1\\ndepth 4\\ntags 4\\nwords 2\\n", "0 store 1 5\\n1 load 1\\n"
         >>> print(outcomes(machine, scripts).text, end="")
-        outcome 0 : ok / 5 ; 1 5
-        outcome 1 : ok / 0 ; 1 5
+        outcome 0 : ok / 0 ; 1 5
+        outcome 1 : ok / 5 ; 1 5
         exact, 5 states
     """
     one, two = bytes_of(machine, "machine"), bytes_of(scripts, "scripts")

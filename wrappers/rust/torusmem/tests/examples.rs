@@ -462,8 +462,8 @@ fn replies_are_judged() {
 fn outcomes_are_found() {
     let (machine, scripts) = (read("examples/machine.txt"), read("examples/message/fenced.txt"));
     let found = outcomes(&machine, &scripts, 100000).unwrap();
-    assert_eq!((found.exact, found.outcomes, found.states), (true, 3, 67));
-    assert!(found.text.starts_with("outcome 0 : ok ok / 0 42 ; 0 1 1 42\n") && found.text.ends_with("\nexact, 67 states\n"));
+    assert_eq!((found.exact, found.outcomes, found.states), (true, 3, 35));
+    assert!(found.text.starts_with("outcome 0 : ok ok / 1 42 ; 0 1 1 42\n") && found.text.ends_with("\nexact, 35 states\n"));
     let run = outcomes_run(&machine, &scripts, 1, 100000).unwrap().expect("an outcome");
     let mut made = Machine::load(&machine, &scripts).expect("the texts are loaded");
     assert!(steps_of(&run).into_iter().all(|(agent, choice)| made.step(agent, choice)) && made.finished());
@@ -473,7 +473,7 @@ fn outcomes_are_found() {
     assert_eq!(reach(&machine, &scripts, b"ok ok / 0 0", 100000), Ok(Reached::Run { text }));
     assert_eq!(outcomes_run(&machine, &scripts, 3, 100000), Ok(None));
     assert_eq!(outcomes_run(&machine, &scripts, 3, 7), Err(Unsearched::Undecided));
-    let text = "never, 67 states\n".to_string();
+    let text = "never, 35 states\n".to_string();
     assert_eq!(reach(&machine, &scripts, b"ok ok / 1 0", 100000), Ok(Reached::Never { text }));
     let text = "undecided, 7 states\n".to_string();
     assert_eq!(reach(&machine, &scripts, b"ok ok / 1 0", 7), Ok(Reached::Undecided { text }));
