@@ -1225,19 +1225,7 @@ static void run_with_little_memory(void) {
 }
 
 static void memory(void) {
-  uint64_t needed;
-  run_with_little_memory();
-  needed = requests;
-  MUST(needed > 0);
-  for (uint64_t n = 1; n <= needed; n++) {
-    for (int all = 0; all < 2; all++) {
-      requests = 0;
-      refused = n;
-      and_later = all;
-      run_with_little_memory();
-    }
-  }
-  fprintf(stderr, "%" PRIu64 " requests for memory, each refused alone and with all behind it\n", needed);
+  refuse_each_request(run_with_little_memory);
 }
 
 /* The next number, below a limit, as in examples/golden/golden.c. */

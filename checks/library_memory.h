@@ -89,3 +89,19 @@ MAY_BE_UNUSED static void read_text(const char *name, text *read) {
   read->length = fread(read->bytes, 1, MOST_BYTES, file);
   fclose(file);
 }
+
+/* Makes some calls with each of their requests for memory refused in turn, alone and with all behind it. */
+MAY_BE_UNUSED static void refuse_each_request(void (*make_calls)(void)) {
+  make_calls();
+  uint64_t needed = requests;
+  MUST(needed > 0);
+  for (uint64_t n = 1; n <= needed; n++) {
+    for (int all = 0; all < 2; all++) {
+      requests = 0;
+      refused = n;
+      and_later = all;
+      make_calls();
+    }
+  }
+  fprintf(stderr, "%" PRIu64 " requests for memory, each refused alone and with all behind it\n", needed);
+}

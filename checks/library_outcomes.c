@@ -133,18 +133,7 @@ static void search_with_little_memory(void) {
 
 static void memory(void) {
   read_texts("radix 2\ndims 1\ndepth 1\ntags 1\nwords 2\n", "0 load 0\n");
-  search_with_little_memory();
-  uint64_t needed = requests;
-  MUST(needed > 0);
-  for (uint64_t n = 1; n <= needed; n++) {
-    for (int all = 0; all < 2; all++) {
-      requests = 0;
-      refused = n;
-      and_later = all;
-      search_with_little_memory();
-    }
-  }
-  fprintf(stderr, "%" PRIu64 " requests for memory, each refused alone and with all behind it\n", needed);
+  refuse_each_request(search_with_little_memory);
 }
 
 static void put(uint64_t length) {

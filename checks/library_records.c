@@ -260,17 +260,7 @@ static void with_little_memory(void) {
 }
 
 static void memory(void) {
-  with_little_memory();
-  uint64_t needed = requests;
-  for (uint64_t n = 1; n <= needed; n++) {
-    for (int all = 0; all < 2; all++) {
-      requests = 0;
-      refused = n;
-      and_later = all;
-      with_little_memory();
-    }
-  }
-  fprintf(stderr, "%" PRIu64 " requests for memory, each refused alone and with all behind it\n", needed);
+  refuse_each_request(with_little_memory);
 }
 
 int main(int count, char **words) {
