@@ -1,7 +1,6 @@
-ghost use Rattle.std.specs.Prelude.{◌≡◌, ◌⊎◌, ◌+◌, ◌≤◌, ◌==◌, ◌∷◌, ◌++◌, [], false, List, None};
-ghost use Rattle.std.specs.Prelude.{Some, Ok, IfErr, IfOk, IfSome, drop};
+ghost use Rattle.std.specs.Prelude.{◌≡◌, ◌⊎◌, ◌+◌, ◌≤◌, ◌∷◌, ◌++◌, [], false, List, None};
+ghost use Rattle.std.specs.Prelude.{Some, Ok, IfErr, IfOk, IfSome};
 ghost use Rattle.std.specs.Prelude.{OnErr, OnOk, length, map, slice_get};
-ghost use Rattle.std.specs.List.{find};
 ghost use Rattle.std.specs.Str.Lines.{lines};
 ghost use Rattle.torus.specs.declared.fault.Fault.{Fault};
 ghost use Rattle.torus.specs.declared.step.Step.{Step};
@@ -21,8 +20,8 @@ ghost use Rattle.fair_rounds.specs.Guard.{usual_guard};
 ghost use Rattle.machine_asked.specs.Asked.{IsAsked, IsNumberedLine, answer_to, has_spin};
 ghost use Rattle.machine_asked.specs.Asked.{index_asked};
 ghost use Rattle.machine_asked.specs.Asked.{is_behind_spin, spins_with};
-ghost use Rattle.machine_asked.specs.Near.{AreNear};
 
+use crate::answers::answer_of;
 use crate::flags::{count_more, counts_of, is_operation, mark_spin, spins_of};
 use fair_rounds::Guard;
 use machine_core::Machine;
@@ -99,39 +98,6 @@ impl<A: Allocator + Copy> AskedMachine<A> {
             Err(fault) => Err(LineFault { fault, line: 0 }),
         }
     }
-}
-
-/// The first of some answers that is to the operation of this index.
-fn answer_among(answers: &[Answer], index: u32) -> Option<Answer>
-    ensures { result ≡ find (λ a. a.index == index) answers.now }
-{
-    for answer in answers {
-        if answer.index == index {
-            return Some(*answer);
-        }
-    }
-    None
-}
-
-/// The answers from a place on.
-fn answers_from(answers: &[Answer], from: usize) -> &[Answer]
-    ensures { result.now ≡ drop from answers.now }
-{
-    if from < answers.len() {
-        &answers[from..]
-    } else {
-        &answers[answers.len()..]
-    }
-}
-
-/// The first of a processor's answers that is to the operation of this index. At most 16 operations are out at
-/// once, so it stands no more than 16 places in front of its operation's; what stands before that isn't looked at.
-fn answer_of(answers: &[Answer], index: u32) -> Option<Answer>
-    requires near { AreNear answers.now }
-    ensures { result ≡ find (λ a. a.index == index) answers.now }
-{
-    let from = index.saturating_sub(16);
-    answer_among(answers_from(answers, from as usize), index)
 }
 
 /// Out of memory, which is at no line.

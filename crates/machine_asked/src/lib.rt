@@ -1,6 +1,7 @@
 //! A machine that is asked for operations while it runs, and tells the index of each.
 #![tactic(auto)]
 
+mod answers;
 pub mod asked;
 mod clocked;
 mod flags;

@@ -1,7 +1,7 @@
 use Rattle.std.proofs.Common.{ap, sym, ◌∙◌, ◌==◌}
 use Rattle.std.specs.List.{find}
 use Rattle.machine_asked.proofs.Behind.{near_behind}
-use Rattle.machine_asked.proofs.asked.answer_of.Goals as goal
+use Rattle.machine_asked.proofs.answers.answer_of.Goals as goal
 
 pub returns : goal.returns
 returns c =
