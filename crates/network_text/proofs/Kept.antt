@@ -11,11 +11,15 @@ use Rattle.network_text.specs.declared.reason.Keyword.{Keyword}
 use Rattle.network_text.specs.declared.reason.Keyword.TheVariants as key
 use Rattle.network_text.specs.declared.reason.NetworkReason.{NetworkReason}
 use Rattle.network_text.specs.Reasons.{network_keyword_of}
-use Rattle.network_text.specs.Shapes.{unless, number_at, after_one, after_two, after_three, after_join_words, after_router_words, after_link_words, after_name_words}
+use Rattle.network_text.specs.Shapes.{unless, number_at, after_one, after_two, after_three, after_router_words, after_link_words, after_name_words}
 use Rattle.network_text.specs.AllPairs.{pairs_in}
+use Rattle.network_judge.specs.declared.table.Kind.{Kind}
+use Rattle.network_text.specs.declared.all_pairs.End.TheVariants.{Sender, Receiver}
+use Rattle.network_text.specs.declared.ranges.ChannelRange.{ChannelRange}
+use Rattle.network_text.specs.Ranges.{channels_of, listed_at, lacks_any, after_join_words}
 use Rattle.std.specs.Str.{bytes_eq}
 use Rattle.network_text.specs.Network.{Reading, reading_with, lacks, count_of, is_hop, has_reply, begun, started, cell_of, unnamed, names_at, with_names}
-use Rattle.network_text.specs.Network.{after_channels, after_inject, after_eject, after_join, after_join_all, after_choice, after_next, after_reply, after_length}
+use Rattle.network_text.specs.Network.{after_channels, after_inject, after_eject, after_joins, after_join_all, after_choice, after_next, after_reply, after_length}
 use Rattle.network_text.specs.Network.{after_router, after_link, after_name, after_first, after_words}
 
 abbrev Read : Type 0
@@ -46,7 +50,7 @@ keeps_unless : (r : Reading) (o : Option NetworkReason) (x : Read) → Keeps r x
 keeps_unless r None x a = a
 keeps_unless r (Some e) x a = keeps_err r e
 
-keeps_bind : (r : Reading) (m : Result ℕ NetworkReason) (f : ℕ → Read) → ((x : ℕ) → Keeps r (f x)) → Keeps r (m >>= f)
+keeps_bind : {A : Type 0} (r : Reading) (m : Result A NetworkReason) (f : A → Read) → ((x : A) → Keeps r (f x)) → Keeps r (m >>= f)
 keeps_bind r (Ok x) f a = a x
 keeps_bind r (Err e) f a = keeps_err r e
 
@@ -132,21 +136,23 @@ eject_keeps r x given =
     (keeps_if r (not (is_hop (slice_index_or r.table.kinds x Hop))) _ _ (keeps_err r _)
     (keeps_if r (nat_lt (2 ^ 27) (count_of r * (columns_of r.table + 1))) _ _ (keeps_err r _) (keeps_ok r _ (given, refl)))))
 
-join_keeps : (r : Reading) (i j : ℕ) → r.begun ≡ true → Keeps r (after_join r i j)
-join_keeps r i j given =
-    keeps_unless r (lacks r 1 i) _ (keeps_unless r (lacks r 2 j) _
-    (keeps_if r (nat_le 4194304 (length r.table.joins)) _ _ (keeps_err r _) (keeps_ok r _ (given, refl))))
+joins_keep : (r : Reading) (is js : List ChannelRange) → r.begun ≡ true → Keeps r (after_joins r is js)
+joins_keep r is js given =
+    keeps_unless r (lacks_any (count_of r) 1 is) _ (keeps_unless r (lacks_any (count_of r) 2 js) _
+    (keeps_if r (nat_le (length r.table.joins + length (channels_of is) * length (channels_of js)) 4194304) _ _ (keeps_ok r _ (given, refl)) (keeps_err r _)))
 
 join_all_keeps : (r : Reading) → r.begun ≡ true → Keeps r (after_join_all r)
 join_all_keeps r given =
     keeps_if r (count_of r == 0) _ _ (keeps_err r _)
     (keeps_if r (nat_lt 4194304 (length r.table.joins + pairs_in r.table.kinds)) _ _ (keeps_err r _) (keeps_ok r _ (given, refl)))
 
-join_words_keep : (r : Reading) (f : ℕ → ℕ → Read) (all : Read) (ws : List (List ℕ)) → ((x y : ℕ) → Keeps r (f x y)) → Keeps r all
-    → Keeps r (after_join_words f all ws)
-join_words_keep r f all [] each every = keeps_err r _
-join_words_keep r f all (a ∷ []) each every = keeps_if r (bytes_eq a (codes "all")) _ _ every (keeps_err r _)
-join_words_keep r f all (a ∷ b ∷ more) each every = two_keeps r key.Join f (a ∷ b ∷ more) each
+join_words_keep : (r : Reading) (kinds : List Kind) (f : List ChannelRange → List ChannelRange → Read) (all : Read) (ws : List (List ℕ))
+    → ((is js : List ChannelRange) → Keeps r (f is js)) → Keeps r all → Keeps r (after_join_words kinds f all ws)
+join_words_keep r kinds f all [] each every = keeps_err r _
+join_words_keep r kinds f all (a ∷ []) each every = keeps_if r (bytes_eq a (codes "all")) _ _ every (keeps_err r _)
+join_words_keep r kinds f all (a ∷ b ∷ []) each every =
+    keeps_bind r (listed_at kinds Sender 1 a) _ (λ is. keeps_bind r (listed_at kinds Receiver 2 b) _ (each is))
+join_words_keep r kinds f all (a ∷ b ∷ c ∷ more) each every = keeps_err r _
 
 reply_keeps : (r : Reading) (x y : ℕ) → r.begun ≡ true → Keeps r (after_reply r x y)
 reply_keeps r x y given =
@@ -181,7 +187,7 @@ first_keeps r None ws given = keeps_err r _
 first_keeps r (Some key.Channels) ws given = one_keeps r key.Channels (after_channels r) ws (λ x. channels_keeps r x given)
 first_keeps r (Some key.Inject) ws given = one_keeps r key.Inject (after_inject r) ws (λ x. inject_keeps r x given)
 first_keeps r (Some key.Eject) ws given = one_keeps r key.Eject (after_eject r) ws (λ x. eject_keeps r x given)
-first_keeps r (Some key.Join) ws given = join_words_keep r (after_join r) (after_join_all r) ws (λ i j. join_keeps r i j given) (join_all_keeps r given)
+first_keeps r (Some key.Join) ws given = join_words_keep r r.table.kinds (after_joins r) (after_join_all r) ws (λ is js. joins_keep r is js given) (join_all_keeps r given)
 first_keeps r (Some key.Next) ws given = three_keeps r key.Next (after_next r) ws (λ x j y. next_keeps r x j y given)
 first_keeps r (Some key.Reply) ws given = two_keeps r key.Reply (after_reply r) ws (λ x y. reply_keeps r x y given)
 first_keeps r (Some key.Length) ws given = one_keeps r key.Length (after_length r) ws (λ x. length_keeps r x given)

@@ -1,5 +1,7 @@
 pub mod SevenWords
 pub mod AllPairs
+pub mod ListedRanges
+pub mod Joined
 pub mod Hops
 pub mod Added
 pub mod Fresh

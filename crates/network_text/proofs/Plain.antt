@@ -1,6 +1,6 @@
 -- Lines that give no names go as with other names.
 use Rattle.std.proofs.Common.{◌≡◌, ℕ, Bool, true, false, List, [], ◌∷◌, ◌++◌, refl, ◌∙◌, ap}
-use Rattle.std.specs.Prelude.{Result, Ok, Err, Option, Some, None, is_some, if◌then◌else◌, not, replicate, slice_get, slice_set, slice_index_or, slice_index, nat_le, nat_lt, ◌+◌, length, ◌==◌, ◌&&◌, codes}
+use Rattle.std.specs.Prelude.{Result, Ok, Err, Option, Some, None, is_some, if◌then◌else◌, not, replicate, slice_get, slice_set, slice_index_or, slice_index, nat_le, nat_lt, ◌+◌, ◌*◌, length, ◌==◌, ◌&&◌, codes}
 use Rattle.lexer.specs.Words.{begins_comment}
 use Rattle.lexer.specs.Outcome.{◌>>=◌}
 use Rattle.network_judge.specs.declared.table.Kind.TheVariants.{Injection, Hop, Ejection}
@@ -11,11 +11,15 @@ use Rattle.network_text.specs.declared.reason.Keyword.TheVariants as key
 use Rattle.network_text.specs.declared.reason.NetworkReason.{NetworkReason}
 use Rattle.network_text.specs.declared.reason.NetworkReason.TheVariants as reason
 use Rattle.network_text.specs.Reasons.{network_keyword_of}
-use Rattle.network_text.specs.Shapes.{unless, after_one, after_two, after_three, after_join_words, number_at}
-use Rattle.network_text.specs.AllPairs.{all_joins, pairs_in}
+use Rattle.network_text.specs.Shapes.{unless, after_one, after_two, after_three, number_at}
+use Rattle.network_judge.specs.declared.table.Kind.{Kind}
+use Rattle.network_text.specs.declared.all_pairs.End.TheVariants.{Sender, Receiver}
+use Rattle.network_text.specs.declared.ranges.ChannelRange.{ChannelRange}
+use Rattle.network_text.specs.Ranges.{channels_of, listed_at, lacks_any, after_join_words}
+use Rattle.network_text.specs.AllPairs.{every_join, all_joins, pairs_in}
 use Rattle.std.specs.Str.{bytes_eq}
 use Rattle.network_text.specs.Network.{Reading, reading_with, lacks, is_hop, with_kind, count_of, begun, started, cell_of, has_reply}
-use Rattle.network_text.specs.Network.{after_channels, after_inject, after_eject, after_join, after_join_all, after_choice, after_next, after_reply, after_length}
+use Rattle.network_text.specs.Network.{after_channels, after_inject, after_eject, after_joins, after_join_all, after_choice, after_next, after_reply, after_length}
 use Rattle.network_text.specs.Network.{after_first, after_words}
 use Rattle.network_text.specs.Names.{is_naming, words_name}
 
@@ -39,7 +43,8 @@ unless_mapped : (s : List GivenNames) (o : Option NetworkReason) (m n : Read) �
 unless_mapped s None m n is = is
 unless_mapped s (Some e) m n is = refl
 
-bind_mapped : (s : List GivenNames) (m : Result ℕ NetworkReason) (f h : ℕ → Read) → ((x : ℕ) → h x ≡ mapped s (f x)) → (m >>= h) ≡ mapped s (m >>= f)
+bind_mapped : {A : Type 0} (s : List GivenNames) (m : Result A NetworkReason) (f h : A → Read) → ((x : A) → h x ≡ mapped s (f x))
+    → (m >>= h) ≡ mapped s (m >>= f)
 bind_mapped s (Ok x) f h each = each x
 bind_mapped s (Err e) f h each = refl
 
@@ -101,10 +106,11 @@ three_tests_mapped s true c x y z = refl
 three_tests_mapped s false true x y z = refl
 three_tests_mapped s false false x y z = refl
 
-join_mapped : (s : List GivenNames) (r : Reading) (i j : ℕ) → after_join (forget s r) i j ≡ mapped s (after_join r i j)
-join_mapped s r i j = unless_mapped s (lacks r 1 i) _ _ (unless_mapped s (lacks r 2 j) _ _
-    (if_mapped s (nat_le 4194304 (length r.table.joins)) (Err reason.JoinsLimits)
-    (Ok (reading_with (table_of r.table.kinds (r.table.joins ++ record { from = i; to = j } ∷ []) r.table.choices) r.replies r.begun r.names r.flits))))
+joins_mapped : (s : List GivenNames) (r : Reading) (is js : List ChannelRange) → after_joins (forget s r) is js ≡ mapped s (after_joins r is js)
+joins_mapped s r is js = unless_mapped s (lacks_any (count_of r) 1 is) _ _ (unless_mapped s (lacks_any (count_of r) 2 js) _ _
+    (if_mapped s (nat_le (length r.table.joins + length (channels_of is) * length (channels_of js)) 4194304)
+    (Ok (reading_with (table_of r.table.kinds (r.table.joins ++ every_join (channels_of is) (channels_of js)) r.table.choices)
+    r.replies r.begun r.names r.flits)) (Err reason.JoinsLimits)))
 
 join_all_mapped : (s : List GivenNames) (r : Reading) → after_join_all (forget s r) ≡ mapped s (after_join_all r)
 join_all_mapped s r =
@@ -112,13 +118,17 @@ join_all_mapped s r =
     (Err reason.ChannelsFirst) (Err reason.AllJoinsLimits)
     (Ok (reading_with (table_of r.table.kinds (r.table.joins ++ all_joins r.table.kinds) r.table.choices) r.replies r.begun r.names r.flits))
 
-join_words_mapped : (s : List GivenNames) (f h : ℕ → ℕ → Read) (a b : Read) (ws : List (List ℕ))
-    → ((x y : ℕ) → h x y ≡ mapped s (f x y)) → b ≡ mapped s a → after_join_words h b ws ≡ mapped s (after_join_words f a ws)
-join_words_mapped s f h a b [] each every = refl
-join_words_mapped s f h a b (w ∷ []) each every =
+join_words_mapped : (s : List GivenNames) (kinds : List Kind) (f h : List ChannelRange → List ChannelRange → Read) (a b : Read) (ws : List (List ℕ))
+    → ((is js : List ChannelRange) → h is js ≡ mapped s (f is js)) → b ≡ mapped s a
+    → after_join_words kinds h b ws ≡ mapped s (after_join_words kinds f a ws)
+join_words_mapped s kinds f h a b [] each every = refl
+join_words_mapped s kinds f h a b (w ∷ []) each every =
     ap (λ (o : Read). if bytes_eq w (codes "all") then o else Err (reason.NumberCount key.Join)) every
     ∙ if_mapped s (bytes_eq w (codes "all")) a (Err (reason.NumberCount key.Join))
-join_words_mapped s f h a b (v ∷ w ∷ more) each every = two_mapped s key.Join f h (v ∷ w ∷ more) each
+join_words_mapped s kinds f h a b (v ∷ w ∷ []) each every =
+    bind_mapped s (listed_at kinds Sender 1 v) (λ is. listed_at kinds Receiver 2 w >>= f is) (λ is. listed_at kinds Receiver 2 w >>= h is)
+    (λ is. bind_mapped s (listed_at kinds Receiver 2 w) (f is) (h is) (each is))
+join_words_mapped s kinds f h a b (v ∷ w ∷ u ∷ more) each every = refl
 
 begun_by : (s : List GivenNames) (r : Reading) (b : Bool) → (if b then forget s r else started (forget s r)) ≡ forget s (if b then r else started r)
 begun_by s r true = refl
@@ -177,8 +187,8 @@ goes_by s r next false (Some key.Eject) ws plain made =
 goes_by s r next false (Some key.Join) ws plain made =
     record {
       names = s;
-      made = join_words_mapped s (after_join r) (after_join (forget s r)) (after_join_all r) (after_join_all (forget s r)) ws
-          (join_mapped s r) (join_all_mapped s r)
+      made = join_words_mapped s r.table.kinds (after_joins r) (after_joins (forget s r)) (after_join_all r) (after_join_all (forget s r)) ws
+          (joins_mapped s r) (join_all_mapped s r)
           ∙ ap (mapped s) made;
     }
 goes_by s r next false (Some key.Next) ws plain made =

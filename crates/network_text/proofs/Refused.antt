@@ -18,6 +18,7 @@ at_line : (e : NetworkReason) (n : ℕ) → (e ≡ reason.Memory) ⊎ (line_of_f
 at_line reason.UnknownKeyword n = inr refl
 at_line (reason.NumberCount k) n = inr refl
 at_line (reason.NotNumber p) n = inr refl
+at_line (reason.RangeFalls p) n = inr refl
 at_line reason.ChannelsFirst n = inr refl
 at_line reason.ChannelsMissing n = inr refl
 at_line reason.ChannelsTwice n = inr refl

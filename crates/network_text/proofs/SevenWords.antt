@@ -6,9 +6,12 @@ use Rattle.network_text.specs.declared.reason.Keyword.{Keyword}
 use Rattle.network_text.specs.declared.reason.Keyword.TheVariants as key
 use Rattle.network_text.specs.declared.reason.NetworkReason.{NetworkReason}
 use Rattle.network_text.specs.Reasons.{network_keyword_of}
-use Rattle.network_text.specs.Shapes.{after_one, after_two, after_three, after_join_words, after_router_words, after_link_words, after_name_words}
+use Rattle.network_judge.specs.declared.table.Kind.{Kind}
+use Rattle.network_text.specs.declared.ranges.ChannelRange.{ChannelRange}
+use Rattle.network_text.specs.Ranges.{after_join_words}
+use Rattle.network_text.specs.Shapes.{after_one, after_two, after_three, after_router_words, after_link_words, after_name_words}
 use Rattle.network_text.specs.Network.{Reading, after_first, after_words}
-use Rattle.network_text.specs.Network.{after_channels, after_inject, after_eject, after_join, after_join_all, after_next, after_reply, after_length}
+use Rattle.network_text.specs.Network.{after_channels, after_inject, after_eject, after_joins, after_join_all, after_next, after_reply, after_length}
 use Rattle.network_text.specs.Network.{after_router, after_link, after_name}
 
 one_six : (k : Keyword) (f : ℕ → Result Reading NetworkReason) (ws : List (List ℕ)) → after_one k f (take 6 ws) ≡ after_one k f ws
@@ -22,12 +25,12 @@ two_six k f (a ∷ []) = refl
 two_six k f (a ∷ b ∷ []) = refl
 two_six k f (a ∷ b ∷ c ∷ more) = refl
 
-join_six : (f : ℕ → ℕ → Result Reading NetworkReason) (all : Result Reading NetworkReason) (ws : List (List ℕ))
-    → after_join_words f all (take 6 ws) ≡ after_join_words f all ws
-join_six f all [] = refl
-join_six f all (a ∷ []) = refl
-join_six f all (a ∷ b ∷ []) = refl
-join_six f all (a ∷ b ∷ c ∷ more) = refl
+join_six : (kinds : List Kind) (f : List ChannelRange → List ChannelRange → Result Reading NetworkReason) (all : Result Reading NetworkReason)
+    (ws : List (List ℕ)) → after_join_words kinds f all (take 6 ws) ≡ after_join_words kinds f all ws
+join_six kinds f all [] = refl
+join_six kinds f all (a ∷ []) = refl
+join_six kinds f all (a ∷ b ∷ []) = refl
+join_six kinds f all (a ∷ b ∷ c ∷ more) = refl
 
 three_six : (k : Keyword) (f : ℕ → ℕ → ℕ → Result Reading NetworkReason) (ws : List (List ℕ))
     → after_three k f (take 6 ws) ≡ after_three k f ws
@@ -67,7 +70,7 @@ first_six r None ws = refl
 first_six r (Some key.Channels) ws = one_six key.Channels (after_channels r) ws
 first_six r (Some key.Inject) ws = one_six key.Inject (after_inject r) ws
 first_six r (Some key.Eject) ws = one_six key.Eject (after_eject r) ws
-first_six r (Some key.Join) ws = join_six (after_join r) (after_join_all r) ws
+first_six r (Some key.Join) ws = join_six r.table.kinds (after_joins r) (after_join_all r) ws
 first_six r (Some key.Next) ws = three_six key.Next (after_next r) ws
 first_six r (Some key.Reply) ws = two_six key.Reply (after_reply r) ws
 first_six r (Some key.Length) ws = one_six key.Length (after_length r) ws

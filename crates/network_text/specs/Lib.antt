@@ -2,7 +2,9 @@ pub mod Reasons
 pub mod Lines
 pub mod AllPairs
 pub mod Shapes
+pub mod Ranges
 pub mod Network
+pub mod Joins
 pub mod Reading
 pub mod Inside
 pub mod Before

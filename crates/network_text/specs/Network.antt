@@ -17,8 +17,10 @@ use Rattle.network_text.specs.declared.reason.NetworkReason.TheVariants as reaso
 use Rattle.network_text.specs.declared.reading.GivenNames.{GivenNames}
 use Rattle.network_text.specs.Reasons.{network_fault_of, network_keyword_of}
 use Rattle.network_text.specs.Shapes.{unless, after_one, after_two, after_three, after_router_words}
-use Rattle.network_text.specs.Shapes.{after_join_words, after_link_words, after_name_words}
-use Rattle.network_text.specs.AllPairs.{all_joins, pairs_in}
+use Rattle.network_text.specs.Shapes.{after_link_words, after_name_words}
+use Rattle.network_text.specs.AllPairs.{every_join, all_joins, pairs_in}
+use Rattle.network_text.specs.declared.ranges.ChannelRange.{ChannelRange}
+use Rattle.network_text.specs.Ranges.{channels_of, lacks_any, after_join_words}
 use Rattle.network_judge.specs.declared.table.Kind.{Kind}
 use Rattle.network_judge.specs.declared.table.Kind.TheVariants.{Injection, Hop, Ejection}
 use Rattle.network_judge.specs.declared.table.Reply.{Reply}
@@ -96,6 +98,16 @@ after_join r i j = unless (lacks r 1 i) (unless (lacks r 2 j)
     else Ok (reading_with (table_of r.table.kinds
     (r.table.joins ++ record { from = i; to = j } ∷ []) r.table.choices)
     r.replies r.begun r.names r.flits)))
+
+-- packets go from each channel of these ranges to each of those
+abbrev pub after_joins : Reading → List ChannelRange → List ChannelRange
+    → Result Reading NetworkReason
+after_joins r is js = unless (lacks_any (count_of r) 1 is) (unless (lacks_any (count_of r) 2 js)
+    (if nat_le (length r.table.joins + length (channels_of is) * length (channels_of js)) 4194304
+    then Ok (reading_with (table_of r.table.kinds
+    (r.table.joins ++ every_join (channels_of is) (channels_of js)) r.table.choices)
+    r.replies r.begun r.names r.flits)
+    else Err reason.JoinsLimits))
 
 -- packets go from each sender so far to each receiver so far
 abbrev pub after_join_all : Reading → Result Reading NetworkReason
@@ -225,7 +237,8 @@ abbrev pub after_keyword : Reading → Keyword → List (List ℕ) → Result Re
 after_keyword r key.Channels values = after_one key.Channels (after_channels r) values
 after_keyword r key.Inject values = after_one key.Inject (after_inject r) values
 after_keyword r key.Eject values = after_one key.Eject (after_eject r) values
-after_keyword r key.Join values = after_join_words (after_join r) (after_join_all r) values
+after_keyword r key.Join values =
+    after_join_words r.table.kinds (after_joins r) (after_join_all r) values
 after_keyword r key.Next values = after_three key.Next (after_next r) values
 after_keyword r key.Reply values = after_two key.Reply (after_reply r) values
 after_keyword r key.Length values = after_one key.Length (after_length r) values

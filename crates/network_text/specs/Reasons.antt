@@ -16,6 +16,7 @@ abbrev pub network_fault_of : NetworkReason → Fault
 network_fault_of reason.UnknownKeyword = fault.Line
 network_fault_of (reason.NumberCount keyword) = fault.Line
 network_fault_of (reason.NotNumber place) = fault.Line
+network_fault_of (reason.RangeFalls place) = fault.Line
 network_fault_of reason.ChannelsFirst = fault.Setting
 network_fault_of reason.ChannelsMissing = fault.Setting
 network_fault_of reason.ChannelsTwice = fault.Setting

@@ -1,8 +1,7 @@
 -- The words behind a keyword of the network text (this project's own format): what a line makes that
 -- is given by their numbers, and why they are refused.
 use Rattle.std.specs.Prelude.{ℕ, ◌&&◌, Bool, true, false, nat_le, List, [], ◌∷◌, length}
-use Rattle.std.specs.Prelude.{Result, Err, Option, Some, None, ok_or, if◌then◌else◌, codes}
-use Rattle.std.specs.Str.{bytes_eq}
+use Rattle.std.specs.Prelude.{Result, Err, Option, Some, None, ok_or, if◌then◌else◌}
 use Rattle.std.specs.List.{list_all}
 use Rattle.std.specs.Char.{is_ascii_graphic}
 use Rattle.lexer.specs.Numbers.{index_of}
@@ -48,15 +47,6 @@ after_three keyword f [] = Err (reason.NumberCount keyword)
 after_three keyword f (a ∷ []) = Err (reason.NumberCount keyword)
 after_three keyword f (a ∷ b ∷ []) = Err (reason.NumberCount keyword)
 after_three keyword f (a ∷ b ∷ c ∷ d ∷ more) = Err (reason.NumberCount keyword)
-
--- the two numbers after `join`, or the word `all`
-abbrev pub after_join_words : {R : Type 0}
-    → (ℕ → ℕ → Result R NetworkReason) → Result R NetworkReason → List (List ℕ)
-    → Result R NetworkReason
-after_join_words f all (a ∷ []) =
-    if bytes_eq a (codes "all") then all else Err (reason.NumberCount key.Join)
-after_join_words f all [] = after_two key.Join f []
-after_join_words f all (a ∷ b ∷ more) = after_two key.Join f (a ∷ b ∷ more)
 
 -- a word of a name: at most 40 bytes, all visible ASCII (this project's own format)
 abbrev pub is_name : List ℕ → Bool

@@ -4,11 +4,10 @@ ghost use Rattle.std.specs.Prelude.{◌≡◌, ℕ, map, Err, IfErr, IfOk, OnOk,
 ghost use Rattle.network_text.specs.declared.reason.NetworkReason.{NetworkReason};
 ghost use Rattle.lexer.specs.Outcome.{Makes};
 ghost use Rattle.network_text.specs.Network.{Reading as ReadSpec};
-ghost use Rattle.network_text.specs.Network.{after_channels, after_inject, after_eject, after_join};
-ghost use Rattle.network_text.specs.Network.{after_join_all, after_next, after_reply, after_length};
+ghost use Rattle.network_text.specs.Network.{after_channels, after_inject, after_eject};
+ghost use Rattle.network_text.specs.Network.{after_next, after_reply, after_length};
 ghost use Rattle.network_text.specs.Network.{after_keyword, after_words};
 ghost use Rattle.network_text.specs.Shapes.{after_one, after_two, after_three, number_at, three_at};
-ghost use Rattle.network_text.specs.Shapes.{after_join_words};
 ghost use Rattle.network_text.specs.Reading.{reading_of, IsRead};
 
 use crate::reading::Reading;
@@ -165,38 +164,6 @@ impl<A: Allocator + Copy> Reading<A> {
     {
         let x = one_index(Keyword::Eject, values)?;
         self.take_eject(x)
-    }
-
-    /// Takes the numbers after `join`.
-    fn join_line(&mut self, values: &[&[u8]]) -> Result<(), NetworkReason>
-        requires { IsRead self.old }
-        ensures value { Makes NetworkReason.Memory (reading_of self.new) result
-            (after_two Keyword.Join (after_join (reading_of self.old))
-            (map (λ value. value.now) values.now)) }
-        ensures read { OnOk result (IsRead self.new) }
-    {
-        let (i, j) = two_indexes(Keyword::Join, values)?;
-        self.take_join(i, j)
-    }
-
-    /// Takes the words after `join`.
-    fn join_words(&mut self, alloc: A, values: &[&[u8]]) -> Result<(), NetworkReason>
-        requires { IsRead self.old }
-        ensures value { Makes NetworkReason.Memory (reading_of self.new) result
-            (after_join_words (after_join (reading_of self.old))
-            (after_join_all (reading_of self.old)) (map (λ value. value.now) values.now)) }
-        ensures read { OnOk result (IsRead self.new) }
-    {
-        match values {
-            [] => self.join_line(values),
-            [word] => {
-                if *word == b"all".as_slice() {
-                    return self.take_join_all(alloc);
-                }
-                Err(NetworkReason::NumberCount(Keyword::Join))
-            }
-            [_, _, ..] => self.join_line(values),
-        }
     }
 
     /// Takes the numbers after `next`.

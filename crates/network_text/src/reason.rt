@@ -32,6 +32,8 @@ pub enum NetworkReason {
     NumberCount(Keyword),
     /// The word at this place is no number, where one belongs.
     NotNumber(u32),
+    /// The word at this place has a range that ends below its beginning.
+    RangeFalls(u32),
     /// The line comes before the number of channels.
     ChannelsFirst,
     /// The text ends without the number of channels.
@@ -94,6 +96,7 @@ impl Reason for NetworkReason {
             NetworkReason::UnknownKeyword => Fault::Line,
             NetworkReason::NumberCount(_) => Fault::Line,
             NetworkReason::NotNumber(_) => Fault::Line,
+            NetworkReason::RangeFalls(_) => Fault::Line,
             NetworkReason::ChannelsFirst => Fault::Setting,
             NetworkReason::ChannelsMissing => Fault::Setting,
             NetworkReason::ChannelsTwice => Fault::Setting,

@@ -91,6 +91,7 @@ fn text_of(reason: NetworkReason) -> &'static str {
         }
         NetworkReason::NumberCount(_) => "A: behind it K",
         NetworkReason::NotNumber(_) => "W: a number belongs there",
+        NetworkReason::RangeFalls(_) => "W: a range goes up from its first channel to its last",
         NetworkReason::ChannelsFirst => "A: it comes behind channels, which is not given yet",
         NetworkReason::ChannelsMissing => "the text ends without channels",
         NetworkReason::ChannelsTwice => "channels: it is given at line N already",
@@ -127,6 +128,7 @@ fn text_of(reason: NetworkReason) -> &'static str {
 fn place_of(reason: NetworkReason) -> u32 {
     match reason {
         NetworkReason::NotNumber(place) => place,
+        NetworkReason::RangeFalls(place) => place,
         NetworkReason::ChannelLimits(place, _) => place,
         NetworkReason::NotEjection(place) => place,
         NetworkReason::NotInjection(place) => place,

@@ -21,7 +21,7 @@ const MOST_CHANNELS: u32 = 65536;
 const MOST_CHOICES: usize = 1 << 27;
 
 /// The most source-destination pairs that packets go between.
-const MOST_JOINS: usize = 4194304;
+pub(crate) const MOST_JOINS: usize = 4194304;
 
 /// The most flits of a packet.
 const MOST_FLITS: u32 = 2147483647;

@@ -128,9 +128,17 @@ def number_of(word: str) -> int:
     return int(word) if word.isascii() and word.isdigit() and len(word) <= 20 else -1
 
 
-SHAPES = {"channels": 1, "inject": 1, "eject": 1, "join": 2, "next": 3, "reply": 2, "escape": 1, "length": 1}
+SHAPES = {"channels": 1, "inject": 1, "eject": 1, "next": 3, "reply": 2, "escape": 1, "length": 1}
 # The lines that change no verdict: how many words each may have behind its first.
 NAMES = {"router": (2, 4), "link": (3, 4), "name": (2, 3, 4, 5)}
+
+
+def ranges_of(word: str) -> List[Tuple[int, int]]:
+    """The first and the last channel of each part of a word behind `join`: `3`, or `8-11`."""
+    ranges = [(number_of(first), number_of(last if dash else first)) for first, dash, last in (part.partition("-") for part in word.split(","))]
+    if any(not 0 <= first <= last for first, last in ranges):
+        raise ValueError("a list of channels has numbers and ranges between commas, as 0,3,8-11")
+    return ranges
 
 
 class Reader:
@@ -146,8 +154,8 @@ class Reader:
         if kind in NAMES:
             self.take_name(kind, words)
             return
-        if (kind, words) == ("join", ["all"]):
-            self.join_all()
+        if kind == "join":
+            self.join(*(["all", "all"] if words == ["all"] else words))
             return
         numbers = [number_of(word) for word in words]
         if SHAPES.get(kind) != len(numbers) or min(numbers) < 0:
@@ -210,17 +218,21 @@ class Reader:
         self.net.ejections += 1
         self.below(len(self.net.kinds) * self.net.ejections - 1, MOST_CHOICES, "the number of channels times ejection channels")
 
-    def join(self, i: int, j: int) -> None:
-        self.net.joins.append((i, j))
-        self.below(len(self.net.joins) - 1, MOST_PAIRS, "the number of `join` lines")
-
-    def join_all(self) -> None:
-        """Joins each sender so far with each receiver so far."""
+    def join(self, *words: str) -> None:
+        """Joins each channel of one list with each of another. `all` names each sender so far, or each receiver."""
+        if len(words) != 2:
+            raise ValueError("no line of a network begins so, or it hasn't so many numbers")
+        lists = [None if word == "all" else ranges_of(word) for word in words]
         if not self.net.kinds:
             raise ValueError("`channels` is the first line, and stands once")
-        senders, receivers = ([x for x, kind in enumerate(self.net.kinds) if kind == it] for it in ("inject", "eject"))
-        self.below(len(self.net.joins) + len(senders) * len(receivers) - 1, MOST_PAIRS, "the number of `join` lines")
-        self.net.joins += [(i, j) for i in senders for j in receivers]
+        ends: List[List[int]] = []
+        for wanted, ranges in zip(("inject", "eject"), lists):
+            for _, last in ranges or []:
+                self.below(last, len(self.net.kinds), "the channel")
+            ends.append([x for x, kind in enumerate(self.net.kinds) if kind == wanted] if ranges is None
+                        else [x for first, last in ranges for x in range(first, last + 1)])
+        self.below(len(self.net.joins) + len(ends[0]) * len(ends[1]) - 1, MOST_PAIRS, "the number of pairs")
+        self.net.joins += [(i, j) for i in ends[0] for j in ends[1]]
 
     def next(self, x: int, j: int, y: int) -> None:
         if self.net.kinds[j] != "eject":

@@ -1,30 +1,10 @@
--- The line gives what its numbers do.
-use Rattle.std.proofs.Common.{inr, sym, ◌∙◌, ap}
-use Rattle.std.specs.Prelude.{Err}
-use Rattle.std.proofs.lemmas.Result.{err_from_is_err_and}
-use Rattle.network_text.specs.Network.{after_join}
+-- Two numbers are one pair.
+use Rattle.std.proofs.Common.{sym}
 use Rattle.network_text.specs.Reading.{reading_of}
-use Rattle.network_text.proofs.Behind.{numbers_taken}
+use Rattle.network_text.proofs.Joined.{numbers_joined}
 use Rattle.network_text.proofs.reading.Reading.join_line.Goals as goal
 
-pub returns-in_err-i-clause-value : goal.returns-in_err-i-clause-value
-returns-in_err-i-clause-value g c =
-    let p = err_from_is_err_and c.from_residual.result c.from_residual.ensures.1 in
-    rw p.1 (inr
-    (c.in_err-i.ensures.reason (after_join (reading_of c.args.self.now)) ∙ ap Err (sym p.2)))
-
-pub returns-in_err-i-clause-read : goal.returns-in_err-i-clause-read
-returns-in_err-i-clause-read g c =
-    let p = err_from_is_err_and c.from_residual.result c.from_residual.ensures.1 in
-    rw p.1 tt
-
-pub take_join-requires : goal.take_join-requires
-take_join-requires g c = c.requires
-
-pub returns-clause-value : goal.returns-clause-value
-returns-clause-value g c =
-    numbers_taken (reading_of c.take_join.new.self) _ _ c.take_join.result
-    (c.in_ok-i.ensures.numbers (after_join (reading_of c.args.self.now))) c.take_join.ensures.value
-
-pub returns-clause-read : goal.returns-clause-read
-returns-clause-read g c = c.take_join.ensures.read
+pub returns-in-Some-Some-clause-value : goal.returns-in-Some-Some-clause-value
+returns-in-Some-Some-clause-value g c =
+    numbers_joined (reading_of c.args.self.now) (reading_of c.take_join.new.self) c.args.from.now c.args.to.now c.in-Some-Some.from c.in-Some-Some.to
+    c.take_join.result (sym c.in-Some-Some.ensures) (sym c.in-Some-Some.ensures') c.take_join.ensures.value
