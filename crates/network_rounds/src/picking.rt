@@ -54,19 +54,19 @@ pub(crate) fn pick_moves<A: Allocator>(
 #[tactic(auto, using(crate::proofs::Lists::passes_one))]
 fn pick_choice<A: Allocator>(
     machine: &Machine<A>,
-    of: Move,
+    of: &Move,
     up: bool,
     enabled: &mut [Move],
     count: usize,
 ) -> usize
     requires room { count < length enabled.old }
-    requires idle { up ≡ false → Prevents machine.now of }
+    requires idle { up ≡ false → Prevents machine.now of.now }
     ensures few { result ≤ count + 1 }
-    ensures adds { AddsEnabled machine.now (of ∷ []) (take count enabled.old)
+    ensures adds { AddsEnabled machine.now (of.now ∷ []) (take count enabled.old)
         (take result enabled.new) }
 {
     if up {
-        return pick_one(machine, of, enabled, count);
+        return pick_one(machine, *of, enabled, count);
     }
     count
 }
@@ -88,7 +88,7 @@ fn pick_choices<A: Allocator>(
 {
     let mut picked = count;
     for k in 0..moves.len() {
-        picked = pick_choice(machine, moves[k], up[k], enabled, picked);
+        picked = pick_choice(machine, &moves[k], up[k], enabled, picked);
     }
     picked
 }

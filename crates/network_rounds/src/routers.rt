@@ -15,6 +15,9 @@ use std::alloc::{AllocError, Allocator};
 fn renumber(routers: &mut [usize], from: usize, to: usize)
     ensures { AreRenumbered routers.old routers.new from to }
 {
+    if from == to {
+        return;
+    }
     for z in 0..routers.len() {
         if routers[z] == from {
             routers[z] = to;
