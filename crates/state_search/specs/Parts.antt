@@ -1,5 +1,5 @@
 -- Parts of some items: of each item whether it is kept.
-use Rattle.std.specs.Prelude.{◌≡◌, ◌⊎◌, ◌<◌, ℕ, List, Bool, true, false, Option, Some, slice_get, slice_set}
+use Rattle.std.specs.Prelude.{◌≡◌, ◌⊎◌, ℕ, List, Bool, true, false, Option, Some, slice_get, slice_set}
 use Rattle.state_search.specs.declared.smallest.Ending.{Ending}
 use Rattle.state_search.specs.declared.smallest.Ending.TheVariants.{Minimal, Spent}
 

@@ -34,7 +34,7 @@ from typing import Dict, List, Sequence, Tuple
 from torusmem_tools import command, progress
 from torusmem_tools.command import Refusal, WrongWords
 from torusmem_tools.draw import placement_picture
-from torusmem_tools.model import campaign_cases, litmus_machine, litmus_models, outcome_places, replay
+from torusmem_tools.model import campaign_cases, litmus_machine, litmus_models, outcome_places, replay, trial
 from torusmem_tools.model.outcome_list import NOTE
 from torusmem_tools.model.outcome_places import Found, Place
 from torusmem_tools.model.outcome_states import Outcome
@@ -273,10 +273,18 @@ def tests(given: argparse.Namespace) -> str:
     return ended(aligned(rows, range(len(rows[0]))), is_exact, given.plain)
 
 
+def hold_program() -> None:
+    """Has the program built where that is to be done, once: the many runs behind this don't look at its sources again."""
+    if not os.environ.get("TORUSMEM") and os.path.isdir(os.path.join(command.ROOT, "crates")):
+        os.environ["TORUSMEM"] = trial.built_torusmem()
+
+
 def work() -> str:
     """What the tool prints."""
     given = words().parse_args()
     refuse_words(given)
+    if (given.litmus or given.places) and not given.plain:
+        hold_program()
     if given.litmus:
         return tests(given)
     machine, script = (command.contents(it) for it in given.texts)

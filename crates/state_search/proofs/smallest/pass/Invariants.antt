@@ -1,4 +1,4 @@
-use Rattle.std.proofs.Common.{◌≡◌, ◌≤◌, ◌<◌, length}
+use Rattle.std.proofs.Common.{◌≤◌, length}
 use Rattle.state_search.specs.Parts.{AreClosed, AreWithin}
 use Rattle.state_search.proofs.Passing.{IsPassedDownTo}
 use Rattle.state_search.proofs.smallest.pass.Given as goal
