@@ -1,11 +1,12 @@
 //! What a line gives, by its numbers.
 
-ghost use Rattle.std.specs.Prelude.{◌≡◌, ◌<◌, length, OnOk, IfSome};
+ghost use Rattle.std.specs.Prelude.{◌≡◌, ◌<◌, true, length, slice_get, OnOk, IfSome};
 ghost use Rattle.lexer.specs.Outcome.{Makes};
 ghost use Rattle.network_text.specs.Network.{after_channels, after_inject, after_eject, after_join};
 ghost use Rattle.network_text.specs.Network.{after_join_all, after_choice, after_next, after_reply};
 ghost use Rattle.network_text.specs.Network.{after_length};
-ghost use Rattle.network_text.specs.Network.{taken_cell};
+ghost use Rattle.network_text.specs.Network.{cell_of, taken_cell};
+ghost use Rattle.network_judge.specs.Table.{is_receiver};
 ghost use Rattle.network_text.specs.Reading.{reading_of, IsRead};
 
 use crate::all_pairs::{End, channels_with, put_every_join};
@@ -130,6 +131,18 @@ impl<A: Allocator + Copy> Reading<A> {
         Ok(())
     }
 
+    /// The place of the choice behind a channel for packets to an ejection channel.
+    fn cell(&self, x: usize, j: usize) -> usize
+        requires read { IsRead self.now }
+        requires begun { self.now.begun ≡ true }
+        requires channel { x < length self.now.kinds.items }
+        requires ejects { is_receiver (slice_get self.now.kinds.items j) ≡ true }
+        ensures cell { result ≡ cell_of (reading_of self.now) x j }
+        ensures within { result < length self.now.choices.items }
+    {
+        x * self.ejections + self.columns[j]
+    }
+
     /// The place of the choice behind a channel for packets to an ejection channel, where one is given.
     pub fn taken_cell(&self, x: usize, j: usize) -> Option<usize>
         requires { IsRead self.now }
@@ -145,7 +158,7 @@ impl<A: Allocator + Copy> Reading<A> {
         if !self.ejects(j) {
             return None;
         }
-        let cell = x * self.ejections + self.columns[j];
+        let cell = self.cell(x, j);
         if self.choices[cell] as usize == self.kinds.len() {
             return None;
         }
@@ -195,7 +208,7 @@ impl<A: Allocator + Copy> Reading<A> {
             return Err(reason);
         }
         self.begin(alloc)?;
-        let cell = x * self.ejections + self.columns[j];
+        let cell = self.cell(x, j);
         self.take_choice(cell, choice)
     }
 

@@ -1,6 +1,6 @@
 //! The choices for packets to some ejection channels in a row, side by side.
 
-ghost use Rattle.std.specs.Prelude.{◌≡◌, ◌+◌, ◌<◌, ◌≤◌, ◌++◌, true, length, IfOk, OnOk};
+ghost use Rattle.std.specs.Prelude.{◌≡◌, ◌+◌, ◌*◌, ◌<◌, ◌≤◌, ◌++◌, true, length, IfOk, OnOk};
 ghost use Rattle.network_text.specs.ChoosingRead.{choosing_text_of, IsChoosingRead};
 ghost use Rattle.network_text.specs.ChoiceLists.{listed_choice};
 ghost use Rattle.network_text.specs.Tiles.{tile_line, tile_lines, IsTile, IsTileFor};
@@ -25,6 +25,17 @@ pub(crate) struct Tile<A: Allocator> {
 }
 
 impl<A: Allocator + Copy> Choosing<A> {
+    /// The place of a further choice: that of its cell in a layer.
+    fn further_place(&self, layer: usize, cell: usize) -> usize
+        requires read { IsChoosingRead self.now }
+        requires layer { layer < self.now.layers }
+        requires cell { cell < length self.now.fixed.choices.items }
+        ensures value { result ≡ layer * length self.now.fixed.choices.items + cell }
+        ensures within { result < length self.now.further.items }
+    {
+        layer * self.fixed.choices.len() + cell
+    }
+
     /// The choice of a cell of the table that comes after so many others.
     fn listed(&self, cell: usize, place: usize) -> u32
         requires read { IsChoosingRead self.now }
@@ -35,7 +46,7 @@ impl<A: Allocator + Copy> Choosing<A> {
         if place == 0 {
             self.fixed.choices[cell]
         } else {
-            self.further[(place - 1) * self.fixed.choices.len() + cell]
+            self.further[self.further_place(place - 1, cell)]
         }
     }
 
