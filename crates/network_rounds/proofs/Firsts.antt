@@ -1,14 +1,14 @@
 -- The first of the inputs that ask for an output, as a program finds it.
-use Rattle.std.proofs.Common.{◌≡◌, ◌⊎◌, inl, inr, ℕ, ◌+◌, ◌<◌, ◌≤◌, Bool, true, false, cond, List, [], ◌∷◌, ◌++◌, map, length, take, drop, get_or, Option, Some, None, refl, sym, ◌∙◌, ap, subst, arith, add-one, drop-cons}
+use Rattle.std.proofs.Common.{◌≡◌, inl, inr, ℕ, ◌+◌, ◌<◌, ◌≤◌, Bool, true, false, cond, List, [], ◌∷◌, ◌++◌, map, length, take, drop, get_or, Option, Some, None, refl, sym, ◌∙◌, ap, subst, arith, add-one, drop-cons}
 use Rattle.std.proofs.Common.{get_or-set_same, get_or-set_other}
-use Rattle.std.specs.Prelude.{◌==◌, filter, nat_lt, slice_index, slice_index_or, slice_set, slice_get, option_and_then, option_to_list}
+use Rattle.std.specs.Prelude.{filter, nat_lt, slice_index, slice_index_or, slice_set, slice_get, option_and_then, option_to_list}
 use Rattle.std.specs.List.{flat_map}
 use Rattle.std.proofs.lemmas.Bool.{cases_eq, eq-eqb, ne_eqb, ltb-true}
 use Rattle.std.proofs.lemmas.List.{append-nil, take_more, drop_all}
 use Rattle.std.proofs.lemmas.Grind.{flat_map-append}
-use Rattle.std.proofs.lemmas.Option.{option_and_then_some, cond_some, none-some, same_Some}
+use Rattle.std.proofs.lemmas.Option.{option_and_then_some, cond_some, none-some}
 use Rattle.network_judge.specs.LockUps.{plain_format}
-use Rattle.network_judge.specs.Table.{table_next, kind_of, is_receiver}
+use Rattle.network_judge.specs.Table.{table_next}
 use Rattle.network_machine.specs.declared.channel.Channel.{Channel}
 use Rattle.network_machine.specs.declared.moves.Move.{Move}
 use Rattle.network_machine.specs.declared.moves.Move.TheVariants.{Send, More, Take, Put, Accept, Credit}

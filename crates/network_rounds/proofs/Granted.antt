@@ -1,9 +1,9 @@
 -- What a round by the round robin grants.
-use Rattle.std.proofs.Common.{◌≡◌, ◌⊎◌, inl, inr, ℕ, ◌+◌, ◌<◌, Bool, true, false, cond, List, [], ◌∷◌, ◌++◌, length, Option, Some, None, refl, sym, ◌∙◌, ap, subst, arith}
+use Rattle.std.proofs.Common.{◌≡◌, ◌⊎◌, inl, inr, ℕ, ◌<◌, Bool, true, false, cond, List, [], ◌∷◌, ◌++◌, length, Option, Some, None, refl, sym, ◌∙◌, ap, arith}
 use Rattle.std.proofs.Common.{get_or-set_same, get_or-set_other}
 use Rattle.std.specs.Prelude.{◌==◌, slice_index, slice_set, option_to_list}
 use Rattle.std.specs.List.{flat_map}
-use Rattle.std.proofs.lemmas.Bool.{cases_eq, cases_Bool, eqb-true}
+use Rattle.std.proofs.lemmas.Bool.{cases_eq, eqb-true}
 use Rattle.std.proofs.lemmas.List.{length-set}
 use Rattle.std.proofs.lemmas.Option.{none-some, same_Some}
 use Rattle.network_machine.specs.declared.moves.Move.{Move}
@@ -13,7 +13,7 @@ use Rattle.network_rounds.specs.declared.arbiter.Arbiter.TheVariants.{Rotating}
 use Rattle.network_rounds.specs.declared.arbiter.Attempt.{Attempt}
 use Rattle.network_rounds.specs.Arbiters.{output_asked, first_asking, head_attempt, attempt_by, attempts_by, granted_at, granted_to, names_channel}
 use Rattle.network_rounds.specs.Attempts.{AttemptsMoves}
-use Rattle.network_rounds.specs.Fairness.{IsGrantOf, GrantsInTurn, RoundsGrantInTurn}
+use Rattle.network_rounds.specs.Fairness.{IsGrantOf, RoundsGrantInTurn}
 
 -- an attempt to which an output is granted is the first one that asks for it
 pub record IsFirst (m : NetworkMachineSpec) (f : ℕ → Option ℕ) (a : Attempt) (y : ℕ) : Type 0 where

@@ -1,6 +1,7 @@
 -- Enabled moves and attempts, of one list behind another.
 use Rattle.std.proofs.Common.{◌≡◌, inl, inr, ℕ, ◌+◌, ◌-◌, ◌%◌, ◌<◌, List, [], ◌∷◌, ◌++◌, length, take, drop, get_or, Vec, refl, sym, ◌∙◌, ap, subst}
 use Rattle.std.proofs.lemmas.List.{append_assoc, append-nil, take_more, length-drop}
+use Rattle.std.proofs.Math.Nat.{mod-eq_of_lt}
 use Rattle.std.proofs.Math.Seq.{take-length}
 use Rattle.std.proofs.lemmas.Grind.{flat_map-append}
 use Rattle.std.specs.List.{flat_map}
@@ -151,6 +152,13 @@ run_of a b l m tried made k = attempts_run a b l m tried made (subst (AttemptsMo
 -- the list of a vector
 pub items_of : {X A : Type 0} (v w : Vec X A) → v ≡ w → v.items ≡ w.items
 items_of {X} {A} v w e = ap (λ (u : Vec X A). u.items) e
+
+-- a group whose turn is that of its first move
+pub group_unturned : (m : NetworkMachineSpec) (turn : ℕ) (group before later : List Move) → turn ≡ 0 → 0 < length group → AddsEnabled m group before later
+    → AddsEnabled m (turned turn group) before later
+group_unturned m turn group before later none some adds =
+    let first : turn % length group ≡ 0 = ap (λ (n : ℕ). n % length group) none ∙ mod-eq_of_lt some in
+    subst (λ (xs : List Move). AddsEnabled m xs before later) (sym (ap (λ (n : ℕ). drop n group ++ take n group) first ∙ append-nil group)) adds
 
 -- a group from the move whose turn it is
 pub group_turned : (m : NetworkMachineSpec) (turn : ℕ) (group before between later : List Move)

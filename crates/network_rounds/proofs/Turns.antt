@@ -1,10 +1,9 @@
 -- The order of inputs behind the one that was granted last, and that grants in this order go round.
 use Rattle.std.proofs.Common.{◌≡◌, ◌⊎◌, inl, inr, ℕ, ◌+◌, ◌<◌, ◌≤◌, Bool, true, false, cond, List, [], ◌∷◌, length, Option, Some, None, refl, sym, ◌∙◌, ap, subst, arith}
 use Rattle.std.specs.Prelude.{◌==◌, ◌&&◌, ◌||◌, nat_lt, nat_le}
-use Rattle.std.specs.List.{list_any}
-use Rattle.std.proofs.lemmas.Bool.{cases_eq, cases_Bool, or_cases, both_ways, eq-eqb, eqb-true, ltb-true, ltb-false, leb-true, leb-false}
+use Rattle.std.proofs.lemmas.Bool.{cases_Bool, or_cases, both_ways, eq-eqb, eqb-true, ltb-true, ltb-false, leb-true, leb-false}
 use Rattle.std.proofs.lemmas.Option.{same_Some, none-some}
-use Rattle.network_rounds.specs.Arbiters.{comes_before, nearer, first_among, first_behind}
+use Rattle.network_rounds.specs.Arbiters.{comes_before, nearer, first_among}
 use Rattle.network_rounds.specs.Fairness.{Grant, has_input, AreGrantsInTurn, AskAtEach, is_granted, GoRound}
 
 not_false : (b : Bool) → (b ≡ false → ⊥) → b ≡ true

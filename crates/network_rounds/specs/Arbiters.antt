@@ -1,5 +1,5 @@
 -- Arbiters: which of the heads that ask for an output are attempted in a round.
-use Rattle.std.specs.Prelude.{◌≡◌, ℕ, ◌<◌, ◌≤◌, ◌==◌, ◌&&◌, ◌||◌, nat_le, nat_lt, if◌then◌else◌, Bool, false}
+use Rattle.std.specs.Prelude.{◌≡◌, ℕ, ◌<◌, ◌==◌, ◌&&◌, ◌||◌, nat_le, nat_lt, if◌then◌else◌, Bool, false}
 use Rattle.std.specs.Prelude.{List, [], ◌∷◌, map, filter, length, slice_index, slice_index_or, slice_set}
 use Rattle.std.specs.Prelude.{Option, Some, None, option_to_list, replicate, find, codes}
 use Rattle.std.specs.List.{flat_map}

@@ -154,6 +154,7 @@ fn tell_places(up: &mut [bool], places: Places, lets: Lets)
 
 impl<A: Allocator> Flags<A> {
     /// Tells of all choices of a channel whether they may be enabled.
+    #[inline(always)]
     pub fn tell_channel<B: Allocator>(&mut self, machine: &Machine<B>, x: usize)
         requires { length self.old.places.items ≡ length machine.now.channels }
         ensures places { self.new.places ≡ self.old.places }

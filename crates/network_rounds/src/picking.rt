@@ -112,6 +112,9 @@ fn pick_group<A: Allocator>(
     if group.is_empty() {
         return count;
     }
+    if turn == 0 {
+        return pick_choices(machine, group, up, enabled, count);
+    }
     let first = (turn % group.len() as u64) as usize;
     let picked = pick_choices(machine, &group[first..], &up[first..], enabled, count);
     pick_choices(machine, &group[..first], &up[..first], enabled, picked)
