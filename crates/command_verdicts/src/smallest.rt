@@ -14,11 +14,11 @@ use state_search::Ending;
 use state_search::parts::kept_count;
 use std::alloc::{Allocator, Global};
 use torus::Fault;
-use trace_parts::{PartText, Shrunk, SmallPart, shrunk_trace};
+use trace_answer::{ShrunkTrace, shrunk_trace};
 use trace_text::read_trace;
 
-/// What is left of the trace of a text, with at most so many configurations of a word at once. The search begins near the
-/// answer of a line.
+/// What is left of the trace of a text, with at most so many configurations of a word at once; `None` where an order
+/// explains the trace, or that isn't decided. The search begins near the answer of a line.
 ///
 /// Errors: the first fault of the text, or out of memory.
 fn shrunk_text<A: Allocator + Copy>(
@@ -26,7 +26,7 @@ fn shrunk_text<A: Allocator + Copy>(
     text: &[u8],
     line: u64,
     configurations: u64,
-) -> Result<Shrunk<A>, ProgramFault>
+) -> Result<Option<ShrunkTrace<A>>, ProgramFault>
     ensures { IfOk result (TellsShrunk (lines text.now) configurations) }
 {
     let trace = read_trace(alloc, text)?;
@@ -44,7 +44,7 @@ fn shrunk_table<A: Allocator + Copy>(
     table: &[u8],
     line: u64,
     configurations: u64,
-) -> Result<Shrunk<A>, ProgramFault>
+) -> Result<Option<ShrunkTrace<A>>, ProgramFault>
     ensures { IfOk result (TellsShrunkTable (lines table.now) configurations) }
 {
     let trace = traced(alloc, table)?;
@@ -52,8 +52,8 @@ fn shrunk_table<A: Allocator + Copy>(
     shrunk_text(alloc, &trace.text, line, configurations)
 }
 
-/// What is left of the trace of a text, or of that of a table, with at most so many configurations of a word at once. The
-/// search begins near the answer of a line.
+/// What is left of the trace of a text, or of that of a table, with at most so many configurations of a word at once; `None`
+/// where an order explains the trace, or that isn't decided. The search begins near the answer of a line.
 ///
 /// Errors: the first fault of the text, or out of memory.
 pub fn shrunk_of<A: Allocator + Copy>(
@@ -61,7 +61,7 @@ pub fn shrunk_of<A: Allocator + Copy>(
     text: &[u8],
     line: u64,
     configurations: u64,
-) -> Result<Shrunk<A>, ProgramFault>
+) -> Result<Option<ShrunkTrace<A>>, ProgramFault>
     ensures table { begins_table (lines text.now) ≡ true
         → IfOk result (TellsShrunkTable (lines text.now) configurations) }
     ensures trace { begins_table (lines text.now) ≡ false
@@ -89,18 +89,17 @@ fn ending_text(ending: Ending) -> &'static str {
 /// text under the name `smallest`.
 pub fn tell_smallest<R: Eprint + AllocGlobal>(
     rt: &R,
-    part: &SmallPart<Global>,
-    told: &PartText<Global>,
+    shrunk: &ShrunkTrace<Global>,
     configurations: u32,
 ) {
-    let (left, judged) = (kept_count(&part.kept), part.judged);
+    let (left, judged) = (kept_count(&shrunk.part.kept), shrunk.part.judged);
     let operations = if left == 1 {
         "operation is"
     } else {
         "operations are"
     };
     let parts = if judged == 1 { "part" } else { "parts" };
-    let why = ending_text(part.ending);
+    let why = ending_text(shrunk.part.ending);
     let _ = eprintln!(rt; "{left} {operations} left, after {judged} {parts}: {why}");
-    explain_no_order(rt, "smallest", &told.text, told.line, configurations);
+    explain_no_order(rt, "smallest", &shrunk.text, shrunk.line, configurations);
 }

@@ -6,7 +6,7 @@ use command_line::Job;
 use command_verdicts::{Judged, shrunk_of, tell_smallest};
 use program_fault::{ProgramFault, Texts};
 use std::alloc::Global;
-use trace_parts::Shrunk;
+use trace_answer::ShrunkTrace;
 
 /// Why nothing is shrunk, if there is nothing to shrink.
 fn unshrunk_text(judged: Judged) -> Option<&'static str> {
@@ -27,23 +27,20 @@ fn bad_line(judged: Judged) -> Option<u64> {
     }
 }
 
-/// Prints a small part of a trace, and says why it has no order.
+/// Prints a small part of a trace, and says why it has no order; or that there is none.
 ///
 /// Errors: the output failed, or out of memory.
 fn shrunk_printed<R: Print + Eprint + AllocGlobal>(
     rt: &R,
-    shrunk: &Shrunk<Global>,
+    shrunk: &Option<ShrunkTrace<Global>>,
     configurations: u32,
 ) -> Result<(), ProgramFault> {
     match shrunk {
-        Shrunk::Told(part, told) => {
-            all_printed(rt, &told.text)?;
-            tell_smallest(rt, part, told, configurations);
+        Some(part) => {
+            all_printed(rt, &part.text)?;
+            tell_smallest(rt, part, configurations);
         }
-        Shrunk::Untold(_) => {
-            let _ = eprintln!(rt; "nothing is shrunk: the part isn't read again as it was written");
-        }
-        Shrunk::Nothing => {
+        None => {
             let _ = eprintln!(rt; "nothing is shrunk: the trace isn't decided");
         }
     }

@@ -14,3 +14,8 @@ pub mod Growing
 pub mod Waits
 pub mod Parts
 pub mod Whole
+pub mod Notes
+pub mod Keeping
+pub mod Judging
+pub mod Breaking
+pub mod Writing

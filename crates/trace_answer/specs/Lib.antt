@@ -6,3 +6,9 @@ pub mod Report
 pub mod Services
 pub mod Times
 pub mod Whole
+pub mod Kept
+pub mod Leaving
+pub mod Noted
+pub mod Parts
+pub mod Shrunk
+pub mod Written

@@ -1,4 +1,0 @@
-pub mod Noting
-pub mod Keeping
-pub mod Judging
-pub mod Telling

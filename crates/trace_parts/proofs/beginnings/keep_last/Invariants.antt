@@ -1,4 +1,0 @@
-use Rattle.trace_parts.proofs.beginnings.keep_last.Given as goal
-
-abbrev pub decreases-events : goal.decreases-events
-decreases-events g l = l.event

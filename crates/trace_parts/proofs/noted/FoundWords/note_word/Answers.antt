@@ -1,6 +1,0 @@
-use Rattle.std.proofs.Common.{refl}
-use Rattle.trace_parts.proofs.Noting.{word_added}
-use Rattle.trace_parts.proofs.noted.FoundWords.note_word.Goals as goal
-
-pub returns : goal.returns
-returns g c = word_added c.args.self.now _ c.args.address c.args.word refl refl c.in_ok-insert.ensures.updates.0 c.in_ok-insert.ensures.updates.1
