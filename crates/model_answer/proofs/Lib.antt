@@ -1,4 +1,5 @@
 pub mod Asked
 pub mod Grown
+pub mod Parting
 pub mod Told
 pub mod Weakly

@@ -17,7 +17,7 @@ use Rattle.model_answer.specs.Weak.{IsWeakOn, IsWeakVerdict, TellsRvwmo, TellsWe
 some_is : (a b : Bool) → Some a ≡ Some b → a ≡ b
 some_is a b e = cc
 
-rvwmo_told : {A : Type 0} (notes : List Note) (dependencies : List Dependency) (ops : List Operation) (writes : List ℕ) (v : RvwmoVerdict A) (b : Bool)
+pub rvwmo_told : {A : Type 0} (notes : List Note) (dependencies : List Dependency) (ops : List Operation) (writes : List ℕ) (v : RvwmoVerdict A) (b : Bool)
     → IsRvwmoVerdict notes dependencies ops writes v → is_explained v ≡ b → TellsRvwmo notes dependencies ops writes b
 rvwmo_told notes dependencies ops writes (Ordered turns) b is e = record { yes = λ h. (slice_index turns.items, is.1); no = λ h. cc }
 rvwmo_told notes dependencies ops writes (Cycle steps) b is e = record { yes = λ h. cc; no = λ h. is.1 }

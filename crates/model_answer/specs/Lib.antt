@@ -1,6 +1,9 @@
 pub mod Answer
 pub mod Judged
 pub mod Model
+pub mod PartText
+pub mod Parts
 pub mod Replies
+pub mod SmallTexts
 pub mod Texts
 pub mod Weak

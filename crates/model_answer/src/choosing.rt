@@ -38,7 +38,7 @@ fn is_yes(obeyed: Option<bool>) -> bool
 }
 
 /// The weakest model of which a no is told. RISC-V's stands behind `fenced`.
-fn weakest_told(obeys: Obeys, weak: WeakAnswer) -> Option<AskedModel>
+pub fn weakest_told(obeys: Obeys, weak: WeakAnswer) -> Option<AskedModel>
     ensures { result ≡ weakest_told obeys weak }
 {
     if !obeys.coherent {

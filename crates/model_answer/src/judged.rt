@@ -36,7 +36,7 @@ pub struct Obeys {
 /// Judges a trace by a model.
 ///
 /// Errors: out of memory, and no other.
-fn judge_by<A: Allocator + Copy>(
+pub(crate) fn judge_by<A: Allocator + Copy>(
     alloc: A,
     model: MemoryModel,
     trace: &LogTrace<A>,

@@ -200,7 +200,7 @@ fn put_operation<A: Allocator>(
 }
 
 /// Adds an operation, or a fence.
-fn put_fence_or_operation<A: Allocator>(
+pub(crate) fn put_fence_or_operation<A: Allocator>(
     text: &mut Vec<u8, A>,
     operation: Option<Operation>,
 ) -> Result<(), AllocError>

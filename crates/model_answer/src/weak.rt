@@ -94,7 +94,7 @@ fn any_weak(notes: &[Note]) -> bool
 /// Judges a trace by RISC-V's model, with the notes of its log.
 ///
 /// Errors: out of memory, and no other.
-fn judged<A: Allocator + Copy>(
+pub(crate) fn judged<A: Allocator + Copy>(
     alloc: A,
     trace: &LogTrace<A>,
     said: &LogNotes<A>,
@@ -170,7 +170,7 @@ pub fn weak_of<A: Allocator + Copy>(
 }
 
 /// Whether a verdict is an order.
-fn is_explained<A: Allocator>(verdict: &RvwmoVerdict<A>) -> bool
+pub(crate) fn is_explained<A: Allocator>(verdict: &RvwmoVerdict<A>) -> bool
     ensures { result ≡ is_explained verdict.now }
 {
     match verdict {
