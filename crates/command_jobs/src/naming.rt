@@ -75,7 +75,8 @@ pub fn names<'a>(job: &Job<'a>) -> Names<'a> {
         | Job::Report { trace: name, .. }
         | Job::Smallest { trace: name, .. }
         | Job::Model { log: name, .. }
-        | Job::ValueModel { log: name, .. } => (name, None, None),
+        | Job::ValueModel { log: name, .. }
+        | Job::SmallestModel { log: name, .. } => (name, None, None),
     };
     Names {
         first: Some(first),

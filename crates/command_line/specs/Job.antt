@@ -12,7 +12,7 @@ use Rattle.command_line.specs.declared.command.Job.TheVariants.{Steps, Round, Ru
 use Rattle.command_line.specs.declared.command.Job.TheVariants.{Channels, Check}
 use Rattle.command_line.specs.declared.command.Job.TheVariants.{Network, LockUp, Replay, Simulate}
 use Rattle.command_line.specs.declared.command.Job.TheVariants.{Linearize, Report, Smallest, Watch, Model}
-use Rattle.command_line.specs.declared.command.Job.TheVariants.{RunModel, ValueModel}
+use Rattle.command_line.specs.declared.command.Job.TheVariants.{RunModel, ValueModel, SmallestModel}
 use Rattle.command_line.specs.declared.command.Job.TheVariants.{Schedule, Draw, Moves, Outcomes, Reach}
 
 -- the values of a subcommand's arguments
@@ -36,8 +36,8 @@ class_word Reply = flag_text true
 
 -- the subcommand of a job: `steps` both of the report of a run, and of its moves; `linearize` of the
 -- lines of an order, of its report, and of a small part without one; `network` of a verdict, a run
--- and a replay; `model` of a log or report, of a report with the texts of its run, and of a log by
--- its replies alone
+-- and a replay; `model` of a log or report, of a report with the texts of its run, of a log by its
+-- replies alone, and of a small part of a log
 abbrev pub name_of : Job → Text
 name_of (Steps machine script steps) = codes "steps"
 name_of (Round machine script rounds pace) = codes "round"
@@ -57,6 +57,7 @@ name_of (Watch trace configurations) = codes "watch"
 name_of (Model log model order) = codes "model"
 name_of (RunModel log model order machine script) = codes "model"
 name_of (ValueModel log model order nodes) = codes "model"
+name_of (SmallestModel log model) = codes "model"
 name_of (Schedule machine script rounds pace) = codes "schedule"
 name_of (Draw machine script seed steps) = codes "draw"
 name_of (Moves machine script steps) = codes "steps"
@@ -149,16 +150,24 @@ AreOfJob (Model log model order) rows = (first_of (codes "LOG") rows ≡ Some lo
     × (first_of (codes "model") rows ≡ Some model.now)
     × IsFlag (codes "order") order rows × (all_of (codes "texts") rows ≡ None)
     × IsFlag (codes "values") false rows × (number_in (codes "nodes") rows ≡ None)
+    × IsFlag (codes "smallest") false rows
 AreOfJob (RunModel log model order machine script) rows =
     (first_of (codes "LOG") rows ≡ Some log.now)
     × (first_of (codes "model") rows ≡ Some model.now)
     × IsFlag (codes "order") order rows
     × (all_of (codes "texts") rows ≡ Some (machine.now ∷ script.now ∷ []))
     × IsFlag (codes "values") false rows × (number_in (codes "nodes") rows ≡ None)
+    × IsFlag (codes "smallest") false rows
 AreOfJob (ValueModel log model order nodes) rows = (first_of (codes "LOG") rows ≡ Some log.now)
     × (first_of (codes "model") rows ≡ Some model.now)
     × IsFlag (codes "order") order rows × (all_of (codes "texts") rows ≡ None)
     × IsFlag (codes "values") true rows × (nodes_in rows ≡ nodes)
+    × IsFlag (codes "smallest") false rows
+AreOfJob (SmallestModel log model) rows = (first_of (codes "LOG") rows ≡ Some log.now)
+    × (first_of (codes "model") rows ≡ Some model.now)
+    × IsFlag (codes "order") false rows × (all_of (codes "texts") rows ≡ None)
+    × IsFlag (codes "values") false rows × (number_in (codes "nodes") rows ≡ None)
+    × IsFlag (codes "smallest") true rows × IsGiven (codes "json") false rows
 AreOfJob (Schedule machine script rounds pace) rows =
     (first_of (codes "MACHINE") rows ≡ Some machine.now)
     × (first_of (codes "SCRIPT") rows ≡ Some script.now)

@@ -8,7 +8,7 @@ use Rattle.command_line.specs.declared.refused.Misuse.TheVariants.{NamesOfMoves}
 use Rattle.command_line.specs.declared.refused.Misuse.TheVariants.{TextsAndValues, NodesAlone}
 use Rattle.command_line.specs.declared.refused.Misuse.TheVariants.{ArbiterAlone, GuardByTurn}
 use Rattle.command_line.specs.declared.refused.Misuse.TheVariants.{OtherArbiter, ReportAndSmallest}
-use Rattle.command_line.specs.declared.refused.Misuse.TheVariants.{SmallestAndJson}
+use Rattle.command_line.specs.declared.refused.Misuse.TheVariants.{SmallestAndJson, SmallestAlone}
 use Rattle.command_line.specs.declared.refused.NoJob.{NoJob}
 use Rattle.command_line.specs.declared.refused.NoJob.TheVariants.{Options, Missing}
 use Rattle.command_line.specs.declared.refused.NoRequest.{NoRequest}
@@ -29,6 +29,7 @@ misused ReportAndSmallest = codes "linearize" ∷ []
 misused SmallestAndJson = codes "linearize" ∷ []
 misused TextsAndValues = codes "model" ∷ []
 misused NodesAlone = codes "model" ∷ []
+misused SmallestAlone = codes "model" ∷ []
 misused ArbiterAlone = codes "round" ∷ codes "schedule" ∷ []
 misused GuardByTurn = codes "round" ∷ codes "schedule" ∷ []
 misused OtherArbiter = codes "round" ∷ codes "schedule" ∷ []
@@ -36,9 +37,9 @@ misused OtherArbiter = codes "round" ∷ codes "schedule" ∷ []
 -- options are misused so: a run and a replay are both asked for; or a depth is given, and neither is;
 -- or names are asked for, and so is either; or a report and a small part are; or a small part
 -- and an object are; or texts are given where replies alone count; or a number of nodes is
--- given where they don't; or an
--- arbiter or a guard is given, and rounds are in order; or a guard is, and puts go by turns; or the
--- arbiter is another than those of machines
+-- given where they don't; or a small part of a log is asked for, and replies alone, texts, an order or
+-- an object too; or an arbiter or a guard is given, and rounds are in order; or a guard is, and puts go
+-- by turns; or the arbiter is another than those of machines
 abbrev pub IsMisuse : Misuse → List Row → Type 0
 IsMisuse RunAndReplay rows = IsFlag (codes "run") true rows
     × (is_some (first_of (codes "replay") rows) ≡ true)
@@ -54,6 +55,9 @@ IsMisuse TextsAndValues rows = IsFlag (codes "values") true rows
     × (is_some (all_of (codes "texts") rows) ≡ true)
 IsMisuse NodesAlone rows = IsFlag (codes "values") false rows
     × (is_some (number_in (codes "nodes") rows) ≡ true)
+IsMisuse SmallestAlone rows = IsFlag (codes "smallest") true rows
+    × ((IsFlag (codes "values") true rows ⊎ (is_some (all_of (codes "texts") rows) ≡ true))
+    ⊎ (IsFlag (codes "order") true rows ⊎ IsGiven (codes "json") true rows))
 IsMisuse ArbiterAlone rows = IsFlag (codes "clocked") false rows
     × ((is_some (first_of (codes "arbiter") rows) ≡ true)
     ⊎ (is_some (number_in (codes "guard") rows) ≡ true))
@@ -111,6 +115,8 @@ misuse_text SmallestAndJson =
     codes "--smallest prints a trace text: it does not go with --json"
 misuse_text TextsAndValues = codes "model takes --texts or --values, not both"
 misuse_text NodesAlone = codes "--nodes goes with --values: without it nothing is searched"
+misuse_text SmallestAlone =
+    codes "--smallest of a log goes with --model alone: it prints a log text"
 misuse_text ArbiterAlone =
     codes "--arbiter and --guard go with --clocked: rounds in order have no arbiter"
 misuse_text GuardByTurn = codes "--guard goes with the arbiter oldest, not with turn"

@@ -291,6 +291,8 @@ model_command = record {
       (codes "Judges by replies alone, without an order of writes")
       ∷ free_option (codes "nodes") (Number 1 4294967295)
       (codes "At most this many nodes a model with --values, 1 to 4294967295; 10000 by default")
+      ∷ free_option (codes "smallest") Flag
+      (codes "Prints a small part of a log that breaks the weakest model that fails")
       ∷ json_word
       ∷ [];
 }

@@ -137,6 +137,12 @@ pub enum Job<'a> {
         order: bool,
         nodes: u32,
     },
+    /// Judge a log by memory models, of which this one decides the status; and where it breaks one, print a
+    /// small part of it that breaks the weakest.
+    SmallestModel {
+        log: &'a str,
+        model: &'a str,
+    },
     /// Print the moves of rounds of this pace, at most so many, until every script is finished.
     Schedule {
         machine: &'a str,

@@ -248,7 +248,8 @@ pub(crate) fn watch_job<'a>(given: &ArgMatches<'a>) -> Answer<'a>
 }
 
 /// The log of `model`, with its order of writes or by its replies alone, or a report with the texts of
-/// its run; a misuse where both are asked for, or a number of nodes is given for another than the second.
+/// its run, or a small part of a log; a misuse where both of the first are asked for, or a number of nodes is
+/// given for another than the second, or anything goes with a small part.
 pub(crate) fn model_job<'a>(given: &ArgMatches<'a>) -> Answer<'a>
     ensures { AnswersBy (codes "model") (rows_of (found_of given.now)) result }
 {
@@ -257,26 +258,36 @@ pub(crate) fn model_job<'a>(given: &ArgMatches<'a>) -> Answer<'a>
     let order = flag_of(given, "order")?;
     let given_nodes = number_if_given(given, "nodes", u32::MAX)?;
     let nodes = given_nodes.unwrap_or(10000);
+    let is_part = flag_of(given, "smallest")?;
     match (
         flag_of(given, "values")?,
         two_words(given, "texts")?,
         given_nodes,
+        is_part,
     ) {
-        (true, None, _) => Some(Ok(Job::ValueModel {
+        (true, None, _, false) => Some(Ok(Job::ValueModel {
             log,
             model,
             order,
             nodes,
         })),
-        (false, None, None) => Some(Ok(Job::Model { log, model, order })),
-        (false, Some((machine, script)), None) => Some(Ok(Job::RunModel {
+        (false, None, None, false) => Some(Ok(Job::Model { log, model, order })),
+        (false, None, None, true) => {
+            if order || is_given(given, "json") {
+                return Some(Err(Misuse::SmallestAlone));
+            }
+            Some(Ok(Job::SmallestModel { log, model }))
+        }
+        (false, Some((machine, script)), None, false) => Some(Ok(Job::RunModel {
             log,
             model,
             order,
             machine,
             script,
         })),
-        (true, Some(_), _) => Some(Err(Misuse::TextsAndValues)),
-        (false, _, Some(_)) => Some(Err(Misuse::NodesAlone)),
+        (true, Some(_), _, _) => Some(Err(Misuse::TextsAndValues)),
+        (false, _, Some(_), _) => Some(Err(Misuse::NodesAlone)),
+        (true, None, _, true) => Some(Err(Misuse::SmallestAlone)),
+        (false, Some(_), None, true) => Some(Err(Misuse::SmallestAlone)),
     }
 }

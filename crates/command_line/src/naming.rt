@@ -27,6 +27,7 @@ pub fn name_of(job: &Job) -> &'static str
         Job::Model { .. } => "model",
         Job::RunModel { .. } => "model",
         Job::ValueModel { .. } => "model",
+        Job::SmallestModel { .. } => "model",
         Job::Schedule { .. } => "schedule",
         Job::Draw { .. } => "draw",
         Job::Moves { .. } => "steps",

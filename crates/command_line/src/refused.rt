@@ -21,6 +21,8 @@ pub enum Misuse {
     TextsAndValues,
     /// A number of nodes is given where not replies alone count.
     NodesAlone,
+    /// A small part of a log is asked for, and more.
+    SmallestAlone,
     /// An arbiter or a guard is given, and rounds are in order.
     ArbiterAlone,
     /// A guard is given, and the inputs of a router go first by turns.
@@ -60,6 +62,8 @@ pub fn misuse_text(misuse: Misuse) -> &'static str
         Misuse::SmallestAndJson => "--smallest prints a trace text: it does not go with --json",
         Misuse::TextsAndValues => "model takes --texts or --values, not both",
         Misuse::NodesAlone => "--nodes goes with --values: without it nothing is searched",
+        Misuse::SmallestAlone =>
+            "--smallest of a log goes with --model alone: it prints a log text",
         Misuse::ArbiterAlone =>
             "--arbiter and --guard go with --clocked: rounds in order have no arbiter",
         Misuse::GuardByTurn => "--guard goes with the arbiter oldest, not with turn",

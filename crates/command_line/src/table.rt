@@ -234,6 +234,11 @@ const ROWS: [CommandRow; 16] = [
                 Number(1, MOST_SEARCHED),
                 "At most this many nodes a model with --values, 1 to 4294967295; 10000 by default",
             ),
+            Optional(
+                "smallest",
+                Flag,
+                "Prints a small part of a log that breaks the weakest model that fails",
+            ),
             JSON,
         ],
     },

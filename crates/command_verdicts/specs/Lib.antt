@@ -11,4 +11,5 @@ pub mod Watched
 pub mod Hints
 pub mod Json
 pub mod WatchedTable
+pub mod SmallLogs
 pub mod Smallest

@@ -85,6 +85,17 @@ fn ending_text(ending: Ending) -> &'static str {
     }
 }
 
+/// Says how many operations are left after so many parts, and why no fewer.
+pub(crate) fn tell_left<R: Eprint>(rt: &R, left: usize, judged: u32, why: &str) {
+    let operations = if left == 1 {
+        "operation is"
+    } else {
+        "operations are"
+    };
+    let parts = if judged == 1 { "part" } else { "parts" };
+    let _ = eprintln!(rt; "{left} {operations} left, after {judged} {parts}: {why}");
+}
+
 /// Says how small a part is and why it has no order, as `explain_no_order` does, with the lines of its own
 /// text under the name `smallest`.
 pub fn tell_smallest<R: Eprint + AllocGlobal>(
@@ -92,14 +103,11 @@ pub fn tell_smallest<R: Eprint + AllocGlobal>(
     shrunk: &ShrunkTrace<Global>,
     configurations: u32,
 ) {
-    let (left, judged) = (kept_count(&shrunk.part.kept), shrunk.part.judged);
-    let operations = if left == 1 {
-        "operation is"
-    } else {
-        "operations are"
-    };
-    let parts = if judged == 1 { "part" } else { "parts" };
-    let why = ending_text(shrunk.part.ending);
-    let _ = eprintln!(rt; "{left} {operations} left, after {judged} {parts}: {why}");
+    tell_left(
+        rt,
+        kept_count(&shrunk.part.kept),
+        shrunk.part.judged,
+        ending_text(shrunk.part.ending),
+    );
     explain_no_order(rt, "smallest", &shrunk.text, shrunk.line, configurations);
 }

@@ -13,7 +13,7 @@ use command_schedule::{
 use command_verdicts::network::named_network_text;
 use command_verdicts::{
     AskedModels, Decided, Judged, Modelled, judged_models_text, lock_up_text, network_text,
-    replay_network_text, simulate_text, texts_models_text, values_text,
+    replay_network_text, simulate_text, texts_models_text, unbroken_models_text, values_text,
 };
 use model_answer::{AskedModel, MemoryModel};
 use model_replies::ValueOptions;
@@ -123,6 +123,10 @@ pub(crate) fn answer<R: Eprint + Clock + AllocGlobal + Threads + Wait + Sync, W:
         Job::Model { model, order, .. } => {
             let (asked, model) = asked_models(order, model);
             modelled_by(judged_models_text(alloc, first, asked, out), model)
+        }
+        Job::SmallestModel { model, .. } => {
+            let (asked, model) = asked_models(false, model);
+            modelled_by(unbroken_models_text(alloc, first, asked.rvwmo, out), model)
         }
         Job::RunModel { model, order, .. } => {
             let (machine, scripts) = (texts.second.as_slice(), texts.third.as_slice());

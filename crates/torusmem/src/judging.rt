@@ -15,7 +15,8 @@ fn begin_line<R: Eprint>(rt: &R, job: &Job, bytes: usize) -> bool {
         | Job::Smallest { .. }
         | Job::Model { .. }
         | Job::RunModel { .. }
-        | Job::ValueModel { .. } => {
+        | Job::ValueModel { .. }
+        | Job::SmallestModel { .. } => {
             if bytes < LONG_TEXT {
                 return false;
             }

@@ -72,8 +72,10 @@ fn run<R: Env + Files + Input + Print + Eprint + Clock + AllocGlobal + Threads +
 /// Whether the job names a memory model that there isn't, or that isn't searched for, which standard error
 /// says then.
 fn is_other_model<R: Eprint>(rt: &R, job: &Job) -> bool {
-    let (Job::Model { model, .. } | Job::RunModel { model, .. } | Job::ValueModel { model, .. }) =
-        *job
+    let (Job::Model { model, .. }
+    | Job::RunModel { model, .. }
+    | Job::ValueModel { model, .. }
+    | Job::SmallestModel { model, .. }) = *job
     else {
         return false;
     };
