@@ -12,6 +12,7 @@ pub mod model;
 pub mod order;
 mod part;
 mod part_text;
+mod part_words;
 pub mod sentence;
 mod shorten;
 pub mod small_text;

@@ -1,4 +1,5 @@
 pub mod Pieces
+pub mod Waiting
 pub mod Watching
 pub mod Simulating
 pub mod Telling

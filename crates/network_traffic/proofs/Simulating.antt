@@ -17,14 +17,14 @@ use Rattle.network_rounds.specs.Senders.{queue_at}
 use Rattle.network_rounds.specs.Simulations.{begun_in, choices_in}
 use Rattle.network_rounds.proofs.Longer.{Simulates, simulates_more}
 use Rattle.network_traffic.specs.declared.watch.Watch.{Watch}
-use Rattle.network_traffic.specs.Watches.{ShowsRounds}
+use Rattle.network_traffic.specs.Watches.{ShowsCourse}
 use Rattle.network_traffic.specs.Simulated.{is_later, some_later, ends_behind, GoesOnSimulating, GoesOnBefore, last_moving}
 
 -- the rounds so far, behind none of which it is over
 pub record WatchedSoFar {A B C : Type 0} (by : Arbiter) (t : Table) (packets : List Timed) (queues : List (Vec Timed A)) (groups : List (Vec Move B))
     (old new : NetworkMachineSpec) (lasts begun flits : List ℕ) (count room latest : ℕ) (watch : Watch C) : Type 0 where
   pub simulates : Simulates by queues groups old new lasts begun flits count room
-  pub shows : ShowsRounds t packets simulates.simulation.rounds watch
+  pub shows : ShowsCourse t packets simulates.simulation.rounds watch
   pub last : latest ≡ last_moving simulates.simulation.rounds
   pub goes : GoesOnSimulating queues simulates.simulation.rounds
 
@@ -32,7 +32,7 @@ pub record WatchedSoFar {A B C : Type 0} (by : Arbiter) (t : Table) (packets : L
 pub record WatchedNext {A B C : Type 0} (by : Arbiter) (t : Table) (packets : List Timed) (queues : List (Vec Timed A)) (groups : List (Vec Move B))
     (old new : NetworkMachineSpec) (lasts begun flits : List ℕ) (count room latest : ℕ) (watch : Watch C) (now_over : Bool) : Type 0 where
   pub simulates : Simulates by queues groups old new lasts begun flits count room
-  pub shows : ShowsRounds t packets simulates.simulation.rounds watch
+  pub shows : ShowsCourse t packets simulates.simulation.rounds watch
   pub last : latest ≡ last_moving simulates.simulation.rounds
   pub goes : GoesOnBefore queues simulates.simulation.rounds
   pub over : ends_behind queues simulates.simulation.rounds ≡ now_over
@@ -41,7 +41,7 @@ pub record WatchedNext {A B C : Type 0} (by : Arbiter) (t : Table) (packets : Li
 -- no round
 pub watched_none : {A B C : Type 0} (by : Arbiter) (t : Table) (packets : List Timed) (queues : List (Vec Timed A)) (groups : List (Vec Move B)) (m : NetworkMachineSpec)
     (lasts begun flits : List ℕ) (room : ℕ) (watch : Watch C) → lasts ≡ no_grants (length m.channels) → ((x : ℕ) → x < length queues → slice_index begun x ≡ 0) → ((x : ℕ) → x < length flits → slice_index flits x ≡ 0)
-    → ShowsRounds t packets [] watch → WatchedSoFar by t packets queues groups m m lasts begun flits 0 room 0 watch
+    → ShowsCourse t packets [] watch → WatchedSoFar by t packets queues groups m m lasts begun flits 0 room 0 watch
 watched_none by t packets queues groups m lasts begun flits room watch none b f shows = record {
   simulates = record {
     simulation = record {
@@ -83,8 +83,8 @@ pub watched_more : {A B C : Type 0} (by : Arbiter) (t : Table) (packets : List T
     → slice_index begun_later x ≡ slice_index begun x + packets_begun x (take many made))
     → ((x : ℕ) → x < length flits → slice_index flits x + flits_gone x (take many made) < 2 ^ 64
     → slice_index flits_later x ≡ slice_index flits x + flits_gone x (take many made))
-    → ((rounds : List (List Move)) → length rounds + 1 ≡ count + 1 → count + 1 < 2 ^ 63 → ShowsRounds t packets rounds watch
-    → ShowsRounds t packets (take many made ∷ rounds) watch_later)
+    → ((rounds : List (List Move)) → length rounds + 1 ≡ count + 1 → count + 1 < 2 ^ 63 → ShowsCourse t packets rounds watch
+    → ShowsCourse t packets (take many made ∷ rounds) watch_later)
     → last_later ≡ (if many == 0 then last else count + 1)
     → over ≡ (many == 0 && not (some_later queues (slice_index begun_later) (count + 1)))
     → WatchedNext by t packets queues groups old new later begun_later flits_later (count + 1) room last_later watch_later over
@@ -105,7 +105,7 @@ watched_more by t packets queues groups old between new lasts later begun flits 
     ∙ ap (λ (later : Bool). length (take many made) == 0 && not later) begins)) in
     record {
       simulates = s.0;
-      shows = subst (λ (rounds : List (List Move)). ShowsRounds t packets rounds watch_later) (sym s.1)
+      shows = subst (λ (rounds : List (List Move)). ShowsCourse t packets rounds watch_later) (sym s.1)
           (notes before (omega (arith, number)) (omega (arith, low, small)) h.shows);
       last = latest ∙ (ap (λ (k : ℕ). if k == 0 then last else count + 1) (sym long)
           ∙ (ap (λ (n : ℕ). if length (take many made) == 0 then n else count + 1) h.last

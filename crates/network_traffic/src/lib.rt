@@ -10,6 +10,7 @@ pub mod labels;
 mod opening;
 pub mod plan;
 pub mod running;
+pub mod waits;
 pub mod watch;
 mod writing;
 
@@ -19,4 +20,5 @@ pub use fates::Fates;
 pub use labels::Labels;
 pub use plan::Plan;
 pub use running::Extent;
+pub use waits::Wait;
 pub use watch::Watch;

@@ -4,10 +4,11 @@ ghost use Rattle.std.specs.Prelude.{◌≡◌, ◌<◌, [], length, map, replica
 ghost use Rattle.network_judge.specs.Table.{Table, channels_of};
 ghost use Rattle.network_traffic.specs.Labels.{labels_of, labels_spec, no_labels};
 ghost use Rattle.network_traffic.specs.Fates.{sizes_of};
-ghost use Rattle.network_traffic.specs.Watches.{ShowsRounds};
+ghost use Rattle.network_traffic.specs.Watches.{ShowsCourse};
 
 use crate::fates::Fates;
 use crate::labels::Labels;
+use crate::waits::Wait;
 use crate::watch::Watch;
 use arrayvec::ArrayVec;
 use network_rounds::Timed;
@@ -56,6 +57,13 @@ fn sizes_of<A: Allocator + Copy>(alloc: A, packets: &[Timed]) -> Result<Vec<u64,
     Ok(sizes)
 }
 
+/// Nothing has waited.
+const NO_WAIT: Wait = Wait {
+    since: 0,
+    left: 0,
+    waited: 0,
+};
+
 /// What is kept of no round.
 ///
 /// Errors: out of memory.
@@ -65,7 +73,7 @@ pub(crate) fn open_watch<A: Allocator + Copy>(
     packets: &[Timed],
 ) -> Result<Watch<A>, AllocError>
     ensures { IfOk result (λ watch. (t : Table) → channels_of t ≡ channels
-        → ShowsRounds t packets.now [] watch) }
+        → ShowsCourse t packets.now [] watch) }
 {
     let labels = no_labels(alloc, channels)?;
     let fates = Fates {
@@ -76,7 +84,7 @@ pub(crate) fn open_watch<A: Allocator + Copy>(
     Ok(Watch {
         labels,
         fates,
-        stood: vec![in alloc; None; channels]?,
+        waits: vec![in alloc; NO_WAIT; channels]?,
         waited: vec![in alloc; 0; channels]?,
     })
 }

@@ -8,7 +8,7 @@ ghost use Rattle.network_rounds.specs.Flags.{AreFlags, choices_of};
 ghost use Rattle.network_rounds.specs.Senders.{AreSenders};
 ghost use Rattle.network_traffic.specs.Plans.{IsPlan, plan_table};
 ghost use Rattle.network_traffic.specs.Labels.{labels_spec, HasChannels};
-ghost use Rattle.network_traffic.specs.Watches.{ShowsRounds};
+ghost use Rattle.network_traffic.specs.Watches.{ShowsCourse};
 ghost use Rattle.network_traffic.specs.Simulated.{is_later, some_later, IsSimulated};
 
 use crate::plan::Plan;
@@ -102,7 +102,7 @@ pub(crate) fn watch_rounds<A: Allocator, B: Allocator>(
     requires attempts { length enabled.old ≤ length attempts.old }
     requires made { length enabled.old ≤ length made.old }
     requires room { length made.old < 2 ^ 31 }
-    requires watch { ShowsRounds (plan_table plan.now) plan.now.packets.now [] watch.old }
+    requires watch { ShowsCourse (plan_table plan.now) plan.now.packets.now [] watch.old }
     ensures { IsSimulated by (plan_table plan.now) plan.now.packets.now queues.now groups.now
         machine.old machine.new flits.new most watch.new result }
 {
@@ -117,6 +117,7 @@ pub(crate) fn watch_rounds<A: Allocator, B: Allocator>(
         watch.note(plan, rounds, &made[..count]);
         last = last_of(count, last, rounds);
         if ends(queues, begun, rounds, count) {
+            watch.settle(rounds);
             return Extent {
                 rounds,
                 last,
@@ -124,6 +125,7 @@ pub(crate) fn watch_rounds<A: Allocator, B: Allocator>(
             };
         }
     }
+    watch.settle(rounds);
     Extent {
         rounds,
         last,

@@ -1,17 +1,20 @@
 //! A run that is watched: what becomes of its packets, and how long their flits wait.
 
-ghost use Rattle.std.specs.Prelude.{◌≡◌, ◌+◌, ◌<◌, ◌^◌, ◌∷◌, ℕ, List, length, None};
-ghost use Rattle.std.specs.Prelude.{slice_index, slice_index_or};
+ghost use Rattle.std.specs.Prelude.{◌≡◌, ◌+◌, ◌<◌, ◌^◌, ◌∷◌, List, length};
 ghost use Rattle.network_machine.specs.declared.moves.Move.{Move};
-ghost use Rattle.network_judge.specs.Table.{channels_of};
+ghost use Rattle.network_judge.specs.Table.{Table};
+ghost use Rattle.network_rounds.specs.declared.senders.Timed.{Timed};
 ghost use Rattle.network_traffic.specs.Plans.{IsPlan, plan_table};
-ghost use Rattle.network_traffic.specs.Labels.{labels_spec, HasChannels};
-ghost use Rattle.network_traffic.specs.Fates.{Stamped, stamped, labels_behind, wait_between};
-ghost use Rattle.network_traffic.specs.Watches.{ShowsFates, ShowsLog, ShowsRounds};
+ghost use Rattle.network_traffic.specs.Labels.{labels_spec, labels_after, HasChannels};
+ghost use Rattle.network_traffic.specs.Fates.{Stamped, stamped, labels_behind};
+ghost use Rattle.network_traffic.specs.Watches.{ShowsFates, ShowsLog, ShowsCourse, ShowsRounds};
+ghost use Rattle.network_traffic.specs.Watches.{KeepsCounts};
+ghost use Rattle.network_traffic.specs.Waits.{changes_latch};
 
 use crate::fates::{Fates, count_down, note_round};
-use crate::labels::{Labels, first_at};
+use crate::labels::{Labels, first_at, packet_at};
 use crate::plan::{Plan, next_number};
+use crate::waits::{Wait, note_latch, total_waits};
 use network_machine::Move;
 use std::alloc::{Allocator, Global};
 
@@ -22,30 +25,20 @@ pub struct Watch<A: Allocator = Global> {
     pub labels: Labels<A>,
     /// What becomes of its packets.
     pub fates: Fates<A>,
-    /// The packets in the latches when a round begins.
-    pub stood: Vec<Option<usize>, A>,
-    /// How many rounds flits wait in the latch behind each channel.
+    /// How long flits have waited in the latch behind each channel.
+    pub waits: Vec<Wait, A>,
+    /// How many rounds they wait there in all, once the run is over.
     pub waited: Vec<u64, A>,
 }
 
-/// Counts for each channel whether a flit stands in the latch behind it before and after a round.
-fn count_waits<A: Allocator>(
-    before: &[Option<usize>],
-    after: &[Option<usize>],
-    waited: &mut Vec<u64, A>,
-)
-    requires before { length before.now ≡ length waited.old.items }
-    requires after { length after.now ≡ length waited.old.items }
-    ensures size { length waited.new.items ≡ length waited.old.items }
-    ensures waits { (x : ℕ) → x < length waited.old.items
-        → slice_index waited.old.items x + 1 < 2 ^ 64
-        → slice_index waited.new.items x ≡ slice_index waited.old.items x
-        + wait_between (slice_index_or before.now x None) (slice_index_or after.now x None) }
+/// Whether a move changes what stands in a latch.
+fn changes_latch(of: Move) -> bool
+    ensures { result ≡ changes_latch of }
 {
-    let counts = waited.as_mut_slice();
-    for x in 0..counts.len() {
-        let waits = before[x].is_some() & after[x].is_some();
-        counts[x] = counts[x].wrapping_add(waits as u64);
+    match of {
+        Move::Take(_) => true,
+        Move::Put(_) => true,
+        _ => false,
     }
 }
 
@@ -81,19 +74,44 @@ fn note_fate<A: Allocator, B: Allocator>(
 }
 
 impl<A: Allocator> Watch<A> {
+    /// Notes a move of a round that changes what stands in a latch, before it is made of the flits.
+    #[inline(always)]
+    fn note_latched<B: Allocator>(&mut self, plan: &Plan<B>, round: u64, of: Move)
+        requires plan { IsPlan plan.now }
+        requires channels { HasChannels (labels_spec self.old.labels) (length plan.now.kinds.now) }
+        ensures labels { labels_spec self.new.labels ≡ labels_after (plan_table plan.now)
+            plan.now.packets.now (labels_spec self.old.labels) of }
+        ensures channels { HasChannels (labels_spec self.new.labels) (length plan.now.kinds.now) }
+        ensures fates { self.new.fates ≡ self.old.fates }
+        ensures many { length self.new.waits.items ≡ length self.old.waits.items }
+        ensures waited { self.new.waited ≡ self.old.waited }
+        ensures waits { KeepsCounts round self.old self.new }
+    {
+        let x = of.channel();
+        let was = packet_at(&self.labels.latches, x).is_some();
+        self.labels.make(plan, of);
+        let is = packet_at(&self.labels.latches, x).is_some();
+        note_latch(&mut self.waits, x, round, was, is);
+    }
+
     /// Notes a move of a round, before it is made of the flits.
     fn note_move<B: Allocator>(&mut self, plan: &Plan<B>, round: u64, of: Move)
         requires plan { IsPlan plan.now }
         requires channels { HasChannels (labels_spec self.old.labels) (length plan.now.kinds.now) }
         ensures channels { HasChannels (labels_spec self.new.labels) (length plan.now.kinds.now) }
-        ensures stood { self.new.stood ≡ self.old.stood }
+        ensures many { length self.new.waits.items ≡ length self.old.waits.items }
         ensures waited { self.new.waited ≡ self.old.waited }
+        ensures waits { KeepsCounts round self.old self.new }
         ensures log { (log : List Stamped) → ShowsLog (plan_table plan.now) plan.now.packets.now
             log self.old → ShowsLog (plan_table plan.now) plan.now.packets.now
             (record { round = round; move = of } ∷ log) self.new }
     {
         note_fate(&mut self.fates, plan, &self.labels, round, of);
-        self.labels.make(plan, of);
+        if changes_latch(of) {
+            self.note_latched(plan, round, of);
+        } else {
+            self.labels.make(plan, of);
+        }
     }
 
     /// Notes the moves of a round.
@@ -101,8 +119,9 @@ impl<A: Allocator> Watch<A> {
         requires plan { IsPlan plan.now }
         requires channels { HasChannels (labels_spec self.old.labels) (length plan.now.kinds.now) }
         ensures channels { HasChannels (labels_spec self.new.labels) (length plan.now.kinds.now) }
-        ensures stood { self.new.stood ≡ self.old.stood }
+        ensures many { length self.new.waits.items ≡ length self.old.waits.items }
         ensures waited { self.new.waited ≡ self.old.waited }
+        ensures waits { KeepsCounts round self.old self.new }
         ensures log { (log : List Stamped) → ShowsLog (plan_table plan.now) plan.now.packets.now
             log self.old → ShowsLog (plan_table plan.now) plan.now.packets.now
             (stamped round moves.now log) self.new }
@@ -112,21 +131,27 @@ impl<A: Allocator> Watch<A> {
         }
     }
 
-    /// Notes a round, the next one, and the waiting in it.
+    /// Notes a round, the next one.
     pub(crate) fn note<B: Allocator>(&mut self, plan: &Plan<B>, round: u64, moves: &[Move])
         requires plan { IsPlan plan.now }
         requires channels { HasChannels (labels_spec self.old.labels) (length plan.now.kinds.now) }
-        requires stood { length self.old.stood.items ≡ length plan.now.kinds.now }
-        requires waited { length self.old.waited.items ≡ length plan.now.kinds.now }
         ensures channels { HasChannels (labels_spec self.new.labels) (length plan.now.kinds.now) }
-        ensures stood { length self.new.stood.items ≡ length plan.now.kinds.now }
-        ensures waited { length self.new.waited.items ≡ length plan.now.kinds.now }
+        ensures many { length self.new.waits.items ≡ length self.old.waits.items }
+        ensures waited { self.new.waited ≡ self.old.waited }
         ensures rounds { (rounds : List (List Move)) → length rounds + 1 ≡ round → round < 2 ^ 63
-            → ShowsRounds (plan_table plan.now) plan.now.packets.now rounds self.old
-            → ShowsRounds (plan_table plan.now) plan.now.packets.now (moves.now ∷ rounds) self.new }
+            → ShowsCourse (plan_table plan.now) plan.now.packets.now rounds self.old
+            → ShowsCourse (plan_table plan.now) plan.now.packets.now (moves.now ∷ rounds) self.new }
     {
-        self.stood.copy_from_slice(&self.labels.latches);
         self.note_moves(plan, round, moves);
-        count_waits(&self.stood, &self.labels.latches, &mut self.waited);
+    }
+
+    /// Counts how many rounds flits wait behind each channel, once so many rounds are noted.
+    pub(crate) fn settle(&mut self, rounds: u64)
+        requires { length self.old.waited.items ≡ length self.old.waits.items }
+        ensures { (t : Table) (packets : List Timed) (noted : List (List Move))
+            → length noted ≡ rounds → rounds < 2 ^ 63 → ShowsCourse t packets noted self.old
+            → ShowsRounds t packets noted self.new }
+    {
+        total_waits(&self.waits, &self.labels.latches, rounds, &mut self.waited);
     }
 }

@@ -15,8 +15,6 @@ loop-rounds-init g c = record {
   made = refl;
   channels = subst (λ (l : LabelsSpec). HasChannels l (length c.args.plan.now.kinds.now)) (sym c.requires.watch.log.labels)
       (record { latches = length-replicate (length c.args.plan.now.kinds.now) None; begun = length-replicate (length c.args.plan.now.kinds.now) 0 });
-  stood = c.requires.watch.stood;
-  waited = c.requires.watch.waited;
   flags = c.requires.flags;
   grants = c.requires.grants;
   attempts = refl;
@@ -42,13 +40,25 @@ loop-rounds-preserved g c =
       enabled = r.auto.enabled ∙ l.invariant.enabled;
       made = r.auto.made ∙ l.invariant.made;
       channels = c.note.ensures.channels;
-      stood = c.note.ensures.stood;
-      waited = c.note.ensures.waited;
       flags = r.ensures.flags;
       grants = r.ensures.grants;
       attempts = r.auto.attempts ∙ l.invariant.attempts;
       watched = record { simulates = w.simulates; shows = w.shows; last = w.last; goes = w.on c.if-ends.false };
     }
+
+pub settle-requires : goal.settle-requires
+settle-requires g c =
+    let l = c.loop-rounds in
+    let r = c.simulate_round-count in
+    let w = watched_more c.args.by (plan_table c.args.plan.now) c.args.plan.now.packets.now c.args.queues.now c.args.groups.now c.args.machine.now l.machine r.new.machine
+    l.grants.lasts.items r.new.grants.lasts.items l.begun l.flits r.new.begun r.new.flits l.rounds (length c.args.made.now) c.args.most r.result l.last c.last_of-last.result r.new.made l.watch c.note.new.self c.ends.result
+    l.invariant.watched c.loop-rounds-test.true c.requires.most c.requires.room r.ensures.few (r.auto.made ∙ l.invariant.made)
+    (l.invariant.begun ∙ c.requires.begun) r.auto.flits r.ensures.round r.ensures.runs r.ensures.same r.ensures.begun r.ensures.flits
+    c.note.ensures.rounds c.last_of-last.ensures c.ends.ensures in
+    w.shows.waited ∙ sym w.shows.many
+
+pub settle-requires-2 : goal.settle-requires-2
+settle-requires-2 g c = c.loop-rounds.invariant.watched.shows.waited ∙ sym c.loop-rounds.invariant.watched.shows.many
 
 pub returns-then-ends : goal.returns-then-ends
 returns-then-ends g c =
@@ -63,7 +73,8 @@ returns-then-ends g c =
       lasts = r.new.grants.lasts.items;
       begun = r.new.begun;
       simulation = w.simulates.simulation;
-      shows = w.shows;
+      shows = c.settle.ensures (plan_table c.args.plan.now) c.args.plan.now.packets.now w.simulates.simulation.rounds w.simulates.simulation.number
+          (let low = c.loop-rounds-test.true in let most = c.requires.most in omega (arith, low, most)) w.shows;
       far = record {
         few = (let low = c.loop-rounds-test.true in omega (arith, low));
         goes = w.goes;
@@ -83,7 +94,8 @@ returns g c =
       lasts = l.grants.lasts.items;
       begun = l.begun;
       simulation = h.simulates.simulation;
-      shows = h.shows;
+      shows = c.settle-2.ensures (plan_table c.args.plan.now) c.args.plan.now.packets.now h.simulates.simulation.rounds h.simulates.simulation.number
+          (let most = c.requires.most in omega (arith, few, most)) h.shows;
       far = record {
         few = few;
         goes = goes_before c.args.queues.now h.simulates.simulation.rounds h.goes;

@@ -17,8 +17,6 @@ invariant-loop-rounds g l = record {
   attempts : length l.attempts ≡ length l.initial.attempts;
   made : length l.made ≡ length l.initial.made;
   channels : HasChannels (labels_spec l.watch.labels) (length l.plan.kinds.now);
-  stood : length l.watch.stood.items ≡ length l.plan.kinds.now;
-  waited : length l.watch.waited.items ≡ length l.plan.kinds.now;
   flags : AreFlags l.machine (choices_of l.groups) l.choices;
   grants : AreGrants l.machine l.grants;
   watched : WatchedSoFar l.by (plan_table l.plan) l.plan.packets.now l.queues l.groups l.initial.machine l.machine l.grants.lasts.items l.begun l.flits l.rounds

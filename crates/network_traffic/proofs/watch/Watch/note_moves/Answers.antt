@@ -12,8 +12,9 @@ loop-k-preserved g c =
     let l = c.loop-k in
     record {
       channels = c.note_move.ensures.channels;
-      stood = c.note_move.ensures.stood ∙ l.invariant.stood;
+      many = c.note_move.ensures.many ∙ l.invariant.many;
       waited = c.note_move.ensures.waited ∙ l.invariant.waited;
+      waits = λ waited stood few counts. c.note_move.ensures.waits waited stood few (l.invariant.waits waited stood few counts);
       log = λ log shows.
           subst (λ (entries : List Stamped). ShowsLog (plan_table c.args.plan.now) c.args.plan.now.packets.now entries c.note_move.new.self)
           (sym (ap (λ (moves : List Move). stamped c.args.round moves log) (take_more c.args.moves.now l.k _ c.loop-k-test.true)

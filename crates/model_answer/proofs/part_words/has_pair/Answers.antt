@@ -5,7 +5,7 @@ use Rattle.std.proofs.Math.Seq.{drop-cons}
 use Rattle.std.proofs.lemmas.List.Folds.{list_any_at}
 use Rattle.model_text.specs.Views.{log_so_far}
 use Rattle.model_answer.specs.PartText.{is_paired_in}
-use Rattle.model_answer.proofs.part_text.has_pair.Goals as goal
+use Rattle.model_answer.proofs.part_words.has_pair.Goals as goal
 
 -- one that fails a test is passed over
 any_next : (p : ℕ → Bool) (xs : List ℕ) (i : ℕ) (b : Bool) → i < length xs → p (get_or xs i 0) ≡ false → list_any p (drop i xs) ≡ b

@@ -2,7 +2,7 @@ use Rattle.std.proofs.Common.{ℕ, get_or, sym, arith}
 use Rattle.std.specs.Prelude.{◌==◌}
 use Rattle.std.proofs.lemmas.Bool.{eq-eqb}
 use Rattle.std.proofs.lemmas.List.Sums.{position_or_len_is}
-use Rattle.model_answer.proofs.part_text.place_in.Goals as goal
+use Rattle.model_answer.proofs.part_words.place_in.Goals as goal
 
 pub returns-then-list-k : goal.returns-then-list-k
 returns-then-list-k c =

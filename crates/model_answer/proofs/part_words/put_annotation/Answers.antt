@@ -3,7 +3,7 @@ use Rattle.std.specs.Prelude.{codes}
 use Rattle.weak_models.specs.Notes.{is_conditional}
 use Rattle.model_answer.specs.PartText.{word_if}
 use Rattle.model_answer.proofs.Parting.{five_more}
-use Rattle.model_answer.proofs.part_text.put_annotation.Goals as goal
+use Rattle.model_answer.proofs.part_words.put_annotation.Goals as goal
 
 pub returns : goal.returns
 returns g c =
