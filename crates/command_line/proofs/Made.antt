@@ -13,7 +13,8 @@ use Rattle.command_line.specs.declared.words.CommandRow.{CommandRow}
 use Rattle.command_line.specs.declared.words.CommandWord.{CommandWord}
 use Rattle.command_line.specs.CommandLine.{app_of_command, rule_of_word, top_app, torusmem_app, with_command, with_word}
 use Rattle.command_line.specs.Making.{GainsWords, IsCommand, with_code_row, with_code_word}
-use Rattle.command_line.specs.Table.{commands, common_words, named_command, taken_word}
+use Rattle.command_line.specs.Table.{commands, common_words}
+use Rattle.command_line.specs.TableRows.{named_command, taken_word}
 
 -- no argument is global where none was, and none came
 still_local : (a b c : Bool) → c ≡ (a || b) → a ≡ false → b ≡ false → c ≡ false

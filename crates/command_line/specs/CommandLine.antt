@@ -8,8 +8,9 @@ use Rattle.clap.specs.declared.builder.value_parser.ValueParser.TheVariants as v
 use Rattle.command_line.specs.declared.words.WordKind.{WordKind}
 use Rattle.command_line.specs.declared.words.WordKind.TheVariants.{Flag, Number, Long, RunTexts}
 use Rattle.command_line.specs.Job.{rows_in}
-use Rattle.command_line.specs.Table.{NamedCommand, TakenWord, argument, commands, common_words}
-use Rattle.command_line.specs.Table.{free_option, needed_option, usual_option}
+use Rattle.command_line.specs.Table.{commands, common_words}
+use Rattle.command_line.specs.TableRows.{NamedCommand, TakenWord, argument}
+use Rattle.command_line.specs.TableRows.{free_option, needed_option, usual_option}
 
 -- the rule of an argument, as one of this kind
 abbrev pub rule_of_kind : WordKind → Rule → Rule

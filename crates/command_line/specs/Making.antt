@@ -6,7 +6,7 @@ use Rattle.clap.specs.declared.builder.command.Command.TheViews.{out-Command as 
 use Rattle.command_line.specs.declared.words.CommandRow.{CommandRow}
 use Rattle.command_line.specs.declared.words.CommandWord.{CommandWord}
 use Rattle.command_line.specs.CommandLine.{with_command, with_word}
-use Rattle.command_line.specs.Table.{named_command, taken_word}
+use Rattle.command_line.specs.TableRows.{named_command, taken_word}
 
 -- the command is this one, and no argument of it is global
 abbrev pub IsCommand : App → Command → Type 0

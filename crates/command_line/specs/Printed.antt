@@ -5,8 +5,10 @@ use Rattle.command_line.specs.declared.words.WordKind.{WordKind}
 use Rattle.command_line.specs.declared.words.WordKind.TheVariants.{Flag, Path, Number, Long}
 use Rattle.command_line.specs.declared.words.WordKind.TheVariants.{Arbiter, MachineArbiter, Model}
 use Rattle.command_line.specs.declared.words.WordKind.TheVariants.{RunTexts, Replies}
-use Rattle.command_line.specs.Table.{NamedCommand, TakenWord, about_text, argument, commands}
-use Rattle.command_line.specs.Table.{common_words, free_option, needed_option, usual_option}
+use Rattle.command_line.specs.Table.{about_text, commands}
+use Rattle.command_line.specs.TableRows.{NamedCommand, TakenWord, argument}
+use Rattle.command_line.specs.Table.{common_words}
+use Rattle.command_line.specs.TableRows.{free_option, needed_option, usual_option}
 
 -- the values of a kind: `-` of a flag, PATH of a file, LEAST..MOST of a number, REPLIES, or words
 -- with commas

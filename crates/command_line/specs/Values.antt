@@ -8,8 +8,9 @@ use Rattle.clap.specs.Words.{Row, Text, all_of, first_of, one_of}
 use Rattle.command_line.specs.declared.words.WordKind.{WordKind}
 use Rattle.command_line.specs.declared.words.WordKind.TheVariants.{Flag, Number, Long, RunTexts}
 use Rattle.command_line.specs.Job.{flag_text}
-use Rattle.command_line.specs.Table.{NamedCommand, TakenWord, argument, commands, common_words, free_option}
-use Rattle.command_line.specs.Table.{needed_option, usual_option}
+use Rattle.command_line.specs.Table.{commands, common_words}
+use Rattle.command_line.specs.TableRows.{NamedCommand, TakenWord, argument, free_option}
+use Rattle.command_line.specs.TableRows.{needed_option, usual_option}
 
 -- the text is a number from the least to the most, in decimal digits
 abbrev pub IsNumberIn : ℕ → ℕ → Text → Type 0

@@ -4,7 +4,7 @@ ghost use Rattle.clap.specs.Words.{new_app, new_rule, rule_of};
 ghost use Rattle.command_line.specs.CommandLine.{app_of_command, rule_of_kind, rule_of_word};
 ghost use Rattle.command_line.specs.CommandLine.{top_app, torusmem_app};
 ghost use Rattle.command_line.specs.Making.{GainsWords, IsCommand};
-ghost use Rattle.command_line.specs.Table.{named_command, taken_word};
+ghost use Rattle.command_line.specs.TableRows.{named_command, taken_word};
 
 use crate::table::{ABOUT, commands, common_words};
 use crate::words::{CommandRow, CommandWord, WordKind};

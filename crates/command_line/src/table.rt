@@ -2,7 +2,8 @@
 ghost use Rattle.std.specs.Fmt.{WritesOnOk};
 ghost use Rattle.std.specs.Prelude.{◌≡◌, map};
 ghost use Rattle.command_line.specs.Printed.{program_text};
-ghost use Rattle.command_line.specs.Table.{commands, common_words, named_command, taken_word};
+ghost use Rattle.command_line.specs.Table.{commands, common_words};
+ghost use Rattle.command_line.specs.TableRows.{named_command, taken_word};
 
 use crate::taken::{
     ARBITER, CLOCKED, CONFIGURATIONS, GUARD, JSON, MACHINE, MOST_DEPTH, MOST_SEARCHED, MOST_TURNS,

@@ -3,7 +3,7 @@ ghost use Rattle.std.specs.Fmt.{WritesOnOk};
 ghost use Rattle.std.specs.Prelude.{flat_map, map};
 ghost use Rattle.command_line.specs.Printed.{apart_text, command_text, common_text, option_text};
 ghost use Rattle.command_line.specs.Printed.{usual_text, word_text};
-ghost use Rattle.command_line.specs.Table.{named_command, taken_word};
+ghost use Rattle.command_line.specs.TableRows.{named_command, taken_word};
 
 use std::fmt;
 

@@ -3,7 +3,7 @@ use Rattle.std.specs.Prelude.{ℕ, List}
 use Rattle.std.proofs.Common.{subst}
 use Rattle.std.specs.Fmt.{HasWritten}
 use Rattle.command_line.specs.Printed.{common_text}
-use Rattle.command_line.specs.Table.{taken_word}
+use Rattle.command_line.specs.TableRows.{taken_word}
 use Rattle.command_line.proofs.Made.{all_texts}
 use Rattle.command_line.proofs.words.put_common.Goals as goal
 

@@ -3,7 +3,7 @@ use Rattle.std.specs.Prelude.{ℕ, List}
 use Rattle.std.proofs.Common.{subst}
 use Rattle.std.specs.Fmt.{HasWritten}
 use Rattle.command_line.specs.Printed.{apart_text}
-use Rattle.command_line.specs.Table.{named_command}
+use Rattle.command_line.specs.TableRows.{named_command}
 use Rattle.command_line.proofs.Made.{all_texts}
 use Rattle.command_line.proofs.words.put_rows.Goals as goal
 

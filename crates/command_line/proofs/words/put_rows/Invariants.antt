@@ -2,7 +2,7 @@ use Rattle.std.proofs.Common.{take}
 use Rattle.std.specs.Fmt.{HasWritten, IsPlainFormatter}
 use Rattle.std.specs.List.{flat_map}
 use Rattle.command_line.specs.Printed.{apart_text}
-use Rattle.command_line.specs.Table.{named_command}
+use Rattle.command_line.specs.TableRows.{named_command}
 use Rattle.command_line.proofs.words.put_rows.Given as goal
 
 abbrev pub invariant-loop-row : goal.invariant-loop-row

@@ -2,7 +2,7 @@ use Rattle.std.proofs.Common.{take}
 use Rattle.std.specs.Fmt.{HasWritten, IsPlainFormatter}
 use Rattle.std.specs.List.{flat_map}
 use Rattle.command_line.specs.Printed.{word_text}
-use Rattle.command_line.specs.Table.{taken_word}
+use Rattle.command_line.specs.TableRows.{taken_word}
 use Rattle.command_line.proofs.words.put_words.Given as goal
 
 abbrev pub invariant-loop-word : goal.invariant-loop-word

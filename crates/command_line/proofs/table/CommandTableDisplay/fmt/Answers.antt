@@ -3,7 +3,8 @@ use Rattle.std.specs.Prelude.{◌++◌, flat_map, map}
 use Rattle.std.proofs.Common.{ap, refl, ◌∙◌}
 use Rattle.std.proofs.lemmas.Grind.{put_three}
 use Rattle.command_line.specs.Printed.{apart_text, common_text, program_text}
-use Rattle.command_line.specs.Table.{common_words, named_command}
+use Rattle.command_line.specs.Table.{common_words}
+use Rattle.command_line.specs.TableRows.{named_command}
 use Rattle.command_line.proofs.table.CommandTableDisplay.fmt.Goals as goal
 
 pub returns-clause-writes : goal.returns-clause-writes

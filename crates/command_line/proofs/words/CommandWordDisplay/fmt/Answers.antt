@@ -3,7 +3,7 @@ use Rattle.std.proofs.Common.{ap, refl, sym}
 use Rattle.std.proofs.lemmas.Grind.{put_two}
 use Rattle.command_line.specs.declared.words.CommandWord.{CommandWord}
 use Rattle.command_line.specs.Printed.{word_text}
-use Rattle.command_line.specs.Table.{taken_word}
+use Rattle.command_line.specs.TableRows.{taken_word}
 use Rattle.command_line.proofs.words.CommandWordDisplay.fmt.Goals as goal
 
 pub returns-in_ok-put_option-in-Usual-clause-writes : goal.returns-in_ok-put_option-in-Usual-clause-writes
