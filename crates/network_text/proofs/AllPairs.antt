@@ -14,14 +14,14 @@ pub record AreSoFar (end : End) (kinds : List Kind) (x : ℕ) (found : List ℕ)
   pub few : length found ≤ x
 
 -- one more
-pub end_put : (end : End) (kinds : List Kind) (x : ℕ) (old new : List ℕ) → AreSoFar end kinds x old → is_end end (slice_get kinds x) ≡ true
-    → new ≡ old ++ x ∷ [] → AreSoFar end kinds (x + 1) new
-end_put end kinds x old new are is put =
-    let more = ap length put in
+pub end_put : (end : End) (kinds : List Kind) (x : ℕ) (old pushed new : List ℕ) → AreSoFar end kinds x old → is_end end (slice_get kinds x) ≡ true
+    → new ≡ pushed → pushed ≡ old ++ x ∷ [] → AreSoFar end kinds (x + 1) new
+end_put end kinds x old pushed new are is same put =
+    let more : length new ≡ length (old ++ x ∷ []) = ap length same ∙ ap length put in
     let size = length_push old x in
     let few = are.few in
     record {
-      so_far = line_put [] old new (channel_at_end end kinds) x are.so_far (put ∙ ap (λ b. old ++ (if b then x ∷ [] else [])) (sym is));
+      so_far = line_put [] old new (channel_at_end end kinds) x are.so_far (same ∙ (put ∙ ap (λ b. old ++ (if b then x ∷ [] else [])) (sym is)));
       few = omega arith;
     }
 

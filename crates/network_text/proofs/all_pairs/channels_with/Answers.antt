@@ -13,8 +13,8 @@ loop-x-preserved g c =
     record {
       found = elim c.if-is_end.branch [
         | then-is_end+in_ok-push w ↦
-            end_put end kinds l.x l.out.items c.if-is_end.out.items l.invariant.found (is ∙ w.if-is_end.true)
-            (ap (λ (v : Vec ℕ g.row.A.Denot). v.items) w.out-is ∙ w.in_ok-push.ensures.items)
+            end_put end kinds l.x l.out.items _ c.if-is_end.out.items l.invariant.found (is ∙ w.if-is_end.true)
+            (ap (λ (v : Vec ℕ g.row.A.Denot). v.items) w.out-is) w.in_ok-push.ensures.items
         | else-is_end w ↦
             end_passed end kinds l.x l.out.items c.if-is_end.out.items l.invariant.found (is ∙ w.if-is_end.false)
             (ap (λ (v : Vec ℕ g.row.A.Denot). v.items) w.out-is)
