@@ -1,6 +1,6 @@
 -- The channels with an end, one after another.
-use Rattle.std.proofs.Common.{◌≡◌, ℕ, ◌+◌, ◌≤◌, true, false, List, [], ◌∷◌, ◌++◌, length, sym, ◌∙◌, ap, append-nil, arith}
-use Rattle.std.specs.Prelude.{slice_get, if◌then◌else◌}
+use Rattle.std.proofs.Common.{◌≡◌, ℕ, ◌+◌, ◌≤◌, Bool, true, false, List, [], ◌∷◌, ◌++◌, length, sym, ◌∙◌, ap, append-nil, arith}
+use Rattle.std.specs.Prelude.{Option, slice_get, if◌then◌else◌}
 use Rattle.std.proofs.lemmas.List.{length_push}
 use Rattle.network_judge.specs.declared.table.Kind.{Kind}
 use Rattle.network_text.specs.Lines.{first_lines}
@@ -12,6 +12,11 @@ use Rattle.network_text.proofs.Pieces.{line_put}
 pub record AreSoFar (end : End) (kinds : List Kind) (x : ℕ) (found : List ℕ) : Type 0 where
   pub so_far : found ≡ first_lines (channel_at_end end kinds) x
   pub few : length found ≤ x
+
+-- whether a channel has the end, by the kind that is found
+pub end_is : (end : End) (kinds : List Kind) (x : ℕ) (kind : Option Kind) (is : Bool) → is ≡ is_end end kind → kind ≡ slice_get kinds x
+    → is_end end (slice_get kinds x) ≡ is
+end_is end kinds x kind is tells found = sym (tells ∙ ap (is_end end) found)
 
 -- one more
 pub end_put : (end : End) (kinds : List Kind) (x : ℕ) (old pushed new : List ℕ) → AreSoFar end kinds x old → is_end end (slice_get kinds x) ≡ true

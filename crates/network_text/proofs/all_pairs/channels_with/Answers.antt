@@ -1,6 +1,5 @@
-use Rattle.std.proofs.Common.{◌∙◌, ℕ, Vec, sym, ap}
-use Rattle.network_text.specs.AllPairs.{is_end}
-use Rattle.network_text.proofs.AllPairs.{end_put, end_passed}
+use Rattle.std.proofs.Common.{◌∙◌, ℕ, Vec, ap}
+use Rattle.network_text.proofs.AllPairs.{end_is, end_put, end_passed}
 use Rattle.network_text.proofs.all_pairs.channels_with.Goals as goal
 use Rattle.network_text.proofs.all_pairs.channels_with.Goals.{then-is_end+in_ok-push, else-is_end}
 
@@ -9,7 +8,7 @@ loop-x-preserved g c =
     let end = c.args.end in
     let kinds = c.args.kinds.now in
     let l = c.loop-x in
-    let is = sym (c.is_end.ensures ∙ ap (is_end end) c.kind_at.ensures) in
+    let is = end_is end kinds l.x c.kind_at.result c.is_end.result c.is_end.ensures c.kind_at.ensures in
     record {
       found = elim c.if-is_end.branch [
         | then-is_end+in_ok-push w ↦
