@@ -1,9 +1,10 @@
 -- Layers of further choices.
-use Rattle.std.proofs.Common.{◌≡◌, inl, inr, ℕ, suc, ◌+◌, ◌*◌, ◌<◌, true, false, List, [], ◌∷◌, refl, sym, ◌∙◌, ap, arith}
+use Rattle.std.proofs.Common.{◌≡◌, inl, inr, ℕ, suc, ◌+◌, ◌*◌, ◌<◌, true, false, List, [], ◌∷◌, ◌++◌, length, refl, sym, ◌∙◌, ap, arith}
 use Rattle.std.specs.Prelude.{Result, Ok, Err, Option, Some, None, option_map, if◌then◌else◌, ◌==◌}
 use Rattle.std.specs.List.{list_any}
 use Rattle.std.proofs.lemmas.Bool.{cases_Bool}
 use Rattle.std.proofs.lemmas.Nat.{mul-add-lt}
+use Rattle.std.proofs.lemmas.List.{length-append}
 use Rattle.network_text.specs.declared.reason.NetworkReason.{NetworkReason}
 use Rattle.network_text.specs.declared.reason.NetworkReason.TheVariants as reason
 use Rattle.lexer.specs.Outcome.{Makes}
@@ -18,6 +19,10 @@ place_low layers cells layer cell size is low inside =
     let here = mul-add-lt layer cells cell layers low inside in
     let turned : cells * layers ≡ layers * cells = omega arith in
     omega arith
+
+-- how long a list is with another one behind it
+pub longer : (old more new : List ℕ) → new ≡ old ++ more → length new ≡ length old + length more
+longer old more new is = ap length is ∙ length-append old more
 
 -- one layer is looked at
 pub place_more : (t : ChoosingText) (cell y layer n m : ℕ) → n ≡ suc m

@@ -1,5 +1,5 @@
-use Rattle.std.proofs.Common.{◌≡◌, length, true, false, sym, ◌∙◌, ap, arith}
-use Rattle.std.proofs.lemmas.List.{length-append}
+use Rattle.std.proofs.Common.{◌≡◌, length, true, false, sym, ◌∙◌, arith}
+use Rattle.network_text.proofs.Layers.{longer}
 use Rattle.network_text.proofs.choosing.Choosing.add_layer.Goals as goal
 
 pub returns-clause-read : goal.returns-clause-read
@@ -7,7 +7,7 @@ returns-clause-read g c =
     let r = c.requires.read in
     let one : length c.deref.result.now ≡ length c.args.self.now.fixed.choices.items =
     omega (arith, c.deref.ensures.len, c.index_mut.auto.self, c.in_ok-layer.ensures.len, c.len.ensures, c.in_ok-layer.layer.ok.0, c.args.self.now.fixed.choices.ok.0) in
-    let all = ap length c.in_ok-extend_from_slice.ensures.items ∙ length-append c.args.self.now.further.items c.deref.result.now in
+    let all = longer c.args.self.now.further.items c.deref.result.now _ c.in_ok-extend_from_slice.ensures.items in
     let rows = r.rows in
     let few = r.few in
     let some = c.requires.cell in
