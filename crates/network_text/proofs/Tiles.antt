@@ -12,7 +12,7 @@ use Rattle.std.proofs.Math.Nat.{suc-mul, mul-le-mul_right}
 use Rattle.std.proofs.lemmas.Bool.{cases_lt}
 use Rattle.std.proofs.lemmas.List.{length-append, get_or_append_left, get_or-append_right, get_or_read}
 use Rattle.network_text.specs.Lines.{first_lines}
-use Rattle.network_text.proofs.Pieces.{first_lines-more}
+use Rattle.network_text.proofs.Pieces.{first_lines-more, line_put}
 use Rattle.std.proofs.lemmas.Nat.{mul-add-lt}
 use Rattle.network_judge.specs.Table.{columns_of, column_of, ejects, is_receiver}
 use Rattle.network_text.specs.Network.{count_of, cell_of}
@@ -74,6 +74,15 @@ lines_at line w (suc n) i r each low inside =
         let s : i * w + w ≡ suc i * w = sym (suc-mul i w ∙ (let t : i * w + w ≡ i * w + w = refl in t)) in
         let rows : suc i * w ≤ n * w = mul-le-mul_right w (omega arith) in
         omega arith
+
+-- a choice is put behind those before it
+pub tile_put : (start old new : List ℕ) (t : ChoosingText) (from x place k cell y : ℕ)
+    → old ≡ start ++ first_lines (λ k. listed_choice t (x * columns_of t.fixed.table + (from + k)) place ∷ []) k → new ≡ old ++ y ∷ []
+    → y ≡ listed_choice t cell place → cell ≡ x * columns_of t.fixed.table + (from + k)
+    → new ≡ start ++ first_lines (λ k. listed_choice t (x * columns_of t.fixed.table + (from + k)) place ∷ []) (k + 1)
+tile_put start old new t from x place k cell y before put is same =
+    line_put start old new (λ k. listed_choice t (x * columns_of t.fixed.table + (from + k)) place ∷ []) k before
+    (put ∙ ap (λ v. old ++ v ∷ []) (is ∙ ap (λ z. listed_choice t z place) same))
 
 -- how many choices a tile has
 line_width : (t : ChoosingText) (from width x place : ℕ) → length (tile_line t from width x place) ≡ width
