@@ -222,6 +222,10 @@ class Reader:
         """Joins each channel of one list with each of another. `all` names each sender so far, or each receiver."""
         if len(words) != 2:
             raise ValueError("no line of a network begins so, or it hasn't so many numbers")
+        pair = number_of(words[0]), number_of(words[1])
+        if self.net.kinds and 0 <= min(pair) and max(pair) < len(self.net.kinds) and len(self.net.joins) < MOST_PAIRS:
+            self.net.joins.append(pair)  # most lines are of one pair
+            return
         lists = [None if word == "all" else ranges_of(word) for word in words]
         if not self.net.kinds:
             raise ValueError("`channels` is the first line, and stands once")
