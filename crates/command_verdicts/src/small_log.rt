@@ -5,7 +5,7 @@ ghost use Rattle.std.specs.Str.Lines.{lines};
 ghost use Rattle.program_fault.specs.Done.{output};
 ghost use Rattle.model_answer.specs.SmallTexts.{TellsSmallLog};
 ghost use Rattle.command_verdicts.specs.Modelled.{PrintsModelsOfReport, is_report_text};
-ghost use Rattle.command_verdicts.specs.SmallLogs.{PrintsUnbroken};
+ghost use Rattle.command_verdicts.specs.SmallLogs.{PrintsUnbroken, text_unless};
 
 use crate::model::{AskedModels, Modelled, is_report, report_models_text};
 use crate::smallest::tell_left;
@@ -20,6 +20,16 @@ use state_search::Ending;
 use state_search::parts::kept_count;
 use std::alloc::{Allocator, Global};
 use torus::Fault;
+
+/// The text of an answer where no model is broken, else none.
+fn text_unless(broken: Option<AskedModel>, text: &[u8]) -> &[u8]
+    ensures { result.now ≡ text_unless broken text.now }
+{
+    match broken {
+        None => text,
+        Some(_) => b"",
+    }
+}
 
 /// Judges the log of a text by memory models as `model_text` does, and prints the answer only where it tells
 /// a no of none.
@@ -37,9 +47,8 @@ fn unbroken_log<A: Allocator + Copy, W: Out>(
 {
     match model_answer(alloc, log, options) {
         Ok(answer) => {
-            if weakest_told(answer.obeys, answer.weak).is_none() {
-                put_all(out, &answer.text)?;
-            }
+            let broken = weakest_told(answer.obeys, answer.weak);
+            put_all(out, text_unless(broken, &answer.text))?;
             Ok(Modelled::Obeys(answer.obeys, answer.weak))
         }
         Err(NoAnswer::Refused(refusal)) => Err(ProgramFault::from(LineFault::from(refusal))),
