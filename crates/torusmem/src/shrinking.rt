@@ -4,9 +4,7 @@
 use crate::answering::Outcome;
 use command_jobs::{all_printed, fault_told};
 use command_line::Job;
-use command_verdicts::{
-    Judged, Modelled, shrunk_of, small_log_of, tell_small_log, tell_smallest,
-};
+use command_verdicts::{Judged, Modelled, shrunk_of, small_log_of, tell_small_log, tell_smallest};
 use model_answer::{AskedModel, weakest_told};
 use program_fault::{ProgramFault, Texts};
 use std::alloc::Global;

@@ -210,7 +210,13 @@ pub(crate) fn explain_fault<R: Eprint + AllocGlobal>(
             script,
             ..
         } => explain_run_models(rt, (log, machine, script), &names(job), texts, fault),
-        Job::Model { log, .. } | Job::SmallestModel { log, .. } => explain_models(rt, log, &names(job), texts, fault),
+        Job::Model { log, .. } | Job::SmallestModel { log, .. } => explain_models(
+            rt,
+            log,
+            &names(job),
+            texts,
+            fault,
+        ),
         Job::ValueModel { log, .. } => explain_values(rt, log, &texts.first, fault),
         Job::Linearize { trace, .. } | Job::Report { trace, .. } | Job::Smallest { trace, .. } => {
             explain_trace(rt, trace, &texts.first, fault);
