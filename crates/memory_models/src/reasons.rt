@@ -21,8 +21,8 @@ fn applies(rule: Rule, operations: &[Operation], x: usize, y: usize) -> bool
                     && rule_key(rule, operations[x]) == rule_key(rule, operations[y]))))
 }
 
-/// Whether a model keeps two operations in their order.
-pub(crate) fn keeps(rules: &[Rule], operations: &[Operation], x: usize, y: usize) -> bool
+/// Whether the rules of a model keep two operations, by their places in the program, in their order.
+pub fn keeps(rules: &[Rule], operations: &[Operation], x: usize, y: usize) -> bool
     requires x { x < length operations.now }
     requires y { y < length operations.now }
     ensures kept { result ≡ true → KeepsOrder rules.now operations.now x y }
