@@ -7,7 +7,7 @@ use crate::told::Told;
 use arrayvec::ArrayString;
 use itoa::Buffer;
 use packet::Reply;
-use script::LineFault;
+use lexer::LineFault;
 
 /// The text of an answer, with its line feed.
 pub type ToldText = ArrayString<96>;

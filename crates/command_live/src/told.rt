@@ -1,5 +1,5 @@
 use packet::Reply;
-use script::LineFault;
+use lexer::LineFault;
 use torus::Fault;
 
 /// What is answered to a line of a dialogue, but for a report.

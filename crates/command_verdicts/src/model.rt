@@ -13,7 +13,7 @@ use program_fault::ProgramFault;
 use report_lines::Out;
 use report_lines::output::put_all;
 use report_model::{NoReportAnswer, answer_to_report};
-use script::LineFault;
+use lexer::LineFault;
 use std::alloc::Allocator;
 use torus::Fault;
 

@@ -12,7 +12,8 @@ use program_fault::ProgramFault;
 use report_lines::Out;
 use report_lines::output::put_all;
 use report_model::{NoReportAnswer, NoTextsAnswer, answer_to_report_of};
-use script::{LineFault, MachineText, Scripts, read_machine, read_scripts};
+use lexer::LineFault;
+use script::{MachineText, Scripts, read_machine, read_scripts};
 use std::alloc::Allocator;
 use torus::Fault;
 

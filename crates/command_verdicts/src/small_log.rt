@@ -15,7 +15,7 @@ use model_answer::{
 use program_fault::ProgramFault;
 use report_lines::Out;
 use report_lines::output::put_all;
-use script::LineFault;
+use lexer::LineFault;
 use state_search::Ending;
 use state_search::parts::kept_count;
 use std::alloc::{Allocator, Global};

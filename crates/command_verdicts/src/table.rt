@@ -16,7 +16,7 @@ use crate::hints::begins_table;
 use crate::report::report_text;
 use program_fault::ProgramFault;
 use report_lines::Out;
-use script::LineFault;
+use lexer::LineFault;
 use std::alloc::Allocator;
 use trace_table::{TableTrace, read_table};
 use trace_text::Unfound;

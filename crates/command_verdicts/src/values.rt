@@ -11,7 +11,7 @@ use model_text::Logged;
 use program_fault::ProgramFault;
 use report_lines::Out;
 use report_lines::output::put_all;
-use script::LineFault;
+use lexer::LineFault;
 use std::alloc::Allocator;
 use torus::Fault;
 

@@ -11,7 +11,7 @@ use crate::recorded::RecordedMachine;
 use crate::replay::replay;
 use crate::{Record, Unread, bytes_of, copied, record_of};
 use machine_asked::AskedMachine;
-use script::LineFault;
+use lexer::LineFault;
 use std::alloc::{AllocError, Allocator};
 use torus::Fault;
 

@@ -9,7 +9,7 @@ use crate::causes::{Cause, one_cause, verdict_causes};
 use crate::jam::judged_text;
 use network_judge::{Kind, Verdict, judge};
 use network_text::network::{Network, read_network};
-use script::LineFault;
+use lexer::LineFault;
 use std::alloc::{AllocError, Allocator, Global};
 use torus::Fault;
 

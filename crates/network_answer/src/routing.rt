@@ -14,12 +14,11 @@ use crate::going::last_text;
 use crate::judgement::{has_circuit, judgement_text, put_may};
 use crate::judging::{judgement_of, never_locks_up};
 use crate::one_flit::{behind_text, is_free};
-use lexer::Refusal;
+use lexer::{LineFault, Refusal};
 use network_text::NetworkReason;
 use network_text::choosing::{Choosing, Routers};
 use network_text::choosing_text::read_text_or_why;
 use network_text::network::network_read;
-use script::LineFault;
 use std::alloc::{AllocError, Allocator};
 use torus::Fault;
 

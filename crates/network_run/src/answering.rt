@@ -11,7 +11,7 @@ use crate::writing::replayed_text;
 use network_answer::Answer;
 use network_machine::Ending;
 use network_text::read_network;
-use script::LineFault;
+use lexer::LineFault;
 use std::alloc::{Allocator, Global};
 use torus::Fault;
 

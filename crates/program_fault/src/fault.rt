@@ -4,7 +4,7 @@ ghost use Rattle.program_fault.specs.Outcome.{finished_of, status_of};
 use crate::message::fault_text;
 use report_check::CheckFault;
 use report_lines::OutputFailed;
-use script::LineFault;
+use lexer::LineFault;
 use std::error::Error;
 use std::fmt;
 use torus::Fault;

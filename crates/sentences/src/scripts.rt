@@ -9,7 +9,8 @@ ghost use Rattle.sentences.specs.Ended.{IsEndInTextOrder, IsScriptsFault};
 use crate::spins::{ScriptEnd, SpentSpin};
 use crate::text::end_at_lines;
 use one_order::Answer;
-use script::{LineFault, Scripts, read_machine, read_scripts};
+use lexer::LineFault;
+use script::{Scripts, read_machine, read_scripts};
 use std::alloc::{AllocError, Allocator};
 use torus::Fault;
 

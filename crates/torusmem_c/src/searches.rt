@@ -13,7 +13,7 @@ use crate::room::{put_as, put_code};
 use crate::texts::Text;
 use command_schedule::{OutcomesEnd, ReachEnd, Searched, outcomes_text, reach_text};
 use program_fault::ProgramFault;
-use script::LineFault;
+use lexer::LineFault;
 use std::alloc::Global;
 use torus::Fault;
 

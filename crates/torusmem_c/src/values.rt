@@ -13,7 +13,7 @@ use crate::room::put_code;
 use model_answer::Obeys;
 use model_replies::{Decision, Decisions, NoValueAnswer, ValueOptions, value_answer};
 use model_text::Logged;
-use script::LineFault;
+use lexer::LineFault;
 use std::alloc::Global;
 
 /// Which models a log obeys by its replies alone: the number of a code; the sums of the numbers of the
