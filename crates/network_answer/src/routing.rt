@@ -65,10 +65,11 @@ fn answered_choosing<A: Allocator + Copy>(
     })
 }
 
-/// Judges the network of a text, and makes the text of what is judged.
+/// Judges the network that a text gives, of fixed routes or of routers that choose, and makes the text of
+/// what is judged.
 ///
 /// Errors: out of memory.
-fn answered_routing<A: Allocator + Copy>(
+pub fn answered_routing<A: Allocator + Copy>(
     alloc: A,
     network: Choosing<A>,
 ) -> Result<Answer<A>, AllocError>
