@@ -1,5 +1,5 @@
-use packet::Reply;
 use lexer::LineFault;
+use packet::Reply;
 use torus::Fault;
 
 /// What is answered to a line of a dialogue, but for a report.

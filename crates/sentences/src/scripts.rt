@@ -8,8 +8,8 @@ ghost use Rattle.sentences.specs.Ended.{IsEndInTextOrder, IsScriptsFault};
 
 use crate::spins::{ScriptEnd, SpentSpin};
 use crate::text::end_at_lines;
-use one_order::Answer;
 use lexer::LineFault;
+use one_order::Answer;
 use script::{Scripts, read_machine, read_scripts};
 use std::alloc::{AllocError, Allocator};
 use torus::Fault;

@@ -10,7 +10,9 @@ ghost use Rattle.sentences.specs.Told.{steps_or_why_of};
 
 use crate::sentence::{Sentence, TileSentence};
 use lexer::{LineFault, Named, Refusal};
-use script::{TextReason, read_machine, read_machine_or_why, read_scripts_or_why, read_steps_or_why};
+use script::{
+    TextReason, read_machine, read_machine_or_why, read_scripts_or_why, read_steps_or_why,
+};
 use std::alloc::Allocator;
 use torus::Fault;
 

@@ -13,6 +13,7 @@ ghost use Rattle.trace_table.specs.Text.{moments_text};
 ghost use Rattle.trace_table.specs.Text.{own_index};
 ghost use Rattle.trace_table.specs.Text.{count_in, table_text, words_needed};
 
+use crate::counting::counted;
 use crate::moment::Moment;
 use crate::row::{TableRow, processor_at};
 use itoa::Buffer;
@@ -98,23 +99,6 @@ fn put_answer<A: Allocator>(
     put_reply(text, reply)?;
     text.push(b'\n')?;
     Ok(())
-}
-
-/// Counts one operation more of a processor, and answers how many came before it.
-fn counted<A: Allocator + Copy>(
-    counts: &mut BTreeMap<u32, u64, A>,
-    processor: u32,
-) -> Result<u64, AllocError>
-    requires { count_in counts.old.entries processor < 2 ^ 63 }
-    ensures count { IfOk result (λ count. count ≡ count_in counts.old.entries processor) }
-    ensures more { OnOk result ((p : ℕ) → count_in counts.new.entries p
-        ≡ count_in counts.old.entries p + (if processor == p then 1 else 0)) }
-{
-    let count = counts.get(&processor).copied().unwrap_or(0);
-    match counts.insert(processor, count + 1) {
-        Ok(_) => Ok(count),
-        Err(_) => Err(AllocError),
-    }
 }
 
 /// The indexes of rows among those of their processors.
