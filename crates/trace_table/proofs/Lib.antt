@@ -1,4 +1,5 @@
 pub mod Counts
 mod Examples
 pub mod Literals
+pub mod NamePlaces
 pub mod Places

@@ -5,7 +5,9 @@ pub mod Literals
 pub mod Reasons
 pub mod Row
 pub mod Rows
+pub mod InsideNames
 pub mod Moments
+pub mod Names
 pub mod Text
 pub mod Tables
 pub mod Told

@@ -8,6 +8,7 @@ pub mod counting;
 mod hints;
 mod literal;
 pub mod moment;
+pub mod names;
 pub mod reason;
 pub mod row;
 pub mod rows;
