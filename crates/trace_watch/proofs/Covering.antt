@@ -5,12 +5,13 @@ use Rattle.std.proofs.lemmas.Bool.{cases_Bool, eqb-true, eqb-false}
 use Rattle.std.specs.List.{insert}
 use Rattle.packet.specs.declared.kinds.Op.{Op}
 use Rattle.packet.specs.declared.kinds.Reply.{Reply}
+use Rattle.packet.specs.Spelling.{old_word}
 use Rattle.packet.specs.Memory.{new_word, reply_to}
 use Rattle.trace_laws.specs.declared.event.Call.{Call}
 use Rattle.trace_laws.specs.Configs.{IsIn}
 use Rattle.trace_watch.specs.declared.state.Effect.{Effect}
 use Rattle.trace_watch.specs.declared.state.Glimpse.{Glimpse}
-use Rattle.trace_watch.specs.States.{AreCovered, Config, Covers, HasSeen, IsAmong, IsGlimpsed, changed, effect_of, is_before, is_op_before, newest_number, other_words, seen_by, spot, told_word, with_idle}
+use Rattle.trace_watch.specs.States.{AreCovered, Config, Covers, HasSeen, IsAmong, IsGlimpsed, changed, effect_of, is_before, is_op_before, newest_number, other_words, seen_by, spot, with_idle}
 use Rattle.trace_watch.specs.Known.{AreIdleHere}
 use Rattle.trace_watch.specs.Matchings.{FitsPartner, Matches}
 use Rattle.trace_watch.specs.Named.{NamedConfig, NamedEffect, named, named_config}
@@ -114,7 +115,7 @@ covers_named c d es calls cov = like_named c d es calls cov.word cov.effects
 
 -- what stands before what, by replies and operations
 abbrev before : Reply → Reply → Op → Op → Bool
-before r s o p = cond (told_word r == told_word s) (is_op_before o p) (nat_lt (told_word r) (told_word s))
+before r s o p = cond (old_word r == old_word s) (is_op_before o p) (nat_lt (old_word r) (old_word s))
 
 same_before : (g h e f : Effect) → g.op ≡ h.op → g.reply ≡ h.reply → e.op ≡ f.op → e.reply ≡ f.reply
     → is_before g e ≡ is_before h f

@@ -10,11 +10,14 @@ use Rattle.std.proofs.Math.Nat.{mod-lt}
 use Rattle.std.proofs.lemmas.Nat.Bits.{bit_at_set_same, bit_at_set_other, bit_at-zero, same_from_bits_below}
 use Rattle.packet.specs.declared.kinds.Op.{Op}
 use Rattle.packet.specs.declared.kinds.Reply.{Reply}
+use Rattle.packet.specs.Kinds.{code_of}
+use Rattle.packet.specs.Numbers.{code_number}
+use Rattle.packet.specs.Spelling.{first_value, old_word}
 use Rattle.trace_laws.proofs.Lists.{get_within}
 use Rattle.trace_laws.specs.Configs.{IsIn}
 use Rattle.trace_laws.proofs.Bits.{bit_cases, not_both}
 use Rattle.trace_watch.specs.declared.state.Effect.{Effect}
-use Rattle.trace_watch.specs.States.{AreCovered, Config, Covers, first_value, rank, told_word}
+use Rattle.trace_watch.specs.States.{AreCovered, Config, Covers}
 use Rattle.trace_watch.specs.Chains.{IsMask, spot_of}
 
 -- the bits of effects, up to place i
@@ -97,8 +100,8 @@ one_mask es m n a b = same_from_bits_below 64 m n a.low b.low (λ i l. same i)
 -- covered effects have the same bits
 same_spot : (e f : Effect) → e.op ≡ f.op → e.reply ≡ f.reply → spot_of e ≡ spot_of f
 same_spot e f o r =
-    ap (λ (p : Op). (rank p + told_word e.reply % 64 * 11 + first_value p % 64 * 23) % 64) o
-    ∙ ap (λ (q : Reply). (rank f.op + told_word q % 64 * 11 + first_value f.op % 64 * 23) % 64) r
+    ap (λ (p : Op). (code_number (code_of p) + old_word e.reply % 64 * 11 + first_value p % 64 * 23) % 64) o
+    ∙ ap (λ (q : Reply). (code_number (code_of f.op) + old_word q % 64 * 11 + first_value f.op % 64 * 23) % 64) r
 
 covered_spot : (es fs : List Effect) (n : ℕ) (e : Effect) → AreCovered es fs → slice_get es n ≡ Some e
     → (f : Effect) × IsIn fs f × (spot_of e ≡ spot_of f)

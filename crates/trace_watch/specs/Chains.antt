@@ -1,15 +1,19 @@
 -- An index of the configurations that were found: those with the same place are in one chain.
 use Rattle.std.specs.Prelude.{◌≡◌, ◌<◌, ◌≤◌, ◌+◌, ◌*◌, ◌%◌, ◌^◌, ℕ, List, [], ◌∷◌, Some, length, slice_get}
 use Rattle.std.specs.Int.{bit_at}
+use Rattle.packet.specs.Kinds.{code_of}
+use Rattle.packet.specs.Numbers.{code_number}
+use Rattle.packet.specs.Spelling.{first_value, old_word}
 use Rattle.trace_laws.specs.Configs.{IsIn}
 use Rattle.trace_watch.specs.declared.state.Effect.{Effect}
 use Rattle.trace_watch.specs.declared.index.Index.{Index}
-use Rattle.trace_watch.specs.States.{Config, first_value, rank, told_word}
+use Rattle.trace_watch.specs.States.{Config}
 use Rattle.trace_watch.specs.Crowds.{AreUnlike}
 
 -- the bit of an effect
 abbrev pub spot_of : Effect → ℕ
-spot_of e = (rank e.op + told_word e.reply % 64 * 11 + first_value e.op % 64 * 23) % 64
+spot_of e =
+    (code_number (code_of e.op) + old_word e.reply % 64 * 11 + first_value e.op % 64 * 23) % 64
 
 -- a number whose bits are those of effects
 pub record IsMask (effects : List Effect) (mask : ℕ) : Type 0 where

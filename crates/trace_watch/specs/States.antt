@@ -3,10 +3,10 @@
 use Rattle.std.specs.Prelude.{◌≡◌, ◌⊎◌, ◌≤◌, ◌==◌, ℕ, suc, Bool, true, cond, nat_lt, max, List, [], ◌∷◌, ◌++◌, map}
 use Rattle.std.specs.List.{insert, remove}
 use Rattle.packet.specs.declared.kinds.Op.{Op}
-use Rattle.packet.specs.declared.kinds.Op.TheVariants.{Load, Store, Swap, Cas, Add, And, Or, Xor, Max, Min}
-use Rattle.packet.specs.declared.kinds.Reply.{Reply}
-use Rattle.packet.specs.declared.kinds.Reply.TheVariants.{Old, Ok as Stored}
+use Rattle.packet.specs.Kinds.{code_of}
 use Rattle.packet.specs.Memory.{new_word, reply_to}
+use Rattle.packet.specs.Numbers.{code_number}
+use Rattle.packet.specs.Spelling.{first_value, old_word, second_value}
 use Rattle.trace_laws.specs.declared.event.Call.{Call}
 use Rattle.trace_laws.specs.Configs.{IsIn}
 use Rattle.trace_watch.specs.declared.state.Effect.{Effect}
@@ -56,60 +56,17 @@ pub record Covers (c d : Config) : Type 0 where
 abbrev pub IsAmong : List Config → Config → Type 0
 IsAmong configs c = (d : Config) × IsIn configs d × Covers d c
 
--- the word of a reply, or 0
-abbrev pub told_word : Reply → ℕ
-told_word Stored = 0
-told_word (Old word) = word
-
--- the place of an operation's name among the names
-abbrev pub rank : Op → ℕ
-rank Load = 0
-rank (Store v) = 1
-rank (Swap v) = 2
-rank (Cas e n) = 3
-rank (Add v) = 4
-rank (And v) = 5
-rank (Or v) = 6
-rank (Xor v) = 7
-rank (Max v) = 8
-rank (Min v) = 9
-
--- the first value that an operation brings, or 0
-abbrev pub first_value : Op → ℕ
-first_value Load = 0
-first_value (Store v) = v
-first_value (Swap v) = v
-first_value (Cas e n) = e
-first_value (Add v) = v
-first_value (And v) = v
-first_value (Or v) = v
-first_value (Xor v) = v
-first_value (Max v) = v
-first_value (Min v) = v
-
--- and the second one
-abbrev pub second_value : Op → ℕ
-second_value Load = 0
-second_value (Store v) = 0
-second_value (Swap v) = 0
-second_value (Cas e n) = n
-second_value (Add v) = 0
-second_value (And v) = 0
-second_value (Or v) = 0
-second_value (Xor v) = 0
-second_value (Max v) = 0
-second_value (Min v) = 0
-
--- an operation stands before another one, by its name and its values
+-- an operation stands before another one, by its number and its values
 abbrev pub is_op_before : Op → Op → Bool
-is_op_before o p = cond (rank o == rank p)
+is_op_before o p = cond (code_number (code_of o) == code_number (code_of p))
     (cond (first_value o == first_value p) (nat_lt (second_value o) (second_value p))
-    (nat_lt (first_value o) (first_value p))) (nat_lt (rank o) (rank p))
+    (nat_lt (first_value o) (first_value p)))
+    (nat_lt (code_number (code_of o)) (code_number (code_of p)))
 
 -- an effect stands before another one, by its reply and then by its operation
 abbrev pub is_before : Effect → Effect → Bool
-is_before e f = cond (told_word e.reply == told_word f.reply) (is_op_before e.op f.op)
-    (nat_lt (told_word e.reply) (told_word f.reply))
+is_before e f = cond (old_word e.reply == old_word f.reply) (is_op_before e.op f.op)
+    (nat_lt (old_word e.reply) (old_word f.reply))
 
 -- how many effects stand before one more, which takes the place behind them
 abbrev pub spot : List Effect → Effect → ℕ

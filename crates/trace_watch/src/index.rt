@@ -5,7 +5,7 @@ ghost use Rattle.std.specs.Prelude.{IfOk, OnOk, bit_or};
 ghost use Rattle.trace_watch.specs.Chains.{AreChained, IsIndexed, IsMask, HasPlace, spot_of};
 ghost use Rattle.trace_watch.specs.States.{Config, IsAmong, config_of, configs_of};
 
-use crate::state::{Effect, State, first_value, is_covered, rank, told};
+use crate::state::{Effect, State, is_covered};
 use std::alloc::{AllocError, Allocator};
 
 /// How many places there are at first: an odd number, as later on, so that each bit of a mask counts.
@@ -46,7 +46,8 @@ pub(crate) fn empty_index<A: Allocator + Copy>(alloc: A) -> Result<Index<A>, All
 fn marked(mask: u64, effect: Effect) -> u64
     ensures { result ≡ bit_or mask (1 * 2 ^ spot_of effect % 2 ^ 64) }
 {
-    let spot = (rank(effect.op) + told(effect.reply) % 64 * 11 + first_value(effect.op) % 64 * 23)
+    let number = u64::from(effect.op.code().number());
+    let spot = (number + effect.reply.old_word() % 64 * 11 + effect.op.first_value() % 64 * 23)
         % 64;
     mask | (1 << spot)
 }

@@ -2,8 +2,8 @@
 
 ghost use Rattle.std.specs.Prelude.{◌≡◌, ◌<◌, ◌≤◌, ◌++◌, ◌∷◌, [], ℕ, List, Some, true, false, IfOk, length, slice_get};
 ghost use Rattle.std.specs.List.{insert, remove};
-ghost use Rattle.trace_watch.specs.States.{AreCovered, Covers, changed, config_of, effect_of, is_idle};
-ghost use Rattle.trace_watch.specs.States.{first_value, is_before, rank, second_value, spot, told_word};
+ghost use Rattle.trace_watch.specs.States.{AreCovered, Covers, changed, config_of, effect_of, is_before};
+ghost use Rattle.trace_watch.specs.States.{is_idle, spot};
 
 use crate::glimpses::{are_seen, seen_by};
 use packet::{Op, Reply, apply};
@@ -34,80 +34,23 @@ pub struct State<A: Allocator> {
     pub seen: Vec<Glimpse, A>,
 }
 
-/// The word of a reply, or 0.
-pub(crate) fn told(reply: Reply) -> u64
-    ensures { result ≡ told_word reply }
-{
-    match reply {
-        Reply::Ok => 0,
-        Reply::Old(word) => word,
-    }
-}
-
-/// The place of an operation's name among the names.
-pub(crate) fn rank(op: Op) -> u64
-    ensures place { result ≡ rank op }
-    ensures low { result < 10 }
-{
-    match op {
-        Op::Load => 0,
-        Op::Store(_) => 1,
-        Op::Swap(_) => 2,
-        Op::Cas(_, _) => 3,
-        Op::Add(_) => 4,
-        Op::And(_) => 5,
-        Op::Or(_) => 6,
-        Op::Xor(_) => 7,
-        Op::Max(_) => 8,
-        Op::Min(_) => 9,
-    }
-}
-
-/// The first value that an operation brings, or 0.
-pub(crate) fn first_value(op: Op) -> u64
-    ensures { result ≡ first_value op }
-{
-    match op {
-        Op::Load => 0,
-        Op::Store(value) => value,
-        Op::Swap(value) => value,
-        Op::Cas(expected, _) => expected,
-        Op::Add(value) => value,
-        Op::And(value) => value,
-        Op::Or(value) => value,
-        Op::Xor(value) => value,
-        Op::Max(value) => value,
-        Op::Min(value) => value,
-    }
-}
-
-/// The second value that an operation brings, or 0.
-fn second_value(op: Op) -> u64
-    ensures { result ≡ second_value op }
-{
-    match op {
-        Op::Cas(_, new) => new,
-        _ => 0,
-    }
-}
-
 /// Whether an effect stands before another one, by its reply and then by what its operation asks.
 fn is_before(one: Effect, other: Effect) -> bool
     ensures { result ≡ is_before one other }
 {
-    let (told_one, told_other) = (told(one.reply), told(other.reply));
+    let (told_one, told_other) = (one.reply.old_word(), other.reply.old_word());
     if told_one != told_other {
         return told_one < told_other;
     }
-    let (rank_one, rank_other) = (rank(one.op), rank(other.op));
+    let (rank_one, rank_other) = (one.op.code().number(), other.op.code().number());
     if rank_one != rank_other {
         return rank_one < rank_other;
     }
-    let (first_one, first_other) = (first_value(one.op), first_value(other.op));
+    let (first_one, first_other) = (one.op.first_value(), other.op.first_value());
     if first_one != first_other {
         return first_one < first_other;
     }
-    second_value(one.op) < second_value(other.op)
+    one.op.second_value() < other.op.second_value()
 }
 
 /// The place of one more effect among those that are there.
