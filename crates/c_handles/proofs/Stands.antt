@@ -12,14 +12,14 @@ use Rattle.torus.specs.declared.fault.Fault.TheVariants as fault
 use Rattle.trace_text.proofs.Outcomes.{one_ok, bind_ok, else_ok, then_ok, if_ok, not_true, lt_true}
 use Rattle.trace_text.specs.IssueNumbers.{numbers_of}
 use Rattle.c_handles.specs.declared.record.EventRecord.{EventRecord}
-use Rattle.c_handles.specs.Numbered.{op_numbered, reply_numbered}
+use Rattle.packet.specs.Numbers.{op_of_number, reply_of_number}
 use Rattle.c_handles.specs.Gathered.{Gathered, answer_gathered, issue_gathered, after_record, events_from, is_replied, gathered_answer, gathered_issue}
 use Rattle.c_handles.specs.Kept.{IsGathered}
 use Rattle.c_handles.proofs.Events.{answer_kept, issue_kept}
 
 issue_stands : (words : ℕ) (g next : Gathered) (e : EventRecord) → IsGathered words g → issue_gathered words g e ≡ Ok next → IsGathered words next
 issue_stands words g next e k h =
-    let op = bind_ok (ok_or (op_numbered e.operation e.first e.second) fault.Line) _ next h in
+    let op = bind_ok (ok_or (op_of_number e.operation e.first e.second) fault.Line) _ next h in
     let processor = else_ok (not (nat_lt e.processor 4096)) fault.Processor _ next op.2 in
     let address = else_ok (not (nat_lt e.address words)) fault.Address _ next processor.1 in
     let same : gathered_issue g e.processor (record { address = e.address; op = op.0 }) ≡ next = one_ok _ next address.1 in
@@ -29,7 +29,7 @@ issue_stands words g next e k h =
 
 answer_stands : (words : ℕ) (g next : Gathered) (e : EventRecord) → IsGathered words g → answer_gathered g e ≡ Ok next → IsGathered words next
 answer_stands words g next e k h =
-    let reply = bind_ok (ok_or (reply_numbered e.has_old e.old) fault.Line) _ next h in
+    let reply = bind_ok (ok_or (reply_of_number e.has_old e.old) fault.Line) _ next h in
     let processor = else_ok (not (nat_lt e.processor 4096)) fault.Processor _ next reply.2 in
     let n = bind_ok (ok_or (slice_get (numbers_of g.numbers e.processor) e.index) fault.Range) _ next processor.1 in
     let goes = else_ok (not (is_replied (slice_get g.events n.0) reply.0)) fault.Line _ next n.2 in

@@ -19,7 +19,7 @@ use Rattle.lexer.specs.declared.fault.LineFault.{LineFault}
 use Rattle.lexer.specs.Faults.{then_lines}
 use Rattle.trace_text.specs.IssueNumbers.{no_numbers, numbers_of, with_number}
 use Rattle.c_handles.specs.declared.record.EventRecord.{EventRecord}
-use Rattle.c_handles.specs.Numbered.{op_numbered, reply_numbered}
+use Rattle.packet.specs.Numbers.{op_of_number, reply_of_number}
 
 -- what the records so far gave: for each processor the numbers of its operations, for each event
 -- whether it is an issue that is answered, and the events
@@ -43,7 +43,7 @@ gathered_issue g p o = record {
 -- an issue: the operation has a number, the processor is below 4096, and the address is below the
 -- number of words
 abbrev pub issue_gathered : ℕ → Gathered → EventRecord → Result Gathered Fault
-issue_gathered words g e = ok_or (op_numbered e.operation e.first e.second) fault.Line >>= λ op.
+issue_gathered words g e = ok_or (op_of_number e.operation e.first e.second) fault.Line >>= λ op.
     if not (nat_lt e.processor 4096) then Err fault.Processor
     else (if not (nat_lt e.address words) then Err fault.Address
     else Ok (gathered_issue g e.processor (record { address = e.address; op = op })))
@@ -77,7 +77,7 @@ answer_added g n reply =
 -- an answer: it tells a reply, the processor is below 4096, and it has issued an operation of this
 -- index
 abbrev pub answer_gathered : Gathered → EventRecord → Result Gathered Fault
-answer_gathered g e = ok_or (reply_numbered e.has_old e.old) fault.Line >>= λ reply.
+answer_gathered g e = ok_or (reply_of_number e.has_old e.old) fault.Line >>= λ reply.
     if not (nat_lt e.processor 4096) then Err fault.Processor
     else (ok_or (slice_get (numbers_of g.numbers e.processor) e.index) fault.Range >>= λ n.
     answer_added g n reply)

@@ -10,7 +10,7 @@ use Rattle.trace_watch.specs.declared.state.Glimpse.{Glimpse}
 use Rattle.trace_watch.specs.States.{Config}
 use Rattle.trace_watch.specs.Watched.{Watched}
 use Rattle.machine_record.specs.declared.row.LineRow.{LineRow}
-use Rattle.c_handles.specs.Numbered.{op_numbered, reply_numbered}
+use Rattle.packet.specs.Numbers.{op_of_number, reply_of_number}
 
 -- what rows gave: the last operation; the effects and glimpses of a configuration that hasn't ended, and
 -- the configurations of a word that hasn't; the words, the open operations and the newest number
@@ -78,13 +78,13 @@ with_last p number = record p { last = Some number }
 -- one row more
 abbrev pub after_row : Parts → LineRow → Parts
 after_row p row =
-    if row.operation == 16 then with_effect p row.second (reply_numbered row.lasts row.first)
+    if row.operation == 16 then with_effect p row.second (reply_of_number row.lasts row.first)
     else (if row.operation == 17 then with_glimpse p row.first row.second
     else (if row.operation == 18 then with_config p row.first
     else (if row.operation == 19 then with_word p
     else (if row.operation == 20 then with_call p row.first
     else (if row.operation == 21 then with_last p row.first
-    else with_operation p row.address (op_numbered row.operation row.first row.second))))))
+    else with_operation p row.address (op_of_number row.operation row.first row.second))))))
 
 -- rows more
 abbrev pub after_rows : Parts → List LineRow → Parts

@@ -2,6 +2,9 @@
 use Rattle.std.specs.Prelude.{◌≡◌, ℕ, List, [], ◌∷◌, ◌++◌, map, flat_map, Option, Some, None, Ok, codes}
 use Rattle.packet.specs.declared.kinds.Op.{Op}
 use Rattle.packet.specs.declared.kinds.Reply.{Reply}
+use Rattle.packet.specs.Kinds.{code_of}
+use Rattle.packet.specs.Numbers.{code_number, reply_number}
+use Rattle.packet.specs.Spelling.{first_value, old_word, second_value}
 use Rattle.trace_laws.specs.declared.event.Call.{Call}
 use Rattle.trace_watch.specs.declared.state.Effect.{Effect}
 use Rattle.trace_watch.specs.declared.state.Glimpse.{Glimpse}
@@ -11,7 +14,6 @@ use Rattle.machine_record.specs.declared.row.LineRow.{LineRow}
 use Rattle.machine_record.specs.Recording.{Recording}
 use Rattle.machine_record.specs.Bytes.{record_bytes}
 use Rattle.machine_record.specs.Reading.{record_in_bytes}
-use Rattle.c_handles.specs.Numbered.{first_value, has_old, operation_number, second_value, word_before}
 
 -- a row of a kind with two numbers
 abbrev pub numbers_row : ℕ → ℕ → ℕ → LineRow
@@ -28,7 +30,7 @@ numbers_row kind first second = record {
 abbrev pub operation_row : Op → ℕ → LineRow
 operation_row op address = record {
   processor = 0;
-  operation = operation_number op;
+  operation = code_number (code_of op);
   address = address;
   lasts = 0;
   first = first_value op;
@@ -41,8 +43,8 @@ reply_row reply newest = record {
   processor = 0;
   operation = 16;
   address = 0;
-  lasts = has_old reply;
-  first = word_before reply;
+  lasts = reply_number reply;
+  first = old_word reply;
   second = newest;
 }
 

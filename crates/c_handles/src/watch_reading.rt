@@ -2,14 +2,13 @@
 
 ghost use Rattle.std.specs.Prelude.{◌≡◌, IfOk, OnOk};
 ghost use Rattle.trace_watch.specs.Watched.{watched};
-ghost use Rattle.c_handles.specs.Numbered.{op_numbered, reply_numbered};
+ghost use Rattle.packet.specs.Numbers.{op_of_number, reply_of_number};
 ghost use Rattle.c_handles.specs.Views.{parts_of};
 ghost use Rattle.c_handles.specs.WatchReading.{after_row, after_rows, no_parts, watched_in, with_call, with_config};
 ghost use Rattle.c_handles.specs.WatchReading.{with_effect, with_glimpse, with_operation, with_word};
 
-use crate::record::{op_numbered, reply_numbered};
 use machine_record::LineRow;
-use packet::{Op, Operation};
+use packet::{Op, Operation, Reply};
 use std::alloc::{AllocError, Allocator};
 use std::mem::replace;
 use trace_laws::Call;
@@ -52,9 +51,9 @@ impl<A: Allocator + Copy> Parts<A> {
     /// Takes an operation, if the row is one of an operation.
     fn take_operation(&mut self, row: LineRow)
         ensures { parts_of self.new ≡ with_operation (parts_of self.old) row.address
-            (op_numbered row.operation row.first row.second) }
+            (op_of_number row.operation row.first row.second) }
     {
-        if let Some(op) = op_numbered(row.operation, row.first, row.second) {
+        if let Some(op) = Op::numbered(row.operation, row.first, row.second) {
             let address = row.address;
             self.operation = Operation { address, op };
         }
@@ -63,9 +62,9 @@ impl<A: Allocator + Copy> Parts<A> {
     /// Takes an effect of the last operation.
     fn take_effect(&mut self, row: LineRow) -> Result<(), AllocError>
         ensures { OnOk result (parts_of self.new ≡ with_effect (parts_of self.old) row.second
-            (reply_numbered row.lasts row.first)) }
+            (reply_of_number row.lasts row.first)) }
     {
-        if let Some(reply) = reply_numbered(row.lasts, row.first) {
+        if let Some(reply) = Reply::numbered(row.lasts, row.first) {
             self.effects.push(Effect {
                 op: self.operation.op,
                 reply,

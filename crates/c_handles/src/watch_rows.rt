@@ -6,7 +6,6 @@ ghost use Rattle.trace_watch.specs.Watched.{watched};
 ghost use Rattle.c_handles.specs.WatchRows.{call_rows, config_rows, effect_rows, glimpse_row, last_rows};
 ghost use Rattle.c_handles.specs.WatchRows.{numbers_row, operation_row, reply_row, watch_rows, word_rows};
 
-use crate::record::{first_value, has_old, old_word, operation_number, second_value};
 use machine_record::LineRow;
 use packet::{Op, Reply};
 use std::alloc::{AllocError, Allocator};
@@ -51,11 +50,11 @@ fn operation_row(op: Op, address: u32) -> LineRow
 {
     LineRow {
         processor: 0,
-        operation: operation_number(op),
+        operation: op.code().number(),
         address,
         lasts: 0,
-        first: first_value(op),
-        second: second_value(op),
+        first: op.first_value(),
+        second: op.second_value(),
     }
 }
 
@@ -67,8 +66,8 @@ fn reply_row(reply: Reply, newest: u64) -> LineRow
         processor: 0,
         operation: EFFECT,
         address: 0,
-        lasts: has_old(reply),
-        first: old_word(reply),
+        lasts: reply.number(),
+        first: reply.old_word(),
         second: newest,
     }
 }

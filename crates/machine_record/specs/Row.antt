@@ -1,6 +1,10 @@
 -- A line that a processor is handed, as numbers (this project's own format).
-use Rattle.std.specs.Prelude.{ℕ, ◌+◌, ◌*◌, ◌==◌, ◌||◌, Bool, nat_lt, List, [], ◌∷◌, Option, Some, None}
-use Rattle.std.specs.Prelude.{if◌then◌else◌, slice_get}
+use Rattle.std.specs.Prelude.{ℕ, ◌+◌, ◌*◌, ◌==◌, ◌||◌, Bool, nat_lt, Option, Some, None, option_map}
+use Rattle.std.specs.Prelude.{if◌then◌else◌}
+use Rattle.packet.specs.declared.kinds.Code.{Code}
+use Rattle.packet.specs.declared.kinds.Code.TheVariants as code
+use Rattle.packet.specs.Numbers.{code_number, code_of_number}
+use Rattle.script.specs.Form.{line_with}
 use Rattle.script_lines.specs.declared.line.Line.{Line}
 use Rattle.script_lines.specs.declared.line.Line.TheVariants as line
 use Rattle.script_lines.specs.declared.line.Value.{Value}
@@ -29,18 +33,22 @@ row_with p kind address one two = record {
   second = number_of_value two;
 }
 
+-- the row of an operation, whose kind is its number
+abbrev pub row_of_operation : ℕ → Code → ℕ → Value → Value → LineRow
+row_of_operation p c address one two = row_with p (code_number c) address one two
+
 -- the row of a line that a processor is handed; a value that the line has not is 0
 abbrev pub row_of_line : ℕ → Line → LineRow
-row_of_line p (line.Load a) = row_with p 0 a (Number 0) (Number 0)
-row_of_line p (line.Store a v) = row_with p 1 a v (Number 0)
-row_of_line p (line.Swap a v) = row_with p 2 a v (Number 0)
-row_of_line p (line.Cas a e n) = row_with p 3 a e n
-row_of_line p (line.Add a v) = row_with p 4 a v (Number 0)
-row_of_line p (line.And a v) = row_with p 5 a v (Number 0)
-row_of_line p (line.Or a v) = row_with p 6 a v (Number 0)
-row_of_line p (line.Xor a v) = row_with p 7 a v (Number 0)
-row_of_line p (line.Max a v) = row_with p 8 a v (Number 0)
-row_of_line p (line.Min a v) = row_with p 9 a v (Number 0)
+row_of_line p (line.Load a) = row_of_operation p code.Load a (Number 0) (Number 0)
+row_of_line p (line.Store a v) = row_of_operation p code.Store a v (Number 0)
+row_of_line p (line.Swap a v) = row_of_operation p code.Swap a v (Number 0)
+row_of_line p (line.Cas a e n) = row_of_operation p code.Cas a e n
+row_of_line p (line.Add a v) = row_of_operation p code.Add a v (Number 0)
+row_of_line p (line.And a v) = row_of_operation p code.And a v (Number 0)
+row_of_line p (line.Or a v) = row_of_operation p code.Or a v (Number 0)
+row_of_line p (line.Xor a v) = row_of_operation p code.Xor a v (Number 0)
+row_of_line p (line.Max a v) = row_of_operation p code.Max a v (Number 0)
+row_of_line p (line.Min a v) = row_of_operation p code.Min a v (Number 0)
 row_of_line p line.Fence = row_with p 10 0 (Number 0) (Number 0)
 row_of_line p (line.Spin a v m) = row_with p 11 a (Number v) (Number m)
 
@@ -60,17 +68,12 @@ abbrev pub spin_of : ℕ → ℕ → ℕ → Option Line
 spin_of address sought loads =
     if nat_lt loads 4294967296 then Some (line.Spin address sought loads) else None
 
--- the lines by their kinds, but for a spin
-abbrev pub plain_lines : ℕ → Value → Value → List Line
-plain_lines a one two =
-    line.Load a ∷ line.Store a one ∷ line.Swap a one ∷ line.Cas a one two ∷ line.Add a one
-    ∷ line.And a one ∷ line.Or a one ∷ line.Xor a one ∷ line.Max a one ∷ line.Min a one
-    ∷ line.Fence ∷ []
-
--- the line of a kind
+-- the line of a kind: an operation by its number, a fence or a spin
 abbrev pub line_numbered : ℕ → ℕ → Value → Value → ℕ → ℕ → Option Line
 line_numbered kind address one two sought loads =
-    if kind == 11 then spin_of address sought loads else slice_get (plain_lines address one two) kind
+    if kind == 11 then spin_of address sought loads
+    else (if kind == 10 then Some line.Fence
+    else option_map (λ c. line_with c address one two) (code_of_number kind))
 
 -- the line of a row, if it is one
 abbrev pub line_of_row : LineRow → Option Line

@@ -1,9 +1,13 @@
 //! A line that a processor is handed, as numbers.
 
-ghost use Rattle.std.specs.Prelude.{◌≡◌};
-ghost use Rattle.machine_record.specs.Row.{first_is_last, second_is_last, last_bit, line_numbered, line_of_row, number_of_value};
-ghost use Rattle.machine_record.specs.Row.{row_of_line, row_with, spin_of, value_of_number};
+ghost use Rattle.std.specs.Prelude.{◌≡◌, option_map};
+ghost use Rattle.packet.specs.Numbers.{code_of_number};
+ghost use Rattle.script.specs.Form.{line_with};
+ghost use Rattle.machine_record.specs.Row.{first_is_last, second_is_last, last_bit, line_numbered, line_of_row};
+ghost use Rattle.machine_record.specs.Row.{number_of_value, row_of_line, row_of_operation, row_with, spin_of};
+ghost use Rattle.machine_record.specs.Row.{value_of_number};
 
+use packet::Code;
 use script::{Line, Value};
 
 /// A line that a processor is handed: the processor, the number of the line's kind (0 to 9 an operation, 10
@@ -52,6 +56,13 @@ fn row_with(processor: u32, operation: u32, address: u32, one: Value, two: Value
     }
 }
 
+/// The row of an operation, whose kind is its number.
+fn row_of_operation(processor: u32, code: Code, address: u32, one: Value, two: Value) -> LineRow
+    ensures { result ≡ row_of_operation processor code address one two }
+{
+    row_with(processor, code.number(), address, one, two)
+}
+
 impl LineRow {
     /// The row of a line that a processor is handed.
     pub fn of(processor: u32, line: Line) -> LineRow
@@ -59,16 +70,16 @@ impl LineRow {
     {
         let none = Value::Number(0);
         match line {
-            Line::Load(a) => row_with(processor, 0, a, none, none),
-            Line::Store(a, v) => row_with(processor, 1, a, v, none),
-            Line::Swap(a, v) => row_with(processor, 2, a, v, none),
-            Line::Cas(a, e, n) => row_with(processor, 3, a, e, n),
-            Line::Add(a, v) => row_with(processor, 4, a, v, none),
-            Line::And(a, v) => row_with(processor, 5, a, v, none),
-            Line::Or(a, v) => row_with(processor, 6, a, v, none),
-            Line::Xor(a, v) => row_with(processor, 7, a, v, none),
-            Line::Max(a, v) => row_with(processor, 8, a, v, none),
-            Line::Min(a, v) => row_with(processor, 9, a, v, none),
+            Line::Load(a) => row_of_operation(processor, Code::Load, a, none, none),
+            Line::Store(a, v) => row_of_operation(processor, Code::Store, a, v, none),
+            Line::Swap(a, v) => row_of_operation(processor, Code::Swap, a, v, none),
+            Line::Cas(a, e, n) => row_of_operation(processor, Code::Cas, a, e, n),
+            Line::Add(a, v) => row_of_operation(processor, Code::Add, a, v, none),
+            Line::And(a, v) => row_of_operation(processor, Code::And, a, v, none),
+            Line::Or(a, v) => row_of_operation(processor, Code::Or, a, v, none),
+            Line::Xor(a, v) => row_of_operation(processor, Code::Xor, a, v, none),
+            Line::Max(a, v) => row_of_operation(processor, Code::Max, a, v, none),
+            Line::Min(a, v) => row_of_operation(processor, Code::Min, a, v, none),
             Line::Fence => row_with(processor, 10, 0, none, none),
             Line::Spin(a, v, m) => row_with(
                 processor,
@@ -133,7 +144,36 @@ fn spin_of(address: u32, sought: u64, loads: u64) -> Option<Line>
     }
 }
 
-/// The line of a kind.
+/// The line of an operation, with as many of these values as it takes.
+fn line_with(code: Code, address: u32, one: Value, two: Value) -> Line
+    ensures { result ≡ line_with code address one two }
+{
+    match code {
+        Code::Load => Line::Load(address),
+        Code::Store => Line::Store(address, one),
+        Code::Swap => Line::Swap(address, one),
+        Code::Cas => Line::Cas(address, one, two),
+        Code::Add => Line::Add(address, one),
+        Code::And => Line::And(address, one),
+        Code::Or => Line::Or(address, one),
+        Code::Xor => Line::Xor(address, one),
+        Code::Max => Line::Max(address, one),
+        Code::Min => Line::Min(address, one),
+    }
+}
+
+/// The line of the operation of a number; `None` exactly where none has it.
+fn operation_line(number: u32, address: u32, one: Value, two: Value) -> Option<Line>
+    ensures { result
+        ≡ option_map (λ c. line_with c address one two) (code_of_number number) }
+{
+    match Code::numbered(number) {
+        Some(code) => Some(line_with(code, address, one, two)),
+        None => None,
+    }
+}
+
+/// The line of a kind: an operation by its number, a fence or a spin.
 fn line_numbered(
     kind: u32,
     address: u32,
@@ -144,21 +184,9 @@ fn line_numbered(
 ) -> Option<Line>
     ensures { result ≡ line_numbered kind address one two sought loads }
 {
-    if kind == 11 {
-        return spin_of(address, sought, loads);
-    }
     match kind {
-        0 => Some(Line::Load(address)),
-        1 => Some(Line::Store(address, one)),
-        2 => Some(Line::Swap(address, one)),
-        3 => Some(Line::Cas(address, one, two)),
-        4 => Some(Line::Add(address, one)),
-        5 => Some(Line::And(address, one)),
-        6 => Some(Line::Or(address, one)),
-        7 => Some(Line::Xor(address, one)),
-        8 => Some(Line::Max(address, one)),
-        9 => Some(Line::Min(address, one)),
         10 => Some(Line::Fence),
-        _ => None,
+        11 => spin_of(address, sought, loads),
+        _ => operation_line(kind, address, one, two),
     }
 }

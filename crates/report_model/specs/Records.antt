@@ -1,12 +1,8 @@
 -- Records of a log as C has them: what each says, and the log that they are (this project's own
 -- format).
 use Rattle.std.specs.Prelude.{ℕ, ◌==◌, List, [], ◌∷◌, Option, Some, None, if◌then◌else◌}
-use Rattle.std.specs.Prelude.{option_map, slice_get, slice_index_or, ok_or, Result}
-use Rattle.packet.specs.declared.kinds.Op.{Op}
-use Rattle.packet.specs.declared.kinds.Reply.{Reply}
-use Rattle.packet.specs.declared.kinds.Reply.TheVariants.{Old, Ok as Stored}
-use Rattle.packet.specs.Names.{every_code}
-use Rattle.packet.specs.Reading.{op_with}
+use Rattle.std.specs.Prelude.{option_map, slice_index_or, ok_or, Result}
+use Rattle.packet.specs.Numbers.{op_of_number, reply_of_number}
 use Rattle.lexer.specs.Outcome.{◌>>=◌}
 use Rattle.lexer.specs.declared.refusal.Refusal.{Refusal}
 use Rattle.model_text.specs.declared.reason.LogReason.{LogReason}
@@ -17,15 +13,6 @@ use Rattle.report_model.specs.declared.entry.LogEntry.TheVariants as entry
 use Rattle.report_model.specs.declared.entry.Named.{Named}
 use Rattle.report_model.specs.declared.record.LogRecord.{LogRecord}
 use Rattle.report_model.specs.LogEntries.{after_entry, entries_log, numbered_entries}
-
--- the operation of a number, with these values: operations are numbered from 0, load first
-abbrev pub op_of_number : ℕ → ℕ → ℕ → Option Op
-op_of_number number first second =
-    option_map (λ c. op_with c first second) (slice_get every_code number)
-
--- the reply that is `ok`, numbered 0, or an old word, numbered 1
-abbrev pub reply_of_number : ℕ → ℕ → Option Reply
-reply_of_number number old = slice_get (Stored ∷ Old old ∷ []) number
 
 -- what a record's processor made: a fence, numbered 10, or an operation
 abbrev pub record_made : LogRecord → Option LogEntry

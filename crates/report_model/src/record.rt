@@ -1,9 +1,8 @@
 //! What a record of a log says, as C has it.
 
 ghost use Rattle.std.specs.Prelude.{◌≡◌};
-ghost use Rattle.report_model.specs.Records.{entry_of_record, op_of_number, record_made};
+ghost use Rattle.report_model.specs.Records.{entry_of_record, record_made};
 ghost use Rattle.report_model.specs.Records.{record_name, record_replied, record_writer};
-ghost use Rattle.report_model.specs.Records.{reply_of_number};
 
 use crate::entry::{LogEntry, Named};
 use packet::{Op, Operation, Reply};
@@ -36,36 +35,6 @@ pub struct LogRecord {
     pub old: u64,
 }
 
-/// The operation of a number, with these values; `None` exactly where none has it.
-fn op_of_number(number: u32, first: u64, second: u64) -> Option<Op>
-    ensures { result ≡ op_of_number number first second }
-{
-    match number {
-        0 => Some(Op::Load),
-        1 => Some(Op::Store(first)),
-        2 => Some(Op::Swap(first)),
-        3 => Some(Op::Cas(first, second)),
-        4 => Some(Op::Add(first)),
-        5 => Some(Op::And(first)),
-        6 => Some(Op::Or(first)),
-        7 => Some(Op::Xor(first)),
-        8 => Some(Op::Max(first)),
-        9 => Some(Op::Min(first)),
-        _ => None,
-    }
-}
-
-/// The reply that is `ok` or an old word; `None` exactly where it is neither.
-fn reply_of_number(number: u32, old: u64) -> Option<Reply>
-    ensures { result ≡ reply_of_number number old }
-{
-    match number {
-        0 => Some(Reply::Ok),
-        1 => Some(Reply::Old(old)),
-        _ => None,
-    }
-}
-
 impl LogRecord {
     /// The operation that the record is about.
     fn name(self) -> Named
@@ -95,7 +64,7 @@ impl LogRecord {
             return Some(LogEntry::Made(self.processor, None));
         }
         let address = self.address;
-        match op_of_number(self.operation, self.first, self.second) {
+        match Op::numbered(self.operation, self.first, self.second) {
             Some(op) => Some(LogEntry::Made(self.processor, Some(Operation { address, op }))),
             None => None,
         }
@@ -105,7 +74,7 @@ impl LogRecord {
     fn replied(self) -> Option<LogEntry>
         ensures { result ≡ record_replied self }
     {
-        match reply_of_number(self.has_old, self.old) {
+        match Reply::numbered(self.has_old, self.old) {
             Some(reply) => Some(LogEntry::Replied(self.name(), reply)),
             None => None,
         }

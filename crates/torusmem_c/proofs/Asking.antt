@@ -12,14 +12,15 @@ use Rattle.core_laws.specs.Core.{Load}
 use Rattle.core_laws.specs.Appended.{load_with}
 use Rattle.core_laws.specs.Handed.{refused}
 use Rattle.core_laws.specs.Machine.{IsAfter}
+use Rattle.machine_record.specs.Row.{first_is_last, line_numbered, second_is_last, value_of_number}
 use Rattle.machine_asked.specs.Asked.{Asked, IsNumberedLine, has_spin, index_asked, is_behind_spin, is_operation}
 use Rattle.torusmem_c.specs.declared.outcome.Outcome.{Outcome}
 use Rattle.torusmem_c.specs.declared.outcome.Code.TheVariants as code
 use Rattle.torusmem_c.specs.Outcome.{c_outcome}
-use Rattle.torusmem_c.specs.Appending.{IsHanded, Numbers, is_first_last, is_second_last, line_named, line_said, numbered_line, c_operation, c_value}
+use Rattle.torusmem_c.specs.Appending.{IsHanded, Numbers, line_named, line_said, second_number, c_operation}
 
 -- the lines below ten are operations
-single : (number a : ℕ) (one two : Value) (sought loads : ℕ) (line : Line) → number ≤ 9 → numbered_line number a one two sought loads ≡ Some line
+single : (number a : ℕ) (one two : Value) (sought loads : ℕ) (line : Line) → number ≤ 9 → line_numbered number a one two sought loads ≡ Some line
     → is_operation line ≡ true
 single zero a one two sought loads line low e = subst (λ (x : Line). is_operation x ≡ true) (same_Some _ line e) refl
 single (suc zero) a one two sought loads line low e = subst (λ (x : Line). is_operation x ≡ true) (same_Some _ line e) refl
@@ -45,7 +46,8 @@ said false found line e = absurd (none-some line e)
 
 pub named_operation : (number a first second lasts : ℕ) → IfSome (c_operation number a first second lasts) (λ line. is_operation line ≡ true)
 named_operation number a first second lasts = by_test (nat_le number 9) (line_named number a first second lasts) (λ low line e.
-    single number a (c_value (is_first_last lasts) first) (c_value (is_second_last lasts) second) first second line (leb-true number 9 low)
+    single number a (value_of_number (first_is_last lasts) first) (value_of_number (second_is_last lasts) (second_number number second)) first
+    (second_number number second) line (leb-true number 9 low)
     (said (nat_le lasts 3) (line_said number a first second lasts) line e))
 
 -- the first reason to refuse a line is that there is no processor

@@ -1,5 +1,5 @@
 -- A further line for a script, as C sees it.
-use Rattle.std.specs.Prelude.{◌≡◌, ◌⊎◌, ◌||◌, ◌==◌, ℕ, nat_le, Bool, true, false, List, [], ◌∷◌}
+use Rattle.std.specs.Prelude.{◌≡◌, ◌⊎◌, ◌==◌, ℕ, nat_le}
 use Rattle.std.specs.Prelude.{map, min, Option, Some, None}
 use Rattle.std.specs.Prelude.{slice_get, if◌then◌else◌}
 use Rattle.std.specs.Bool.{MatchBool}
@@ -7,9 +7,7 @@ use Rattle.torus.specs.declared.fault.Fault.{Fault}
 use Rattle.torus.specs.declared.fault.Fault.TheVariants as fault
 use Rattle.torus.specs.declared.step.Step.{Step}
 use Rattle.script_lines.specs.declared.line.Line.{Line}
-use Rattle.script_lines.specs.declared.line.Line.TheVariants as line
-use Rattle.script_lines.specs.declared.line.Value.{Value}
-use Rattle.script_lines.specs.declared.line.Value.TheVariants.{Number, Last}
+use Rattle.machine_record.specs.Row.{line_of_row}
 use Rattle.core_laws.specs.Machine.{IsAfter}
 use Rattle.machine_asked.specs.Asked.{Asked, IsNumberedLine, has_spin, is_behind_spin, spins_with}
 use Rattle.core_laws.specs.Core.{Load}
@@ -20,46 +18,22 @@ use Rattle.torusmem_c.specs.declared.outcome.Code.{Code}
 use Rattle.torusmem_c.specs.declared.outcome.Code.TheVariants as code
 use Rattle.torusmem_c.specs.Outcome.{c_outcome}
 
--- a value: a number, or `last`
-abbrev pub c_value : Bool → ℕ → Value
-c_value true number = Last
-c_value false number = Number number
+-- the second number of a line; of a spin, numbered 11, it is the loads, cut to 4097, since a machine
+-- takes at most 4096
+abbrev pub second_number : ℕ → ℕ → ℕ
+second_number number second = if number == 11 then min second 4097 else second
 
--- whether the first value is `last`, by the number that says so of both: 1 of the first, 2 of the
--- second, 3 of both
-abbrev pub is_first_last : ℕ → Bool
-is_first_last lasts = (lasts == 1) || (lasts == 3)
-
-abbrev pub is_second_last : ℕ → Bool
-is_second_last lasts = (lasts == 2) || (lasts == 3)
-
--- the lines of an address and two values by their numbers, from 0: the operations, a fence, and a
--- spin for a number, with so many loads; no spin has more than 4096
-abbrev pub lines : ℕ → Value → Value → ℕ → ℕ → List Line
-lines address one two sought loads =
-    line.Load address
-    ∷ line.Store address one
-    ∷ line.Swap address one
-    ∷ line.Cas address one two
-    ∷ line.Add address one
-    ∷ line.And address one
-    ∷ line.Or address one
-    ∷ line.Xor address one
-    ∷ line.Max address one
-    ∷ line.Min address one
-    ∷ line.Fence
-    ∷ line.Spin address sought (min loads 4097)
-    ∷ []
-
--- the line that has a number
-abbrev pub numbered_line : ℕ → ℕ → Value → Value → ℕ → ℕ → Option Line
-numbered_line number address one two sought loads = slice_get (lines address one two sought loads) number
-
--- the line that has a number, with two numbers of which `lasts` says whether they stand for `last`
+-- the line that has a number, from 0: an operation, a fence or a spin, with two numbers of which
+-- `lasts` says whether they stand for `last`: 1 for the first, 2 for the second, 3 for both
 abbrev pub line_said : ℕ → ℕ → ℕ → ℕ → ℕ → Option Line
-line_said number address first second lasts =
-    numbered_line number address (c_value (is_first_last lasts) first)
-    (c_value (is_second_last lasts) second) first second
+line_said number address first second lasts = line_of_row (record {
+  processor = 0;
+  operation = number;
+  address = address;
+  lasts = lasts;
+  first = first;
+  second = second_number number second;
+})
 
 -- the line that a call from C names; where `lasts` has another bit there is none
 abbrev pub line_named : ℕ → ℕ → ℕ → ℕ → ℕ → Option Line

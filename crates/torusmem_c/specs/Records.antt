@@ -1,12 +1,14 @@
 -- Answers and entries, as C sees them (this project's own format).
 use Rattle.std.specs.Prelude.{ℕ, Option, Some, None}
+use Rattle.packet.specs.Kinds.{code_of}
+use Rattle.packet.specs.Numbers.{code_number, reply_number}
+use Rattle.packet.specs.Spelling.{first_value, old_word, second_value}
 use Rattle.home_bank.specs.declared.entry.Entry.{Entry}
 use Rattle.one_order.specs.declared.answer.Answer.{Answer}
 use Rattle.torusmem_c.specs.declared.outcome.Code.{Code}
 use Rattle.torusmem_c.specs.declared.outcome.Code.TheVariants as code
 use Rattle.torusmem_c.specs.declared.records.AnswerRecord.{AnswerRecord}
 use Rattle.torusmem_c.specs.declared.records.EntryRecord.{EntryRecord}
-use Rattle.c_handles.specs.Numbered.{first_value, has_old, operation_number, second_value, word_before}
 use Rattle.torusmem_c.specs.Outcome.{c_code}
 
 -- what C sees of an answer
@@ -14,13 +16,13 @@ abbrev pub answer_record : Answer → AnswerRecord
 answer_record a = record {
   code = c_code code.Done;
   index = a.index;
-  operation = operation_number a.op;
+  operation = code_number (code_of a.op);
   bank = a.bank;
   place = a.place;
-  has_old = has_old a.reply;
+  has_old = reply_number a.reply;
   first = first_value a.op;
   second = second_value a.op;
-  old = word_before a.reply;
+  old = old_word a.reply;
 }
 
 -- a code, and all else 0
@@ -49,11 +51,11 @@ entry_record e = record {
   source = e.source;
   tag = e.tag.0;
   address = e.address;
-  operation = operation_number e.op;
-  has_old = has_old e.reply;
+  operation = code_number (code_of e.op);
+  has_old = reply_number e.reply;
   first = first_value e.op;
   second = second_value e.op;
-  old = word_before e.reply;
+  old = old_word e.reply;
 }
 
 -- a code, and all else 0

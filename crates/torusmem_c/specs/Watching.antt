@@ -3,7 +3,7 @@ use Rattle.std.specs.Prelude.{◌≡◌, ℕ, List, [], Option, Some, None, Resu
 use Rattle.std.specs.Global.{Global}
 use Rattle.trace_laws.specs.declared.event.Event.{Event}
 use Rattle.trace_laws.specs.declared.event.Event.TheVariants.{Issue, Answer}
-use Rattle.c_handles.specs.Numbered.{op_numbered, reply_numbered}
+use Rattle.packet.specs.Numbers.{op_of_number, reply_of_number}
 use Rattle.trace_watch.specs.declared.watch.Watch.{Watch}
 use Rattle.trace_watch.specs.declared.watch.Seen.{Seen}
 use Rattle.trace_watch.specs.declared.watch.Seen.TheVariants.{Linearizable, NotLinearizable, NoTrace}
@@ -29,11 +29,11 @@ BeginsWatch opening (Some w) new r = (new ≡ Some w) × (r ≡ c_outcome code.F
 abbrev pub issue_named : ℕ → ℕ → ℕ → ℕ → ℕ → Option Event
 issue_named id operation address first second =
     option_map (λ op. Issue (record { id = id; operation = record { address = address; op = op } }))
-    (op_numbered operation first second)
+    (op_of_number operation first second)
 
 -- the answer by a reply that there is
 abbrev pub answer_named : ℕ → ℕ → ℕ → Option Event
-answer_named id has_old old = option_map (λ reply. Answer id reply) (reply_numbered has_old old)
+answer_named id has_old old = option_map (λ reply. Answer id reply) (reply_of_number has_old old)
 
 -- the code of what is seen of an event, or of why it isn't judged
 abbrev pub told_outcome : Result Seen Full → Outcome

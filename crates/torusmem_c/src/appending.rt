@@ -3,67 +3,25 @@
 ghost use Rattle.std.specs.Prelude.{◌≡◌, ◌⊎◌, IfSome, false, true, unwrap_or};
 ghost use Rattle.c_handles.specs.HeldMachine.{held};
 ghost use Rattle.machine_asked.specs.Asked.{is_behind_spin, is_operation};
-ghost use Rattle.torusmem_c.specs.Appending.{Appends, AsksAppend, Numbers, RefusesAppending, is_first_last};
-ghost use Rattle.torusmem_c.specs.Appending.{is_second_last, line_named, line_said, numbered_line};
-ghost use Rattle.torusmem_c.specs.Appending.{c_operation, c_value};
+ghost use Rattle.torusmem_c.specs.Appending.{Appends, AsksAppend, Numbers, RefusesAppending, c_operation};
+ghost use Rattle.torusmem_c.specs.Appending.{line_named, line_said, second_number};
 ghost use Rattle.torusmem_c.specs.Held.{OfAsked};
 ghost use Rattle.torusmem_c.specs.Outcome.{c_outcome};
 
 use crate::outcome::{Code, Outcome};
 use c_handles::MachineHandle;
-use machine_record::RecordedMachine;
-use script::{Line, Value};
+use machine_record::{LineRow, RecordedMachine};
+use script::Line;
 
-/// A value: a number, or `last`.
-fn value_of(is_last: bool, number: u64) -> Value
-    ensures { result ≡ c_value is_last number }
+/// The second number of a line; of a spin, numbered 11, it is the loads, cut to 4097, since a machine takes
+/// at most 4096.
+fn second_number(number: u32, second: u64) -> u64
+    ensures { result ≡ second_number number second }
 {
-    if is_last {
-        Value::Last
+    if number == 11 {
+        second.min(4097)
     } else {
-        Value::Number(number)
-    }
-}
-
-/// Whether the first value is `last`.
-fn is_first_last(lasts: u32) -> bool
-    ensures { result ≡ is_first_last lasts }
-{
-    lasts == 1 || lasts == 3
-}
-
-/// Whether the second value is.
-fn is_second_last(lasts: u32) -> bool
-    ensures { result ≡ is_second_last lasts }
-{
-    lasts == 2 || lasts == 3
-}
-
-/// The line that has this number, from 0: an operation, a fence, or a spin for a number.
-fn line_of(
-    number: u32,
-    address: u32,
-    one: Value,
-    two: Value,
-    sought: u64,
-    loads: u64,
-) -> Option<Line>
-    ensures { result ≡ numbered_line number address one two sought loads }
-{
-    match number {
-        0 => Some(Line::Load(address)),
-        1 => Some(Line::Store(address, one)),
-        2 => Some(Line::Swap(address, one)),
-        3 => Some(Line::Cas(address, one, two)),
-        4 => Some(Line::Add(address, one)),
-        5 => Some(Line::And(address, one)),
-        6 => Some(Line::Or(address, one)),
-        7 => Some(Line::Xor(address, one)),
-        8 => Some(Line::Max(address, one)),
-        9 => Some(Line::Min(address, one)),
-        10 => Some(Line::Fence),
-        11 => Some(Line::Spin(address, sought, loads.min(4097) as u32)),
-        _ => None,
+        second
     }
 }
 
@@ -71,9 +29,15 @@ fn line_of(
 fn line_said(number: u32, address: u32, first: u64, second: u64, lasts: u32) -> Option<Line>
     ensures { result ≡ line_said number address first second lasts }
 {
-    let one = value_of(is_first_last(lasts), first);
-    let two = value_of(is_second_last(lasts), second);
-    line_of(number, address, one, two, first, second)
+    let row = LineRow {
+        processor: 0,
+        operation: number,
+        address,
+        lasts,
+        first,
+        second: second_number(number, second),
+    };
+    row.line()
 }
 
 /// That line; `None` also where `lasts` has another bit.

@@ -6,7 +6,6 @@ ghost use Rattle.torusmem_c.specs.Records.{answer_record, no_answer, answer_or_n
 ghost use Rattle.torusmem_c.specs.Records.{entry_or_none};
 
 use crate::outcome::Code;
-use c_handles::record::{first_value, has_old, old_word, operation_number, second_value};
 use machine_report::{Answer, Entry};
 
 /// An operation that a processor has had answered; its code is that of done. Where there is none, the
@@ -33,13 +32,13 @@ impl AnswerRecord {
         AnswerRecord {
             code: Code::Done.number(),
             index: answer.index,
-            operation: operation_number(answer.op),
+            operation: answer.op.code().number(),
             bank: answer.bank,
             place: answer.place,
-            has_old: has_old(answer.reply),
-            first: first_value(answer.op),
-            second: second_value(answer.op),
-            old: old_word(answer.reply),
+            has_old: answer.reply.number(),
+            first: answer.op.first_value(),
+            second: answer.op.second_value(),
+            old: answer.reply.old_word(),
         }
     }
 
@@ -97,11 +96,11 @@ impl EntryRecord {
             source: entry.source,
             tag: entry.tag.0,
             address: entry.address,
-            operation: operation_number(entry.op),
-            has_old: has_old(entry.reply),
-            first: first_value(entry.op),
-            second: second_value(entry.op),
-            old: old_word(entry.reply),
+            operation: entry.op.code().number(),
+            has_old: entry.reply.number(),
+            first: entry.op.first_value(),
+            second: entry.op.second_value(),
+            old: entry.reply.old_word(),
         }
     }
 

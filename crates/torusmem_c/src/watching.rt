@@ -6,9 +6,8 @@ ghost use Rattle.torusmem_c.specs.Watching.{BeginsWatch, OnWatch, TakesEvent, an
 ghost use Rattle.torusmem_c.specs.Watching.{told_outcome};
 
 use crate::outcome::{Code, Outcome, no_memory};
-use c_handles::record::{op_numbered, reply_numbered};
 use c_handles::{Kept, WatchHandle};
-use packet::Operation;
+use packet::{Op, Operation, Reply};
 use std::alloc::Global;
 use trace_laws::{Call, Event};
 use trace_watch::{Full, Seen, begin};
@@ -50,7 +49,7 @@ pub extern "C" fn torusmem_watch_end(alloc: Global, handle: &mut WatchHandle)
 fn issue_named(id: u64, operation: u32, address: u32, first: u64, second: u64) -> Option<Event>
     ensures { result ≡ issue_named id operation address first second }
 {
-    match op_numbered(operation, first, second) {
+    match Op::numbered(operation, first, second) {
         Some(op) => Some(Event::Issue(Call {
             id,
             operation: Operation { address, op },
@@ -63,7 +62,7 @@ fn issue_named(id: u64, operation: u32, address: u32, first: u64, second: u64) -
 fn answer_named(id: u64, has_old: u32, old: u64) -> Option<Event>
     ensures { result ≡ answer_named id has_old old }
 {
-    match reply_numbered(has_old, old) {
+    match Reply::numbered(has_old, old) {
         Some(reply) => Some(Event::Answer(id, reply)),
         None => None,
     }
