@@ -1,5 +1,5 @@
 -- Why a command failed, with where and why its text is refused.
-use Rattle.std.specs.Prelude.{◌≡◌, ◌⊎◌, ⊥, ⊤, Option, Some, None, Result, Ok, Err}
+use Rattle.std.specs.Prelude.{◌≡◌, ◌⊎◌, ⊤, Option, Some, None, Result, Ok, Err}
 use Rattle.torus.specs.declared.fault.Fault.{Fault}
 use Rattle.lexer.specs.Faults.{fault_of_refusal}
 use Rattle.lexer.specs.Outcome.{refusal_at}

@@ -1,6 +1,7 @@
 //! What each job answers whose work doesn't stand in `commands`.
 ghost use Rattle.command_line.specs.Job.{AreJobLimits};
 
+use crate::network_outcome::{NetworkTold, network_sound};
 use crate::running::by_workers;
 use crate::within::{Wanted, judged_with, judged_within};
 use command_jobs::Ended;
@@ -15,13 +16,10 @@ use command_verdicts::{
     AskedModels, Decided, Judged, Modelled, judged_models_text, lock_up_text, network_text,
     replay_network_text, simulate_text, texts_models_text, unbroken_models_text, values_text,
 };
-use lexer::Refusal;
 use model_answer::{AskedModel, MemoryModel};
 use model_replies::ValueOptions;
-use network_answer::Answer;
 use network_rounds::Arbiter;
-use network_text::NetworkReason;
-use program_fault::{ProgramFault, Refused, Texts};
+use program_fault::{ProgramFault, Texts};
 use report_lines::Out;
 use std::alloc::Global;
 use std::rt::Clock;
@@ -55,16 +53,6 @@ pub(crate) enum Outcome {
     Searched(OutcomesEnd),
     /// How a search for a run with some replies ended.
     Reached(ReachEnd),
-}
-
-/// What a job says of the text of a network.
-#[derive(Drop)]
-pub(crate) enum NetworkTold {
-    Nothing,
-    /// What the network is judged to be.
-    Answered(Answer<Global>),
-    /// Where and why the text is refused.
-    Refused(Refusal<NetworkReason>),
 }
 
 /// The answer of the job; `ending` is shown what a run reached, and what is said of the text of a network
@@ -180,26 +168,6 @@ pub(crate) fn answer<R: Eprint + Clock + AllocGlobal + Threads + Wait + Sync, W:
 /// The place of a number in a list, past every list where it is too large for one.
 fn place_of(number: Option<u64>) -> Option<usize> {
     Some(number? as usize)
-}
-
-/// The answer of a job that judges a network; what is said of its text stands in `told` then.
-fn network_sound(
-    answer: Result<Answer<Global>, Refused<NetworkReason>>,
-    told: &mut NetworkTold,
-) -> Result<Outcome, ProgramFault> {
-    match answer {
-        Ok(answer) => {
-            let rising = answer.rising;
-            *told = NetworkTold::Answered(answer);
-            Ok(Outcome::Sound(rising))
-        }
-        Err(refused) => {
-            if let Some(refusal) = refused.refusal {
-                *told = NetworkTold::Refused(refusal);
-            }
-            Err(refused.fault)
-        }
-    }
 }
 
 /// The answer of a job that replays a run of a network or sends packets over one.

@@ -2,8 +2,9 @@
 
 ghost use Rattle.command_line.specs.Job.{AreJobLimits};
 
-use crate::answering::{NetworkTold, Outcome, answer};
+use crate::answering::{Outcome, answer};
 use crate::judging::Judging;
+use crate::network_outcome::NetworkTold;
 use crate::telling::{OutcomeLine, explain_fault, explain_outcome, outcome_status};
 use command_jobs::{RunEnd, all_printed, fault_told, texts_read, unread_told};
 use command_line::{Job, Request};

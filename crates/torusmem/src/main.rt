@@ -6,6 +6,7 @@ ghost use Rattle.command_line.specs.Job.{AreJobLimits};
 mod answering;
 mod as_json;
 mod judging;
+mod network_outcome;
 mod running;
 mod shrinking;
 mod talking;
@@ -13,7 +14,7 @@ mod telling;
 mod watching;
 mod within;
 
-use answering::{NetworkTold, Outcome, answer};
+use answering::{Outcome, answer};
 use as_json::judged_as_json;
 use command_jobs::{
     RunEnd, commands_told, done, fault_told, flushed, tell_end_of, texts_of, version_told, writer,
@@ -22,6 +23,7 @@ use command_line::{Job, Request, asks_commands, asks_version, name_of, request_t
 use command_verdicts::network_text_once;
 use judging::Judging;
 use model_answer::AskedModel;
+use network_outcome::NetworkTold;
 use network_rounds::Arbiter;
 use program_fault::{ProgramFault, Texts};
 use report_lines::Piped;

@@ -2,7 +2,8 @@
 
 ghost use Rattle.command_line.specs.Job.{AreJobLimits};
 
-use crate::answering::{Bounds, NetworkTold, Outcome};
+use crate::answering::{Bounds, Outcome};
+use crate::network_outcome::NetworkTold;
 use command_jobs::{kind, names};
 use command_line::Job;
 use command_schedule::{MOST_OPERATIONS, OutcomesEnd, ReachEnd, outcomes_status, reach_status};

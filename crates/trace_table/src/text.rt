@@ -1,17 +1,12 @@
 //! The trace text of rows that stand in the order of their issues.
 
-ghost use Rattle.std.specs.Prelude.{◌≡◌, ◌<◌, ◌≤◌, ◌+◌, ◌^◌, ◌==◌, ℕ, ◌∷◌, ◌++◌, [], IfOk, OnOk};
-ghost use Rattle.std.specs.Prelude.{codes};
+ghost use Rattle.std.specs.Prelude.{◌≡◌, ◌≤◌, ◌+◌, ◌^◌, ◌∷◌, ◌++◌, [], IfOk, OnOk};
 ghost use Rattle.std.specs.Prelude.{decimal, map, max};
-ghost use Rattle.std.specs.Prelude.{if◌then◌else◌};
-ghost use Rattle.std.specs.List.{flat_map};
 ghost use Rattle.lexer.specs.Joined.{joined_on};
 ghost use Rattle.packet.specs.Names.{values_listed};
 ghost use Rattle.report_lines.specs.Line.{op_words, reply_word};
 ghost use Rattle.trace_table.specs.Text.{AreOwnIndexes, answer_text, issue_text, moment_text};
-ghost use Rattle.trace_table.specs.Text.{moments_text};
-ghost use Rattle.trace_table.specs.Text.{own_index};
-ghost use Rattle.trace_table.specs.Text.{count_in, table_text, words_needed};
+ghost use Rattle.trace_table.specs.Text.{moments_text, table_text, words_needed};
 
 use crate::counting::counted;
 use crate::moment::Moment;
