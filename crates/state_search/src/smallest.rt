@@ -10,7 +10,7 @@ use crate::parts::{
 use std::alloc::{AllocError, Allocator, Global};
 
 /// Why a part is made no smaller.
-#[derive(Clone, Copy, Debug, PartialEq, Eq)]
+#[derive(Clone, Copy)]
 pub enum Ending {
     /// No single item can be left out.
     Minimal,
