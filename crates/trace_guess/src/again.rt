@@ -24,7 +24,7 @@ impl<A: Allocator + Copy> Search<A> {
 
     /// Whether an operation that is answered and still to be issued before an event leaves a value.
     fn is_left_later(&self, value: usize, event: usize) -> bool {
-        let steps = self.uses.leavers.of(value);
+        let steps = self.uses.leavers(value);
         match steps.get(place_from(steps, self.state.at)) {
             Some(place) => match self.plan.step_at(*place) {
                 Some(step) => step.open.issue < event,
@@ -36,7 +36,7 @@ impl<A: Allocator + Copy> Search<A> {
 
     /// Whether an operation without an answer that is issued before an event leaves a value.
     fn is_left_by_lost(&self, value: usize, event: usize) -> bool {
-        let kinds = self.uses.kinds.of(value);
+        let kinds = self.uses.kinds(value);
         for n in 0..AHEAD {
             if let Some(i) = kinds.get(n)
                 && let Some((_, _, lost)) = self.plan.first_of(*i)

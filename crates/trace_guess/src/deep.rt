@@ -6,10 +6,10 @@ ghost use Rattle.trace_laws.specs.Traces.{IsTrace};
 
 pub use crate::depth::First;
 use crate::depth::depth_of;
+use crate::listed::Listed;
 use crate::pairs::partners_of;
 use crate::row::row_of;
-use crate::seen::seen_with;
-use crate::turns::{Turns, no_turns, order_of};
+use crate::turns::{NOTHING, Turned, order_of};
 use crate::words::by_word;
 use std::alloc::{AllocError, Allocator};
 use trace_laws::{Call, Event};
@@ -19,6 +19,71 @@ const FOR_ONE: u64 = 8;
 
 const PLACES: u64 = 1 << 22;
 
+/// The turns that searches came to; where they have been, what is tried first, and how many operations they may still
+/// look at.
+#[derive(Drop)]
+struct Searches<A: Allocator> {
+    turns: Vec<Turned, A>,
+    seen: Vec<u64, A>,
+    first: First,
+    looks: u64,
+}
+
+/// No searches so far, over a trace of so many events.
+fn no_searches<A: Allocator + Copy>(
+    alloc: A,
+    events: usize,
+    first: First,
+    looks: u64,
+) -> Result<Searches<A>, AllocError> {
+    let turns = vec![in alloc; NOTHING; events]?;
+    let seen = vec![in alloc; 0u64; (looks / FOR_ONE).min(PLACES) as usize]?;
+    Ok(Searches {
+        turns,
+        seen,
+        first,
+        looks,
+    })
+}
+
+impl<A: Allocator + Copy> Searches<A> {
+    /// Searches over one word, and notes the turns. Says whether the search came to its end.
+    fn search(
+        &mut self,
+        alloc: A,
+        word: u64,
+        events: &[Event],
+        partners: &[Option<usize>],
+        mine: &[usize],
+    ) -> Result<bool, AllocError> {
+        let row = row_of(alloc, events, partners, mine)?;
+        let mut depth = depth_of(alloc, word, row, self.first, self.looks);
+        if !depth.run(&mut self.seen)? {
+            return Ok(false);
+        }
+        depth.note(&mut self.turns);
+        self.looks = depth.looks;
+        Ok(true)
+    }
+
+    /// Searches over all words. Says whether each search came to its end.
+    fn search_all(
+        &mut self,
+        alloc: A,
+        opening: &[u64],
+        events: &[Event],
+        partners: &[Option<usize>],
+        listed: &Listed<A>,
+    ) -> Result<bool, AllocError> {
+        for word in 0..opening.len() {
+            if !self.search(alloc, opening[word], events, partners, listed.of(word))? {
+                return Ok(false);
+            }
+        }
+        Ok(true)
+    }
+}
+
 /// The turns of all words, if the searches over them come to their ends with so many looks at operations.
 fn turns_of<A: Allocator + Copy>(
     alloc: A,
@@ -27,21 +92,14 @@ fn turns_of<A: Allocator + Copy>(
     partners: &[Option<usize>],
     first: First,
     looks: u64,
-) -> Result<Option<Turns<A>>, AllocError> {
+) -> Result<Option<Vec<Turned, A>>, AllocError> {
     let listed = by_word(alloc, opening.len(), events, partners)?;
-    let mut turns = no_turns(alloc, events.len())?;
-    let mut seen = seen_with(alloc, (looks / FOR_ONE).min(PLACES) as usize)?;
-    let mut left = looks;
-    for word in 0..opening.len() {
-        let row = row_of(alloc, events, partners, listed.of(word))?;
-        let mut depth = depth_of(alloc, opening[word], row, first, left);
-        if !depth.run(&mut seen)? {
-            return Ok(None);
-        }
-        depth.note(&mut turns);
-        left = depth.looks;
+    let mut searches = no_searches(alloc, events.len(), first, looks)?;
+    if searches.search_all(alloc, opening, events, partners, &listed)? {
+        Ok(Some(searches.turns))
+    } else {
+        Ok(None)
     }
-    Ok(Some(turns))
 }
 
 /// An order that explains the trace, if one is found depth first, with so many looks at operations. `None` is a guess.

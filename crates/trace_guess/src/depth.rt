@@ -3,10 +3,13 @@
 
 ghost use Rattle.std.specs.Prelude.{◌<◌, ◌≤◌, length};
 
-use crate::row::{Asked, Row};
-use crate::seen::{Seen, scattered};
+use crate::row::{
+    Asked, Stop, asked_at, count_answered, event_at, length_of, next_of, put_back_both,
+    take_out_both,
+};
+use crate::seen::{note_number, scattered};
 use crate::slots::is_store;
-use crate::turns::Turns;
+use crate::turns::{Turned, put_turn};
 use packet::apply;
 use std::alloc::{AllocError, Allocator};
 
@@ -29,7 +32,7 @@ struct Try {
 }
 
 /// What is tried first: the operation that was issued first, or that which is answered first.
-#[derive(Clone, Copy, PartialEq, Eq)]
+#[derive(Clone, Copy)]
 pub enum First {
     Issued,
     Answered,
@@ -39,7 +42,7 @@ pub enum First {
 /// that took effect, how many are answered and did not, and how many may still be looked at.
 #[derive(Drop)]
 pub(crate) struct Depth<A: Allocator> {
-    row: Row<A>,
+    row: Vec<Stop, A>,
     taken: Vec<Taken, A>,
     tries: Vec<Try, A>,
     word: u64,
@@ -53,12 +56,12 @@ pub(crate) struct Depth<A: Allocator> {
 pub(crate) fn depth_of<A: Allocator + Copy>(
     alloc: A,
     word: u64,
-    row: Row<A>,
+    row: Vec<Stop, A>,
     first: First,
     looks: u64,
 ) -> Depth<A> {
-    let left = row.count_answered();
-    let mark = scattered(row.event_at(1) as u64);
+    let left = count_answered(&row);
+    let mark = scattered(event_at(&row, 1) as u64);
     Depth {
         row,
         taken: Vec::new(alloc),
@@ -93,9 +96,9 @@ impl<A: Allocator> Depth<A> {
         self.taken.push(Taken { place, found })?;
         let (word, _) = apply(asked.op, found);
         self.word = word;
-        let number = scattered(self.row.event_at(place) as u64);
+        let number = scattered(event_at(&self.row, place) as u64);
         self.mark = self.mark.wrapping_add(number);
-        self.row.take_out_both(place, asked);
+        take_out_both(&mut self.row, place, asked);
         if asked.answer.is_some() {
             self.left = self.left.saturating_sub(1);
         }
@@ -108,12 +111,12 @@ impl<A: Allocator> Depth<A> {
             return;
         };
         self.word = last.found;
-        let number = scattered(self.row.event_at(last.place) as u64);
+        let number = scattered(event_at(&self.row, last.place) as u64);
         self.mark = self.mark.wrapping_sub(number);
-        let Some(asked) = self.row.asked_at(last.place) else {
+        let Some(asked) = asked_at(&self.row, last.place) else {
             return;
         };
-        self.row.put_back_both(last.place, asked);
+        put_back_both(&mut self.row, last.place, asked);
         if asked.answer.is_some() {
             self.left = self.left.saturating_add(1);
         }
@@ -128,24 +131,24 @@ impl<A: Allocator> Depth<A> {
 
     /// The operations before the first answer take effect that leave the word as it is. Says whether there was one.
     fn settle(&mut self) -> Result<bool, AllocError> {
-        let mut place = self.row.next_of(0);
+        let mut place = next_of(&self.row, 0);
         let before = self.taken.len();
-        for _ in 0..self.row.len() {
-            let Some(asked) = self.row.asked_at(place) else {
+        for _ in 0..length_of(&self.row) {
+            let Some(asked) = asked_at(&self.row, place) else {
                 return Ok(self.taken.len() > before);
             };
             self.looks = self.looks.saturating_sub(1);
             if is_idle(asked, self.word) {
                 self.take(place, asked)?;
             }
-            place = self.row.next_of(place);
+            place = next_of(&self.row, place);
         }
         Ok(self.taken.len() > before)
     }
 
     /// All operations take effect that leave the word as it is, as far as the answers let them.
     fn settle_all(&mut self) -> Result<(), AllocError> {
-        for _ in 0..self.row.len() {
+        for _ in 0..length_of(&self.row) {
             if !self.settle()? {
                 return Ok(());
             }
@@ -183,16 +186,16 @@ impl<A: Allocator> Depth<A> {
     /// Adds the operations before the first answer that may take effect.
     fn add_tries(&mut self) -> Result<(), AllocError> {
         let from = self.tries.len();
-        let mut place = self.row.next_of(0);
-        for _ in 0..self.row.len() {
-            let Some(asked) = self.row.asked_at(place) else {
+        let mut place = next_of(&self.row, 0);
+        for _ in 0..length_of(&self.row) {
+            let Some(asked) = asked_at(&self.row, place) else {
                 return Ok(());
             };
             self.looks = self.looks.saturating_sub(1);
             if may_take(asked, self.word) {
                 self.add_try(from, place, asked)?;
             }
-            place = self.row.next_of(place);
+            place = next_of(&self.row, place);
         }
         Ok(())
     }
@@ -204,15 +207,15 @@ impl<A: Allocator> Depth<A> {
 
     /// Goes on from where the search stands, unless it was there before, or else goes back. Says whether there is
     /// something to try.
-    fn step(&mut self, seen: &mut Seen<A>) -> Result<bool, AllocError> {
-        if !seen.note(self.number()) {
+    fn step(&mut self, seen: &mut [u64]) -> Result<bool, AllocError> {
+        if !note_number(seen, self.number()) {
             self.add_tries()?;
         }
         let Some(next) = self.tries.pop() else {
             return Ok(false);
         };
         self.go_back(next.behind);
-        if let Some(asked) = self.row.asked_at(next.place) {
+        if let Some(asked) = asked_at(&self.row, next.place) {
             self.take(next.place, asked)?;
         }
         self.settle_all()?;
@@ -220,7 +223,7 @@ impl<A: Allocator> Depth<A> {
     }
 
     /// Searches until all that is answered has taken effect. Says whether it has.
-    pub(crate) fn run(&mut self, seen: &mut Seen<A>) -> Result<bool, AllocError> {
+    pub(crate) fn run(&mut self, seen: &mut [u64]) -> Result<bool, AllocError> {
         self.settle_all()?;
         for _ in 0..STEPS {
             if self.left == 0 {
@@ -234,16 +237,16 @@ impl<A: Allocator> Depth<A> {
     }
 
     /// Notes the turns in which operations took effect: each before the first answer to it or to a later one.
-    pub(crate) fn note(&self, turns: &mut Turns<A>) {
+    pub(crate) fn note(&self, turns: &mut [Turned]) {
         let mut event = usize::MAX;
         for n in 0..self.taken.len() {
             let place = self.taken[self.taken.len() - 1 - n].place;
-            if let Some(asked) = self.row.asked_at(place)
+            if let Some(asked) = asked_at(&self.row, place)
                 && let Some(answer) = asked.answer
             {
-                event = event.min(self.row.event_at(answer));
+                event = event.min(event_at(&self.row, answer));
             }
-            turns.put(self.row.event_at(place), event);
+            put_turn(turns, event_at(&self.row, place), event);
         }
     }
 }

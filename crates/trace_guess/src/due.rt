@@ -12,7 +12,7 @@ impl<A: Allocator + Copy> Search<A> {
     /// The first event that answers one of the next operations that are still to be issued and find this
     /// value; the event `most`, if that comes first.
     fn due_later(&self, value: usize, most: usize) -> usize {
-        let steps = self.uses.finders.of(value);
+        let steps = self.uses.finders(value);
         let from = place_from(steps, self.state.at);
         let mut due = most;
         for n in 0..AHEAD {

@@ -4,12 +4,11 @@ ghost use Rattle.std.specs.Prelude.{◌<◌, ◌≤◌, IfOk, MatchOption, lengt
 ghost use Rattle.trace_laws.specs.Orders.{IsOrder};
 ghost use Rattle.trace_laws.specs.Traces.{IsTrace};
 
+use crate::listed::Listed;
 use crate::pairs::partners_of;
-use crate::plan::plan_of;
-use crate::search::{Search, search_of};
-use crate::seen::{Seen, seen_of};
-use crate::turns::{Turns, no_turns, order_of};
-use crate::values::values_of;
+use crate::search::{Search, no_search};
+use crate::seen::places_for;
+use crate::turns::{NOTHING, Turned, order_of, put_turn};
 use crate::words::by_word;
 use std::alloc::{AllocError, Allocator};
 use trace_laws::{Call, Event};
@@ -20,9 +19,21 @@ const LOOKS: u64 = 1 << 15;
 /// The turns that searches came to; where they have been, and how many slots and kinds they may still look at.
 #[derive(Drop)]
 struct Searches<A: Allocator> {
-    turns: Turns<A>,
-    seen: Seen<A>,
+    turns: Vec<Turned, A>,
+    seen: Vec<u64, A>,
     looks: u64,
+}
+
+/// No searches so far, over a trace of so many events.
+fn no_searches<A: Allocator + Copy>(
+    alloc: A,
+    events: usize,
+    most: u64,
+) -> Result<Searches<A>, AllocError> {
+    let turns = vec![in alloc; NOTHING; events]?;
+    let seen = vec![in alloc; 0u64; places_for(events)]?;
+    let looks = (events as u64).saturating_mul(LOOKS).min(most);
+    Ok(Searches { turns, seen, looks })
 }
 
 impl<A: Allocator + Copy> Searches<A> {
@@ -30,7 +41,7 @@ impl<A: Allocator + Copy> Searches<A> {
     fn note(&mut self, search: &Search<A>) {
         for n in 0..search.turns.len() {
             let turn = search.turns[search.turns.len() - 1 - n];
-            self.turns.put(turn.issue, turn.event);
+            put_turn(&mut self.turns, turn.issue, turn.event);
         }
     }
 
@@ -43,19 +54,32 @@ impl<A: Allocator + Copy> Searches<A> {
         partners: &[Option<usize>],
         mine: &[usize],
     ) -> Result<bool, AllocError> {
-        let mut values = values_of(alloc, events, partners, mine)?;
-        let Some(mut plan) = plan_of(alloc, &mut values, events, partners, mine)? else {
+        let mut search = no_search(alloc, word, self.looks);
+        if !search.take_up(alloc, events, partners, mine)? {
             return Ok(false);
-        };
-        if values.wild.is_empty() {
-            plan.note_dues(alloc, values.numbers.len(), values.place_of(Some(word)))?;
         }
-        let mut search = search_of(alloc, word, plan, values, self.looks)?;
         if !search.run(&mut self.seen)? {
             return Ok(false);
         }
         self.looks = search.looks;
         self.note(&search);
+        Ok(true)
+    }
+
+    /// Searches over all words. Says whether each search came to the end.
+    fn search_all(
+        &mut self,
+        alloc: A,
+        opening: &[u64],
+        events: &[Event],
+        partners: &[Option<usize>],
+        listed: &Listed<A>,
+    ) -> Result<bool, AllocError> {
+        for word in 0..opening.len() {
+            if !self.search(alloc, opening[word], events, partners, listed.of(word))? {
+                return Ok(false);
+            }
+        }
         Ok(true)
     }
 }
@@ -67,20 +91,14 @@ fn turns_of<A: Allocator + Copy>(
     events: &[Event],
     partners: &[Option<usize>],
     most: u64,
-) -> Result<Option<Turns<A>>, AllocError> {
+) -> Result<Option<Vec<Turned, A>>, AllocError> {
     let listed = by_word(alloc, opening.len(), events, partners)?;
-    let looks = (events.len() as u64).saturating_mul(LOOKS);
-    let mut searches = Searches {
-        turns: no_turns(alloc, events.len())?,
-        seen: seen_of(alloc, events.len())?,
-        looks: looks.min(most),
-    };
-    for word in 0..opening.len() {
-        if !searches.search(alloc, opening[word], events, partners, listed.of(word))? {
-            return Ok(None);
-        }
+    let mut searches = no_searches(alloc, events.len(), most)?;
+    if searches.search_all(alloc, opening, events, partners, &listed)? {
+        Ok(Some(searches.turns))
+    } else {
+        Ok(None)
     }
-    Ok(Some(searches.turns))
 }
 
 /// An order that explains the trace, if one is guessed with so many looks at slots and kinds of operations at most.

@@ -2,7 +2,7 @@
 
 ghost use Rattle.std.specs.Prelude.{◌<◌, ◌≤◌, length};
 
-use crate::values::{Values, WILD, count_at};
+use crate::values::{Need, Values, WILD, need_at};
 use packet::{Op, apply};
 use std::alloc::Allocator;
 
@@ -19,23 +19,14 @@ pub(crate) fn before(op: Op, word: u64) -> Option<u64> {
 }
 
 impl<A: Allocator> Values<A> {
-    /// A cas without an answer leads on from a value to another, which is needed up to an event.
-    pub(crate) fn note_lead(&mut self, from: u64, event: usize) {
-        let place = self.place_of(Some(from));
-        self.note_need(place, event);
-        if let Some(i) = place
-            && i < self.leads.len()
-        {
-            self.leads[i] = true;
-        }
+    /// What needs a value.
+    fn need_of(&self, value: u64) -> Need {
+        need_at(&self.needs, self.place_of(Some(value)))
     }
 
     /// The last event that answers an operation which finds a value.
     fn last_of(&self, value: u64) -> usize {
-        match self.place_of(Some(value)) {
-            Some(i) => self.lasts.get(i).copied().unwrap_or(0),
-            None => 0,
-        }
+        self.need_of(value).last
     }
 
     /// The last event that answers an operation which finds a value to which another, done over and over, leads.
@@ -62,15 +53,9 @@ impl<A: Allocator> Values<A> {
 
     /// Whether a value is found, by an open operation if so asked, or a cas without an answer leads on from it.
     fn is_target(&self, value: u64, open: bool) -> bool {
-        let Some(i) = self.place_of(Some(value)) else {
-            return false;
-        };
-        let count = if open {
-            count_at(&self.waits, Some(i))
-        } else {
-            count_at(&self.finds, Some(i))
-        };
-        count > 0 || self.leads.get(i).copied().unwrap_or(false)
+        let need = self.need_of(value);
+        let count = if open { need.waits } else { need.finds };
+        count > 0 || need.leads
     }
 
     /// Whether an operation, done over and over, leads from a word to a value that is found.
@@ -102,23 +87,20 @@ impl<A: Allocator> Values<A> {
 
     /// Whether only open operations find the value at a place, and leave it as it is.
     pub(crate) fn is_over(&self, place: usize) -> bool {
-        let at = Some(place);
-        self.wild.is_empty()
-            && !self.leads.get(place).copied().unwrap_or(true)
-            && count_at(&self.ends, at) == 0
-            && count_at(&self.finds, at) == count_at(&self.waits, at)
+        let need = need_at(&self.needs, Some(place));
+        self.wild.is_empty() && !need.leads && need.ends == 0 && need.finds == need.waits
     }
 
     /// How many operations that haven't taken effect find a value.
     pub(crate) fn finds_of(&self, value: u64) -> u32 {
-        count_at(&self.finds, self.place_of(Some(value)))
+        self.need_of(value).finds
     }
 
     /// Whether as many operations that haven't taken effect leave the value at a place as find it and leave another,
     /// but for so many of the latter.
     pub(crate) fn suffices(&self, place: usize, but: u32) -> bool {
-        let ends = count_at(&self.ends, Some(place));
-        ends.saturating_sub(but) <= count_at(&self.leaves, Some(place))
+        let need = need_at(&self.needs, Some(place));
+        need.ends.saturating_sub(but) <= need.leaves
     }
 
     /// The cost for a value to come by operations without an answer that aren't looked at, where there may be some.

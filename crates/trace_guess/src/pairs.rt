@@ -36,27 +36,45 @@ struct Issues<A: Allocator> {
     events: Vec<usize, A>,
 }
 
+impl<A: Allocator> Issues<A> {
+    /// Adds the operations that a trace issues.
+    fn take_up(&mut self, events: &[Event]) -> Result<(), AllocError> {
+        for i in 0..events.len() {
+            if let Event::Issue(call) = events[i] {
+                self.ids.push(call.id)?;
+                self.events.push(i)?;
+            }
+        }
+        Ok(())
+    }
+
+    /// The event that issues the operation of this number.
+    fn event_of(&self, id: u64) -> Option<usize> {
+        let place = self.ids.binary_search(&id).ok()?;
+        self.events.get(place).copied()
+    }
+
+    /// Notes of each event that answers one of these operations the one that issues it, and the other way round.
+    fn join(&self, events: &[Event], partners: &mut [Option<usize>]) {
+        for k in 0..events.len() {
+            if let Event::Answer(id, _) = events[k]
+                && let Some(i) = self.event_of(id)
+            {
+                set_number(partners, k, Some(i));
+                set_number(partners, i, Some(k));
+            }
+        }
+    }
+}
+
 /// The operations that a trace issues.
 fn issues_of<A: Allocator + Copy>(alloc: A, events: &[Event]) -> Result<Issues<A>, AllocError> {
     let mut issues = Issues {
         ids: Vec::new(alloc),
         events: Vec::new(alloc),
     };
-    for i in 0..events.len() {
-        if let Event::Issue(call) = events[i] {
-            issues.ids.push(call.id)?;
-            issues.events.push(i)?;
-        }
-    }
+    issues.take_up(events)?;
     Ok(issues)
-}
-
-impl<A: Allocator> Issues<A> {
-    /// The event that issues the operation of this number.
-    fn event_of(&self, id: u64) -> Option<usize> {
-        let place = self.ids.binary_search(&id).ok()?;
-        self.events.get(place).copied()
-    }
 }
 
 /// Of each event that issues an operation the one that answers it, and the other way round.
@@ -64,16 +82,9 @@ pub fn partners_of<A: Allocator + Copy>(
     alloc: A,
     events: &[Event],
 ) -> Result<Vec<Option<usize>, A>, AllocError> {
-    let issues = issues_of(alloc, events)?;
     let mut partners = vec![in alloc; None; events.len()]?;
-    for k in 0..events.len() {
-        if let Event::Answer(id, _) = events[k]
-            && let Some(i) = issues.event_of(id)
-        {
-            set_number(&mut partners, k, Some(i));
-            set_number(&mut partners, i, Some(k));
-        }
-    }
+    let issues = issues_of(alloc, events)?;
+    issues.join(events, &mut partners);
     Ok(partners)
 }
 

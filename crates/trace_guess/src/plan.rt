@@ -4,8 +4,8 @@ ghost use Rattle.std.specs.Prelude.{◌<◌, ◌≤◌, length};
 
 use crate::near::Near;
 use crate::pairs::{call_at, found_by, left_by, number_at, reply_at};
-use crate::slots::{Open, Slots};
-use crate::values::{Values, lost_at};
+use crate::slots::{Open, Slots, no_slots};
+use crate::values::{Values, lost_at, note_lead, take};
 use packet::Op;
 use std::alloc::{AllocError, Allocator};
 use trace_laws::Event;
@@ -57,6 +57,44 @@ fn blind(op: Op) -> Op {
         Op::Swap(word) => Op::Store(word),
         other => other,
     }
+}
+
+/// Nothing for a search to go through.
+pub(crate) fn no_plan<A: Allocator + Copy>(alloc: A) -> Plan<A> {
+    Plan {
+        steps: Vec::new(alloc),
+        kinds: Vec::new(alloc),
+        lost: Vec::new(alloc),
+        width: 0,
+        end: 0,
+        near: Near {
+            kinds: Vec::new(alloc),
+            from: 0,
+            to: 0,
+        },
+    }
+}
+
+/// The operation that an event issues, if it is answered. It has no slot yet.
+fn open_at<A: Allocator>(
+    values: &Values<A>,
+    events: &[Event],
+    partners: &[Option<usize>],
+    issue: usize,
+) -> Option<Open> {
+    let answer = number_at(partners, issue)?;
+    let op = call_at(events, issue)?.operation.op;
+    let reply = reply_at(events, partners, issue)?;
+    Some(Open {
+        issue,
+        answer,
+        due: answer,
+        op,
+        reply,
+        found: values.place_of(found_by(Some(reply))),
+        left: values.place_of(left_by(op, Some(reply))),
+        slot: 0,
+    })
 }
 
 impl<A: Allocator> Plan<A> {
@@ -130,11 +168,12 @@ impl<A: Allocator + Copy> Plan<A> {
             None => self.end,
         };
         if until <= issue || op == Op::Load {
-            values.take(None, left);
+            take(&mut values.needs, None, left);
             return Ok(());
         }
         if let Op::Cas(from, _) = op {
-            values.note_lead(from, until);
+            let place = values.place_of(Some(from));
+            note_lead(&mut values.needs, place, until);
         }
         self.put_lost(
             issue,
@@ -197,60 +236,47 @@ impl<A: Allocator + Copy> Plan<A> {
         partners: &[Option<usize>],
         k: usize,
     ) -> Result<bool, AllocError> {
-        let Some(other) = number_at(partners, k) else {
-            return Ok(true);
-        };
-        let Some(call) = call_at(events, k) else {
-            self.add_answer(slots, other)?;
-            return Ok(true);
-        };
-        let Some(reply) = reply_at(events, partners, k) else {
-            return Ok(true);
-        };
-        let op = call.operation.op;
-        let open = Open {
-            issue: k,
-            answer: other,
-            due: other,
-            op,
-            reply,
-            found: values.place_of(found_by(Some(reply))),
-            left: values.place_of(left_by(op, Some(reply))),
-            slot: 0,
-        };
-        self.add_issue(slots, open)
-    }
-}
-
-/// What a search over a word goes through, if never too many of its operations are open.
-pub(crate) fn plan_of<A: Allocator + Copy>(
-    alloc: A,
-    values: &mut Values<A>,
-    events: &[Event],
-    partners: &[Option<usize>],
-    mine: &[usize],
-) -> Result<Option<Plan<A>>, AllocError> {
-    let mut plan = Plan {
-        steps: Vec::new(alloc),
-        kinds: Vec::new(alloc),
-        lost: Vec::new(alloc),
-        width: 0,
-        end: events.len(),
-        near: Near {
-            kinds: Vec::new(alloc),
-            from: 0,
-            to: 0,
-        },
-    };
-    plan.add_all_lost(values, events, partners, mine)?;
-    let mut slots = Slots {
-        table: Vec::new(alloc),
-    };
-    for k in mine {
-        if !plan.add(&mut slots, values, events, partners, *k)? {
-            return Ok(None);
+        if let Some(open) = open_at(values, events, partners, k) {
+            return self.add_issue(slots, open);
         }
+        if let Some(issue) = number_at(partners, k) {
+            self.add_answer(slots, issue)?;
+        }
+        Ok(true)
     }
-    plan.width = slots.table.len();
-    Ok(Some(plan))
+
+    /// Adds events. Says whether there is room for them.
+    fn add_all(
+        &mut self,
+        slots: &mut Slots<A>,
+        values: &Values<A>,
+        events: &[Event],
+        partners: &[Option<usize>],
+        mine: &[usize],
+    ) -> Result<bool, AllocError> {
+        for k in mine {
+            if !self.add(slots, values, events, partners, *k)? {
+                return Ok(false);
+            }
+        }
+        Ok(true)
+    }
+
+    /// Takes up what a search over a word goes through, where there is nothing. Says whether never too many of its
+    /// operations are open.
+    pub(crate) fn take_up(
+        &mut self,
+        alloc: A,
+        values: &mut Values<A>,
+        events: &[Event],
+        partners: &[Option<usize>],
+        mine: &[usize],
+    ) -> Result<bool, AllocError> {
+        self.end = events.len();
+        self.add_all_lost(values, events, partners, mine)?;
+        let mut slots = no_slots(alloc);
+        let fits = self.add_all(&mut slots, values, events, partners, mine)?;
+        self.width = slots.table.len();
+        Ok(fits)
+    }
 }

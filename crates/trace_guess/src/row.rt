@@ -1,4 +1,4 @@
-//! The events of one word that are still to come, in a list that is linked both ways: those of an operation are taken out
+//! The events of one word that are still to come, in a row that is linked both ways, from place 1 on: those of an operation are taken out
 //! where it takes effect, and put back where the search goes back.
 
 ghost use Rattle.std.specs.Prelude.{◌<◌, ◌≤◌, length};
@@ -16,26 +16,14 @@ pub(crate) struct Asked {
     pub answer: Option<usize>,
 }
 
-/// An event of the word, by its number in the trace, and the operation that it issues, if it issues one.
+/// An event of the word, by its number in the trace; the operation that it issues, if it issues one; and the places
+/// behind and before it.
 #[derive(Clone, Copy)]
-struct Stop {
+pub(crate) struct Stop {
     event: usize,
     asked: Option<Asked>,
-}
-
-/// The events of a word. The one at place i + 1 of the row is `stops[i]`; place 0 stands before the first.
-#[derive(Drop)]
-pub(crate) struct Row<A: Allocator> {
-    stops: Vec<Stop, A>,
-    nexts: Vec<usize, A>,
-    befores: Vec<usize, A>,
-}
-
-/// Writes a place into a list of them, if it has this one.
-fn set_place(list: &mut [usize], at: usize, place: usize) {
-    if at < list.len() {
-        list[at] = place;
-    }
+    next: usize,
+    before: usize,
 }
 
 /// Whether an event is of use: a load that is never answered says nothing.
@@ -62,21 +50,54 @@ fn numbers_of<A: Allocator>(
     Ok(numbers)
 }
 
-/// An event of the word. The place of an answer is that of its number among these, and one more.
-fn stop_of(events: &[Event], partners: &[Option<usize>], numbers: &[usize], event: usize) -> Stop {
-    let Some(call) = call_at(events, event) else {
-        return Stop { event, asked: None };
-    };
+/// The operation that an event of the word issues, if it issues one. The place of its answer is that of its number
+/// among these, and one more.
+fn asked_of(
+    events: &[Event],
+    partners: &[Option<usize>],
+    numbers: &[usize],
+    event: usize,
+) -> Option<Asked> {
+    let op = call_at(events, event)?.operation.op;
     let answer = match number_at(partners, event) {
         Some(k) => numbers.binary_search(&k).ok(),
         None => None,
     };
-    let asked = Some(Asked {
-        op: call.operation.op,
+    Some(Asked {
+        op,
         reply: reply_at(events, partners, event),
         answer: answer.map(|i| i.saturating_add(1)),
-    });
-    Stop { event, asked }
+    })
+}
+
+/// Adds a place to the row of a word, linked to those beside it.
+fn push_stop<A: Allocator>(
+    row: &mut Vec<Stop, A>,
+    event: usize,
+    asked: Option<Asked>,
+) -> Result<(), AllocError> {
+    let place = row.len();
+    row.push(Stop {
+        event,
+        asked,
+        next: place.saturating_add(1),
+        before: place.saturating_sub(1),
+    })?;
+    Ok(())
+}
+
+/// Adds the events of these numbers to a row, between a place before them and one behind.
+fn push_stops<A: Allocator>(
+    row: &mut Vec<Stop, A>,
+    events: &[Event],
+    partners: &[Option<usize>],
+    numbers: &[usize],
+) -> Result<(), AllocError> {
+    push_stop(row, usize::MAX, None)?;
+    for event in numbers {
+        push_stop(row, *event, asked_of(events, partners, numbers, *event))?;
+    }
+    push_stop(row, usize::MAX, None)
 }
 
 /// The row of a word, with all its events.
@@ -85,105 +106,100 @@ pub(crate) fn row_of<A: Allocator + Copy>(
     events: &[Event],
     partners: &[Option<usize>],
     mine: &[usize],
-) -> Result<Row<A>, AllocError> {
+) -> Result<Vec<Stop, A>, AllocError> {
     let numbers = numbers_of(alloc, events, partners, mine)?;
-    let mut row = Row {
-        stops: Vec::new(alloc),
-        nexts: Vec::new(alloc),
-        befores: Vec::new(alloc),
-    };
-    row.link()?;
-    for event in &numbers {
-        row.stops.push(stop_of(events, partners, &numbers, *event))?;
-        row.link()?;
-    }
-    row.link()?;
+    let mut row = Vec::new(alloc);
+    push_stops(&mut row, events, partners, &numbers)?;
     Ok(row)
 }
 
-impl<A: Allocator> Row<A> {
-    /// One place more, linked to those beside it.
-    fn link(&mut self) -> Result<(), AllocError> {
-        let place = self.nexts.len();
-        self.nexts.push(place.saturating_add(1))?;
-        self.befores.push(place.saturating_sub(1))?;
-        Ok(())
-    }
+/// How many events there are in a row.
+pub(crate) fn length_of(row: &[Stop]) -> usize {
+    row.len().saturating_sub(2)
+}
 
-    /// How many events there are.
-    pub(crate) fn len(&self) -> usize {
-        self.stops.len()
+/// The place behind one.
+pub(crate) fn next_of(row: &[Stop], place: usize) -> usize {
+    match row.get(place) {
+        Some(stop) => stop.next,
+        None => usize::MAX,
     }
+}
 
-    /// The place behind one.
-    pub(crate) fn next_of(&self, place: usize) -> usize {
-        self.nexts.get(place).copied().unwrap_or(usize::MAX)
+/// The place before one.
+fn before_of(row: &[Stop], place: usize) -> usize {
+    match row.get(place) {
+        Some(stop) => stop.before,
+        None => usize::MAX,
     }
+}
 
-    /// The operation that is issued at a place, if one is.
-    pub(crate) fn asked_at(&self, place: usize) -> Option<Asked> {
-        if place == 0 {
-            return None;
+/// The operation that is issued at a place, if one is.
+pub(crate) fn asked_at(row: &[Stop], place: usize) -> Option<Asked> {
+    match row.get(place) {
+        Some(stop) => stop.asked,
+        None => None,
+    }
+}
+
+/// The number of the event at a place.
+pub(crate) fn event_at(row: &[Stop], place: usize) -> usize {
+    match row.get(place) {
+        Some(stop) => stop.event,
+        None => usize::MAX,
+    }
+}
+
+/// How many operations are answered.
+pub(crate) fn count_answered(row: &[Stop]) -> usize {
+    let mut count = 0usize;
+    for stop in row {
+        if let Some(asked) = stop.asked
+            && asked.answer.is_some()
+        {
+            count = count.saturating_add(1);
         }
-        match self.stops.get(place - 1) {
-            Some(stop) => stop.asked,
-            None => None,
-        }
     }
+    count
+}
 
-    /// The number of the event at a place.
-    pub(crate) fn event_at(&self, place: usize) -> usize {
-        if place == 0 {
-            return usize::MAX;
-        }
-        match self.stops.get(place - 1) {
-            Some(stop) => stop.event,
-            None => usize::MAX,
-        }
+/// One place is followed by another.
+fn link(row: &mut [Stop], before: usize, next: usize) {
+    if before < row.len() {
+        row[before].next = next;
     }
-
-    /// How many operations are answered.
-    pub(crate) fn count_answered(&self) -> usize {
-        let mut count = 0usize;
-        for stop in &self.stops {
-            if let Some(asked) = stop.asked
-                && asked.answer.is_some()
-            {
-                count = count.saturating_add(1);
-            }
-        }
-        count
+    if next < row.len() {
+        row[next].before = before;
     }
+}
 
-    /// Takes out a place, which keeps its links.
-    fn take_out(&mut self, place: usize) {
-        let next = self.next_of(place);
-        let before = self.befores.get(place).copied().unwrap_or(usize::MAX);
-        set_place(&mut self.nexts, before, next);
-        set_place(&mut self.befores, next, before);
+/// Takes out a place, which keeps its links.
+fn take_out(row: &mut [Stop], place: usize) {
+    let before = before_of(row, place);
+    let next = next_of(row, place);
+    link(row, before, next);
+}
+
+/// Puts back the place that was taken out last.
+fn put_back(row: &mut [Stop], place: usize) {
+    let before = before_of(row, place);
+    let next = next_of(row, place);
+    link(row, before, place);
+    link(row, place, next);
+}
+
+/// Takes out the events of an operation, that of its issue last.
+pub(crate) fn take_out_both(row: &mut [Stop], place: usize, asked: Asked) {
+    if let Some(answer) = asked.answer {
+        take_out(row, answer);
     }
+    take_out(row, place);
+}
 
-    /// Puts back the place that was taken out last.
-    fn put_back(&mut self, place: usize) {
-        let next = self.next_of(place);
-        let before = self.befores.get(place).copied().unwrap_or(usize::MAX);
-        set_place(&mut self.nexts, before, place);
-        set_place(&mut self.befores, next, place);
-    }
-
-    /// Takes out the events of an operation, that of its issue last.
-    pub(crate) fn take_out_both(&mut self, place: usize, asked: Asked) {
-        if let Some(answer) = asked.answer {
-            self.take_out(answer);
-        }
-        self.take_out(place);
-    }
-
-    /// Puts back the events of the operation that was taken out last.
-    pub(crate) fn put_back_both(&mut self, place: usize, asked: Asked) {
-        self.put_back(place);
-        if let Some(answer) = asked.answer {
-            self.put_back(answer);
-        }
+/// Puts back the events of the operation that was taken out last.
+pub(crate) fn put_back_both(row: &mut [Stop], place: usize, asked: Asked) {
+    put_back(row, place);
+    if let Some(answer) = asked.answer {
+        put_back(row, answer);
     }
 }

@@ -2,13 +2,15 @@
 
 ghost use Rattle.std.specs.Prelude.{◌<◌, ◌≤◌, length};
 
-use crate::plan::Plan;
+use crate::listed::no_lists;
+use crate::plan::{Plan, no_plan};
 use crate::seen::scattered;
-use crate::slots::{Open, Slots, has, is_store, with};
-use crate::uses::{Uses, uses_of};
-use crate::values::Values;
+use crate::slots::{Open, Slots, has, is_store, no_slots, with};
+use crate::uses::Uses;
+use crate::values::{Values, end, no_values, take};
 use packet::{Op, apply};
 use std::alloc::{AllocError, Allocator};
+use trace_laws::Event;
 
 /// Where a search stands: how many events lie behind it, the word, the slots whose operations have taken effect, a
 /// number for these and for the operations without an answer that have, and whether the last of the latter still waits
@@ -65,21 +67,15 @@ pub(crate) struct Search<A: Allocator> {
     pub looks: u64,
 }
 
-/// The search before the first event of a word.
-pub(crate) fn search_of<A: Allocator + Copy>(
-    alloc: A,
-    word: u64,
-    plan: Plan<A>,
-    values: Values<A>,
-    looks: u64,
-) -> Result<Search<A>, AllocError> {
-    let table = vec![in alloc; None; plan.width]?;
-    let uses = uses_of(alloc, &plan, values.numbers.len())?;
-    Ok(Search {
-        plan,
-        values,
-        uses,
-        slots: Slots { table },
+/// A search over a word with nothing to go through.
+pub(crate) fn no_search<A: Allocator + Copy>(alloc: A, word: u64, looks: u64) -> Search<A> {
+    Search {
+        plan: no_plan(alloc),
+        values: no_values(alloc),
+        uses: Uses {
+            lists: no_lists(alloc),
+        },
+        slots: no_slots(alloc),
         turns: Vec::new(alloc),
         choices: Vec::new(alloc),
         state: State {
@@ -91,7 +87,7 @@ pub(crate) fn search_of<A: Allocator + Copy>(
         },
         most: 0,
         looks,
-    })
+    }
 }
 
 /// Whether an operation is due before another, if there is one.
@@ -103,6 +99,38 @@ fn is_due_before(open: Open, other: Option<Open>) -> bool {
 }
 
 impl<A: Allocator + Copy> Search<A> {
+    /// Notes when operations are due, where none leaves a word that depends on what it finds.
+    fn note_dues(&mut self, alloc: A) -> Result<(), AllocError> {
+        if self.values.wild.is_empty() {
+            let opening = self.values.place_of(Some(self.state.word));
+            self.plan
+                .note_dues(alloc, self.values.numbers.len(), opening)?;
+        }
+        Ok(())
+    }
+
+    /// Takes up the events of a word. Says whether never too many of its operations are open.
+    pub(crate) fn take_up(
+        &mut self,
+        alloc: A,
+        events: &[Event],
+        partners: &[Option<usize>],
+        mine: &[usize],
+    ) -> Result<bool, AllocError> {
+        self.values.take_up(events, partners, mine)?;
+        if !self
+            .plan
+            .take_up(alloc, &mut self.values, events, partners, mine)?
+        {
+            return Ok(false);
+        }
+        self.note_dues(alloc)?;
+        self.uses
+            .take_up(alloc, &self.plan, self.values.numbers.len())?;
+        self.slots.table.resize(self.plan.width, None)?;
+        Ok(true)
+    }
+
     /// The operation in a slot, if it hasn't taken effect.
     pub(crate) fn waiting_at(&self, slot: usize) -> Option<Open> {
         if has(self.state.taken, slot) {
@@ -123,8 +151,8 @@ impl<A: Allocator + Copy> Search<A> {
         self.state.taken = with(self.state.taken, open.slot);
         self.mark(open.issue);
         self.state.owes = false;
-        self.values.take(open.found, open.left);
-        self.values.end(open.found);
+        take(&mut self.values.needs, open.found, open.left);
+        end(&mut self.values.needs, open.found);
         self.turns.push(Turn {
             issue: open.issue,
             event,
@@ -144,7 +172,7 @@ impl<A: Allocator + Copy> Search<A> {
         self.state.word = word;
         self.mark(lost.issue);
         self.state.owes = true;
-        self.values.take(None, kind.left);
+        take(&mut self.values.needs, None, kind.left);
         self.plan.set_first(i, lost.next);
         self.turns.push(Turn {
             issue: lost.issue,

@@ -1,17 +1,9 @@
-//! Where a search has been: a table that forgets.
+//! Where a search has been: a table that forgets, of numbers that stand for that.
 
 ghost use Rattle.std.specs.Prelude.{◌<◌, ◌≤◌, length};
 
-use std::alloc::{AllocError, Allocator};
-
 /// How many places the table has at most.
 const PLACES: usize = 1 << 20;
-
-/// Numbers that stand for where a search was, each at a place that it gives itself.
-#[derive(Drop)]
-pub(crate) struct Seen<A: Allocator> {
-    pub table: Vec<u64, A>,
-}
 
 /// A number that looks drawn, of each number another.
 pub(crate) fn scattered(number: u64) -> u64 {
@@ -19,30 +11,21 @@ pub(crate) fn scattered(number: u64) -> u64 {
     (product ^ (product >> 32)).wrapping_mul(0xD6E8_FEB8_6659_FD93)
 }
 
-/// A table for a trace of so many events.
-pub(crate) fn seen_of<A: Allocator>(alloc: A, events: usize) -> Result<Seen<A>, AllocError> {
-    seen_with(alloc, events.saturating_mul(16).min(PLACES))
+/// How many places the table has for a trace of so many events.
+pub(crate) fn places_for(events: usize) -> usize {
+    events.saturating_mul(16).min(PLACES)
 }
 
-/// A table with so many places.
-pub(crate) fn seen_with<A: Allocator>(alloc: A, places: usize) -> Result<Seen<A>, AllocError> {
-    Ok(Seen {
-        table: vec![in alloc; 0u64; places]?,
-    })
-}
-
-impl<A: Allocator> Seen<A> {
-    /// Notes a number. Says whether it was there.
-    pub(crate) fn note(&mut self, number: u64) -> bool {
-        let places = self.table.len();
-        if places == 0 {
-            return false;
-        }
-        let place = (number ^ (number >> 32)) as usize % places;
-        if self.table[place] == number {
-            return true;
-        }
-        self.table[place] = number;
-        false
+/// Notes a number in a table, at a place that it gives itself. Says whether it was there.
+pub(crate) fn note_number(table: &mut [u64], number: u64) -> bool {
+    let places = table.len();
+    if places == 0 {
+        return false;
     }
+    let place = (number ^ (number >> 32)) as usize % places;
+    if table[place] == number {
+        return true;
+    }
+    table[place] = number;
+    false
 }

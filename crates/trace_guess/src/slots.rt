@@ -61,6 +61,13 @@ pub(crate) struct Slots<A: Allocator> {
     pub table: Vec<Option<Open>, A>,
 }
 
+/// No slots.
+pub(crate) fn no_slots<A: Allocator>(alloc: A) -> Slots<A> {
+    Slots {
+        table: Vec::new(alloc),
+    }
+}
+
 impl<A: Allocator> Slots<A> {
     /// The operation in a slot.
     pub(crate) fn at(&self, slot: usize) -> Option<Open> {

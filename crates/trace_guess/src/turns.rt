@@ -5,101 +5,103 @@ ghost use Rattle.trace_laws.specs.Orders.{IsOrder};
 ghost use Rattle.trace_laws.specs.Traces.{IsTrace};
 
 use crate::explained::explained;
-use crate::pairs::{number_at, set_number};
+use crate::pairs::number_at;
 use std::alloc::{AllocError, Allocator};
 use trace_laws::{Call, Event};
 
-/// Of each event the first operation that takes effect before it, by the event of its issue, and of each operation
-/// the next one there.
-#[derive(Drop)]
-pub(crate) struct Turns<A: Allocator> {
-    firsts: Vec<Option<usize>, A>,
-    nexts: Vec<Option<usize>, A>,
+/// Of an event the first operation that takes effect before it, by the event of its issue, and of the operation that it
+/// issues the next one there.
+#[derive(Clone, Copy)]
+pub(crate) struct Turned {
+    first: Option<usize>,
+    next: Option<usize>,
 }
 
-/// The operations of an order, by the events of their issues, and of each event the place of its operation.
-#[derive(Drop)]
-struct Guess<A: Allocator> {
-    issues: Vec<usize, A>,
-    places: Vec<usize, A>,
+/// Where nothing takes effect.
+pub(crate) const NOTHING: Turned = Turned {
+    first: None,
+    next: None,
+};
+
+/// What is noted of an event.
+fn turned_at(turns: &[Turned], event: usize) -> Turned {
+    turns.get(event).copied().unwrap_or(NOTHING)
 }
 
-/// The turns where nothing takes effect before one of so many events.
-pub(crate) fn no_turns<A: Allocator + Copy>(
-    alloc: A,
-    events: usize,
-) -> Result<Turns<A>, AllocError> {
-    Ok(Turns {
-        firsts: vec![in alloc; None; events]?,
-        nexts: vec![in alloc; None; events]?,
-    })
-}
-
-impl<A: Allocator> Turns<A> {
-    /// Notes that an operation takes effect before an event, ahead of those noted there.
-    pub(crate) fn put(&mut self, issue: usize, event: usize) {
-        let next = number_at(&self.firsts, event);
-        set_number(&mut self.nexts, issue, next);
-        set_number(&mut self.firsts, event, Some(issue));
+/// Notes that an operation takes effect before an event, ahead of those noted there.
+pub(crate) fn put_turn(turns: &mut [Turned], issue: usize, event: usize) {
+    let next = turned_at(turns, event).first;
+    if issue < turns.len() {
+        turns[issue].next = next;
+    }
+    if event < turns.len() {
+        turns[event].first = Some(issue);
     }
 }
 
-impl<A: Allocator + Copy> Guess<A> {
-    /// Adds an operation.
-    fn add(&mut self, issue: usize) -> Result<(), AllocError> {
-        if issue < self.places.len() {
-            self.places[issue] = self.issues.len();
+/// Adds the operations that take effect before an event to those of an order, by the events of their issues: so many
+/// as there are events at most.
+fn push_turns<A: Allocator>(
+    issues: &mut Vec<usize, A>,
+    turns: &[Turned],
+    first: Option<usize>,
+) -> Result<(), AllocError> {
+    let mut next = first;
+    for _ in 0..turns.len() {
+        let Some(issue) = next else {
+            return Ok(());
+        };
+        if issues.len() >= turns.len() {
+            return Ok(());
         }
-        self.issues.push(issue)?;
-        Ok(())
+        issues.push(issue)?;
+        next = turned_at(turns, issue).next;
     }
+    Ok(())
+}
 
-    /// Adds the operations that take effect before an event.
-    fn add_all(&mut self, turns: &Turns<A>, first: Option<usize>) -> Result<(), AllocError> {
-        let mut next = first;
-        for _ in 0..turns.nexts.len() {
-            let Some(issue) = next else {
-                return Ok(());
-            };
-            if self.issues.len() >= self.places.len() {
-                return Ok(());
-            }
-            self.add(issue)?;
-            next = number_at(&turns.nexts, issue);
-        }
-        Ok(())
+/// The operations in the order in which they take their turns, by the events of their issues.
+fn issues_of<A: Allocator>(alloc: A, turns: &[Turned]) -> Result<Vec<usize, A>, AllocError> {
+    let mut issues = Vec::new(alloc);
+    for k in 0..turns.len() {
+        push_turns(&mut issues, turns, turns[k].first)?;
     }
+    Ok(issues)
+}
 
-    /// Each answer has the place of its operation.
-    fn place_answers(&mut self, events: &[Event], partners: &[Option<usize>]) {
-        for k in 0..events.len() {
-            if let Event::Answer(..) = events[k]
-                && let Some(issue) = number_at(partners, k)
-                && issue < self.places.len()
-                && k < self.places.len()
-            {
-                self.places[k] = self.places[issue];
-            }
+/// Each event that issues an operation has the place of that.
+fn place_issues(places: &mut [usize], issues: &[usize]) {
+    for x in 0..issues.len() {
+        if issues[x] < places.len() {
+            places[issues[x]] = x;
         }
     }
 }
 
-/// The order in which operations take their turns.
-fn guess_of<A: Allocator + Copy>(
+/// Each answer has the place of its operation.
+fn place_answers(places: &mut [usize], events: &[Event], partners: &[Option<usize>]) {
+    for k in 0..events.len() {
+        if let Event::Answer(..) = events[k]
+            && let Some(issue) = number_at(partners, k)
+            && issue < places.len()
+            && k < places.len()
+        {
+            places[k] = places[issue];
+        }
+    }
+}
+
+/// Of each event the place of its operation in an order.
+fn places_of<A: Allocator>(
     alloc: A,
     events: &[Event],
     partners: &[Option<usize>],
-    turns: &Turns<A>,
-) -> Result<Guess<A>, AllocError> {
-    let mut guess = Guess {
-        issues: Vec::new(alloc),
-        places: vec![in alloc; 0usize; events.len()]?,
-    };
-    for k in 0..events.len() {
-        guess.add_all(turns, number_at(&turns.firsts, k))?;
-    }
-    guess.place_answers(events, partners);
-    Ok(guess)
+    issues: &[usize],
+) -> Result<Vec<usize, A>, AllocError> {
+    let mut places = vec![in alloc; 0usize; events.len()]?;
+    place_issues(&mut places, issues);
+    place_answers(&mut places, events, partners);
+    Ok(places)
 }
 
 /// The order in which operations take their turns, if it explains the trace.
@@ -108,12 +110,13 @@ pub(crate) fn order_of<A: Allocator + Copy>(
     opening: &[u64],
     events: &[Event],
     partners: &[Option<usize>],
-    turns: &Turns<A>,
+    turns: &[Turned],
 ) -> Result<Option<Vec<Call, A>>, AllocError>
     requires { IsTrace (length opening.now) events.now }
     ensures { IfOk result (λ found. MatchOption found (Unit {0})
         (λ order. IsOrder opening.now events.now order.items)) }
 {
-    let guess = guess_of(alloc, events, partners, turns)?;
-    explained(alloc, opening, events, &guess.issues, &guess.places)
+    let issues = issues_of(alloc, turns)?;
+    let places = places_of(alloc, events, partners, &issues)?;
+    explained(alloc, opening, events, &issues, &places)
 }

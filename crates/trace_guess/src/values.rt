@@ -10,45 +10,108 @@ use trace_laws::Event;
 /// How many unlike operations without an answer are looked at that leave a word which depends on what they find.
 pub(crate) const WILD: usize = 4;
 
-/// The values of a word, which rise. Of each: how many operations that haven't taken effect find it, how many of
-/// these are open, how many find it and leave another, how many leave it, whether a cas without an answer leads on
-/// from it, and the last event that answers one which finds it.
+/// Of a value: how many operations that haven't taken effect find it, how many of these are open, how many find it and
+/// leave another, how many leave it, whether a cas without an answer leads on from it, and the last event that answers
+/// one which finds it.
+#[derive(Clone, Copy)]
+pub(crate) struct Need {
+    pub finds: u32,
+    pub waits: u32,
+    pub ends: u32,
+    pub leaves: u32,
+    pub leads: bool,
+    pub last: usize,
+}
+
+/// A value that nothing finds or leaves.
+const NO_NEED: Need = Need {
+    finds: 0,
+    waits: 0,
+    ends: 0,
+    leaves: 0,
+    leads: false,
+    last: 0,
+};
+
+/// The values of a word, which rise; what needs each; and unlike operations without an answer that leave a word which
+/// depends on what they find.
 #[derive(Drop)]
 pub(crate) struct Values<A: Allocator> {
     pub numbers: Vec<u64, A>,
-    pub finds: Vec<u32, A>,
-    pub waits: Vec<u32, A>,
-    pub ends: Vec<u32, A>,
-    pub leaves: Vec<u32, A>,
-    pub leads: Vec<bool, A>,
-    pub lasts: Vec<usize, A>,
+    pub needs: Vec<Need, A>,
     pub wild: Vec<Op, A>,
 }
 
-/// The count at a place, 0 where there is none.
-pub(crate) fn count_at(counts: &[u32], place: Option<usize>) -> u32 {
+/// What needs the value at a place, nothing where there is none.
+pub(crate) fn need_at(needs: &[Need], place: Option<usize>) -> Need {
     match place {
-        Some(i) => counts.get(i).copied().unwrap_or(0),
-        None => 0,
+        Some(i) => needs.get(i).copied().unwrap_or(NO_NEED),
+        None => NO_NEED,
     }
 }
 
-/// One more at a place.
-pub(crate) fn count_up(counts: &mut [u32], place: Option<usize>) {
+/// Notes what needs the value at a place, if there is one.
+pub(crate) fn set_need(needs: &mut [Need], place: Option<usize>, need: Need) {
     if let Some(i) = place
-        && i < counts.len()
+        && i < needs.len()
     {
-        counts[i] = counts[i].saturating_add(1);
+        needs[i] = need;
     }
 }
 
-/// One less at a place.
-fn count_down(counts: &mut [u32], place: Option<usize>) {
-    if let Some(i) = place
-        && i < counts.len()
-    {
-        counts[i] = counts[i].saturating_sub(1);
+/// An operation that finds and leaves the values at these places takes effect.
+pub(crate) fn take(needs: &mut [Need], found: Option<usize>, left: Option<usize>) {
+    let mut need = need_at(needs, found);
+    need.finds = need.finds.saturating_sub(1);
+    if left.is_some() {
+        need.ends = need.ends.saturating_sub(1);
     }
+    set_need(needs, found, need);
+    let mut need = need_at(needs, left);
+    need.leaves = need.leaves.saturating_sub(1);
+    set_need(needs, left, need);
+}
+
+/// It no longer has taken effect.
+pub(crate) fn put_back(needs: &mut [Need], found: Option<usize>, left: Option<usize>) {
+    let mut need = need_at(needs, found);
+    need.finds = need.finds.saturating_add(1);
+    if left.is_some() {
+        need.ends = need.ends.saturating_add(1);
+    }
+    set_need(needs, found, need);
+    let mut need = need_at(needs, left);
+    need.leaves = need.leaves.saturating_add(1);
+    set_need(needs, left, need);
+}
+
+/// An operation that finds the value at a place is open and hasn't taken effect.
+pub(crate) fn begin(needs: &mut [Need], found: Option<usize>) {
+    let mut need = need_at(needs, found);
+    need.waits = need.waits.saturating_add(1);
+    set_need(needs, found, need);
+}
+
+/// It isn't, or has.
+pub(crate) fn end(needs: &mut [Need], found: Option<usize>) {
+    let mut need = need_at(needs, found);
+    need.waits = need.waits.saturating_sub(1);
+    set_need(needs, found, need);
+}
+
+/// The value at a place is found by an operation that this event answers.
+fn note_need(needs: &mut [Need], place: Option<usize>, event: usize) {
+    let mut need = need_at(needs, place);
+    need.last = need.last.max(event);
+    set_need(needs, place, need);
+}
+
+/// A cas without an answer leads on from the value at a place, which is needed up to an event.
+pub(crate) fn note_lead(needs: &mut [Need], place: Option<usize>, event: usize) {
+    let mut need = need_at(needs, place);
+    need.last = need.last.max(event);
+    need.leads = true;
+    set_need(needs, place, need);
 }
 
 /// Whether the word that an operation leaves depends on the one that it finds.
@@ -68,101 +131,24 @@ pub(crate) fn lost_at(events: &[Event], partners: &[Option<usize>], k: usize) ->
     Some(call.operation.op)
 }
 
-/// The unlike operations of a word that are never answered and leave a word which depends on what they find, up to
-/// some.
-fn wild_of<A: Allocator>(
-    alloc: A,
-    events: &[Event],
-    partners: &[Option<usize>],
-    mine: &[usize],
-) -> Result<Vec<Op, A>, AllocError> {
-    let mut wild = Vec::new(alloc);
-    for k in mine {
-        if let Some(op) = lost_at(events, partners, *k)
-            && is_wild(op)
-            && wild.len() < WILD
-            && !wild.contains(&op)
-        {
-            wild.push(op)?;
-        }
+/// No values.
+pub(crate) fn no_values<A: Allocator + Copy>(alloc: A) -> Values<A> {
+    Values {
+        numbers: Vec::new(alloc),
+        needs: Vec::new(alloc),
+        wild: Vec::new(alloc),
     }
-    Ok(wild)
 }
 
-/// The values that operations of a word find or leave, which rise.
-fn known_values<A: Allocator>(
-    alloc: A,
-    events: &[Event],
-    partners: &[Option<usize>],
-    mine: &[usize],
-) -> Result<Vec<u64, A>, AllocError> {
-    let mut numbers = Vec::new(alloc);
-    for k in mine {
-        if let Some(call) = call_at(events, *k) {
-            let reply = reply_at(events, partners, *k);
-            if let Some(found) = found_by(reply) {
-                numbers.push(found)?;
-            }
-            if let Some(left) = left_by(call.operation.op, reply) {
-                numbers.push(left)?;
-            }
-        }
+/// Adds a value, if there is one.
+fn push_if_some<A: Allocator>(
+    numbers: &mut Vec<u64, A>,
+    value: Option<u64>,
+) -> Result<(), AllocError> {
+    if let Some(number) = value {
+        numbers.push(number)?;
     }
-    numbers.sort()?;
-    Ok(numbers)
-}
-
-/// Values that rise, each once.
-fn without_doubles<A: Allocator>(alloc: A, sorted: &[u64]) -> Result<Vec<u64, A>, AllocError> {
-    let mut numbers = Vec::new(alloc);
-    for i in 0..sorted.len() {
-        if i == 0 || sorted[i - 1] != sorted[i] {
-            numbers.push(sorted[i])?;
-        }
-    }
-    Ok(numbers)
-}
-
-/// The values of a word, with nothing counted.
-fn empty_values<A: Allocator + Copy>(
-    alloc: A,
-    events: &[Event],
-    partners: &[Option<usize>],
-    mine: &[usize],
-) -> Result<Values<A>, AllocError> {
-    let all = known_values(alloc, events, partners, mine)?;
-    let numbers = without_doubles(alloc, &all)?;
-    let count = numbers.len();
-    Ok(Values {
-        numbers,
-        finds: vec![in alloc; 0u32; count]?,
-        waits: vec![in alloc; 0u32; count]?,
-        ends: vec![in alloc; 0u32; count]?,
-        leaves: vec![in alloc; 0u32; count]?,
-        leads: vec![in alloc; false; count]?,
-        lasts: vec![in alloc; 0usize; count]?,
-        wild: wild_of(alloc, events, partners, mine)?,
-    })
-}
-
-/// The values of a word before its first event.
-pub(crate) fn values_of<A: Allocator + Copy>(
-    alloc: A,
-    events: &[Event],
-    partners: &[Option<usize>],
-    mine: &[usize],
-) -> Result<Values<A>, AllocError> {
-    let mut values = empty_values(alloc, events, partners, mine)?;
-    for k in mine {
-        if let Some(call) = call_at(events, *k) {
-            let reply = reply_at(events, partners, *k);
-            let found = values.place_of(found_by(reply));
-            let left = values.place_of(left_by(call.operation.op, reply));
-            values.put_back(found, left);
-            values.note_need(found, number_at(partners, *k).unwrap_or(0));
-        }
-    }
-    Ok(values)
+    Ok(())
 }
 
 impl<A: Allocator> Values<A> {
@@ -172,40 +158,69 @@ impl<A: Allocator> Values<A> {
         self.numbers.binary_search(&number).ok()
     }
 
-    /// An operation that finds and leaves the values at these places takes effect.
-    pub(crate) fn take(&mut self, found: Option<usize>, left: Option<usize>) {
-        count_down(&mut self.finds, found);
-        count_down(&mut self.leaves, left);
-        if left.is_some() {
-            count_down(&mut self.ends, found);
+    /// Lists the unlike operations of a word that are never answered and leave a word which depends on what they find,
+    /// up to some.
+    fn list_wild(
+        &mut self,
+        events: &[Event],
+        partners: &[Option<usize>],
+        mine: &[usize],
+    ) -> Result<(), AllocError> {
+        for k in mine {
+            if let Some(op) = lost_at(events, partners, *k)
+                && is_wild(op)
+                && self.wild.len() < WILD
+                && !self.wild.contains(&op)
+            {
+                self.wild.push(op)?;
+            }
+        }
+        Ok(())
+    }
+
+    /// Lists the values that operations of a word find or leave, as they come.
+    fn list_numbers(
+        &mut self,
+        events: &[Event],
+        partners: &[Option<usize>],
+        mine: &[usize],
+    ) -> Result<(), AllocError> {
+        for k in mine {
+            if let Some(call) = call_at(events, *k) {
+                let reply = reply_at(events, partners, *k);
+                push_if_some(&mut self.numbers, found_by(reply))?;
+                push_if_some(&mut self.numbers, left_by(call.operation.op, reply))?;
+            }
+        }
+        Ok(())
+    }
+
+    /// Counts what needs each value.
+    fn count_needs(&mut self, events: &[Event], partners: &[Option<usize>], mine: &[usize]) {
+        for k in mine {
+            if let Some(call) = call_at(events, *k) {
+                let reply = reply_at(events, partners, *k);
+                let found = self.place_of(found_by(reply));
+                let left = self.place_of(left_by(call.operation.op, reply));
+                put_back(&mut self.needs, found, left);
+                note_need(&mut self.needs, found, number_at(partners, *k).unwrap_or(0));
+            }
         }
     }
 
-    /// It no longer has taken effect.
-    pub(crate) fn put_back(&mut self, found: Option<usize>, left: Option<usize>) {
-        count_up(&mut self.finds, found);
-        count_up(&mut self.leaves, left);
-        if left.is_some() {
-            count_up(&mut self.ends, found);
-        }
-    }
-
-    /// An operation that finds the value at a place is open and hasn't taken effect.
-    pub(crate) fn begin(&mut self, found: Option<usize>) {
-        count_up(&mut self.waits, found);
-    }
-
-    /// It isn't, or has.
-    pub(crate) fn end(&mut self, found: Option<usize>) {
-        count_down(&mut self.waits, found);
-    }
-
-    /// The value at a place is found by an operation that this event answers.
-    pub(crate) fn note_need(&mut self, place: Option<usize>, event: usize) {
-        if let Some(i) = place
-            && i < self.lasts.len()
-        {
-            self.lasts[i] = self.lasts[i].max(event);
-        }
+    /// Takes up the values of a word before its first event, where there are none.
+    pub(crate) fn take_up(
+        &mut self,
+        events: &[Event],
+        partners: &[Option<usize>],
+        mine: &[usize],
+    ) -> Result<(), AllocError> {
+        self.list_numbers(events, partners, mine)?;
+        self.numbers.sort()?;
+        self.numbers.dedup();
+        self.needs.resize(self.numbers.len(), NO_NEED)?;
+        self.list_wild(events, partners, mine)?;
+        self.count_needs(events, partners, mine);
+        Ok(())
     }
 }

@@ -5,8 +5,9 @@ ghost use Rattle.std.specs.Prelude.{◌<◌, ◌≤◌, length};
 
 use crate::plan::Step;
 use crate::search::Search;
-use crate::seen::{Seen, scattered};
+use crate::seen::{note_number, scattered};
 use crate::slots::{Open, has, without};
+use crate::values::{begin, end, put_back};
 use std::alloc::{AllocError, Allocator};
 
 /// How many events are gone over at most, each time that one is.
@@ -26,10 +27,10 @@ impl<A: Allocator + Copy> Search<A> {
     fn take_back(&mut self, turns: usize) {
         for _ in turns..self.turns.len() {
             if let Some(turn) = self.turns.pop() {
-                self.values.put_back(turn.found, turn.left);
+                put_back(&mut self.values.needs, turn.found, turn.left);
                 match turn.lost {
                     Some(place) => self.plan.put_first(place),
-                    None => self.values.begin(turn.found),
+                    None => begin(&mut self.values.needs, turn.found),
                 }
             }
         }
@@ -38,7 +39,7 @@ impl<A: Allocator + Copy> Search<A> {
     /// Goes back over an event.
     fn undo(&mut self, step: Step) {
         if step.issues {
-            self.values.end(step.open.found);
+            end(&mut self.values.needs, step.open.found);
             self.slots.set(step.open.slot, None);
         } else {
             self.slots.set(step.open.slot, Some(step.open));
@@ -97,10 +98,10 @@ impl<A: Allocator + Copy> Search<A> {
     }
 
     /// An operation is answered that hasn't taken effect: tries what may lead there. Says whether there is something.
-    fn branch(&mut self, seen: &mut Seen<A>, answered: Open) -> Result<bool, AllocError> {
+    fn branch(&mut self, seen: &mut [u64], answered: Open) -> Result<bool, AllocError> {
         self.pay();
         self.forget();
-        if !seen.note(self.number_at(answered.answer)) {
+        if !note_number(seen, self.number_at(answered.answer)) {
             self.add_choices(answered)?;
         }
         self.choose()
@@ -122,7 +123,7 @@ impl<A: Allocator + Copy> Search<A> {
 
     /// Goes over the issue of an operation.
     fn begin(&mut self, open: Open) {
-        self.values.begin(open.found);
+        begin(&mut self.values.needs, open.found);
         self.slots.set(open.slot, Some(open));
         self.state.at = self.state.at.saturating_add(1);
     }
@@ -136,7 +137,7 @@ impl<A: Allocator + Copy> Search<A> {
     }
 
     /// Goes over an event, or tries something else. Says whether there is something.
-    fn step(&mut self, seen: &mut Seen<A>, step: Step) -> Result<bool, AllocError> {
+    fn step(&mut self, seen: &mut [u64], step: Step) -> Result<bool, AllocError> {
         let open = step.open;
         if step.issues {
             self.begin(open);
@@ -153,7 +154,7 @@ impl<A: Allocator + Copy> Search<A> {
     }
 
     /// Goes over all events. Says whether it came to the end.
-    pub(crate) fn run(&mut self, seen: &mut Seen<A>) -> Result<bool, AllocError> {
+    pub(crate) fn run(&mut self, seen: &mut [u64]) -> Result<bool, AllocError> {
         for _ in 0..STEPS {
             let Some(step) = self.plan.step_at(self.state.at) else {
                 return Ok(true);
