@@ -62,9 +62,8 @@ fn look_at<A: Allocator + Copy>(
         turns.stop();
         return Ok(None);
     };
-    let found = conflict_of(alloc, initial, events, partners, at, &word)?;
     turns.add_word(alloc, &word)?;
-    Ok(found)
+    conflict_of(alloc, initial, events, partners, at, &word)
 }
 
 /// Whether a certificate of a word is seen to hold in these events: then no order explains them. A no is a guess.

@@ -5,6 +5,7 @@
 pub mod cited;
 pub mod conflict;
 pub mod found;
+mod guesses;
 pub mod laws;
 pub mod listing;
 mod rules;

@@ -2,10 +2,11 @@
 
 ghost use Rattle.std.specs.Prelude.{◌<◌, ◌≤◌, length};
 
+use crate::guesses::stretch_at;
 use crate::search::Word;
 use crate::stretches::Stretch;
-use crate::uses::issue_of;
-use crate::values::is_marked;
+use crate::uses::{Use, issue_of};
+use crate::values::{Values, is_marked, known_at};
 use std::alloc::{AllocError, Allocator};
 use trace_guess::listed::{Keyed, Listed, listed_by};
 use trace_guess::pairs::number_at;
@@ -62,7 +63,7 @@ impl<A: Allocator + Copy> Turns<A> {
         keepers: &Listed<A>,
         place: usize,
     ) -> Result<(), AllocError> {
-        if let Some(writer) = number_at(&word.values.writers, place)
+        if let Some(writer) = known_at(&word.values.known, place).writer
             && is_marked(&word.values.taken, writer)
         {
             self.add(issue_of(&word.uses, writer))?;
@@ -83,7 +84,7 @@ impl<A: Allocator + Copy> Turns<A> {
                 return Ok(());
             };
             self.add_value(word, keepers, place)?;
-            next = number_at(&word.values.nexts, place);
+            next = known_at(&word.values.known, place).next;
         }
         Ok(())
     }
@@ -98,12 +99,23 @@ impl<A: Allocator + Copy> Turns<A> {
     ) -> Result<(), AllocError> {
         self.last = 0;
         for rank in ranks {
-            let n = (*rank & 0xffff_ffff) as usize;
-            if n < stretches.len() {
-                self.add_stretch(word, keepers, stretches[n])?;
+            if let Some(stretch) = stretch_at(stretches, *rank) {
+                self.add_stretch(word, keepers, stretch)?;
             }
         }
         Ok(())
+    }
+
+    /// Adds the operations of a word, which saw these stretches.
+    fn add_stretches(
+        &mut self,
+        alloc: A,
+        word: &Word<A>,
+        stretches: &[Stretch],
+    ) -> Result<(), AllocError> {
+        let ranks = word.ranked(alloc, stretches)?;
+        let keepers = keepers_of(alloc, word)?;
+        self.add_ranked(word, &keepers, stretches, &ranks)
     }
 
     /// Notes that a word can't be put in an order.
@@ -116,29 +128,54 @@ impl<A: Allocator + Copy> Turns<A> {
         if !self.are_all {
             return Ok(());
         }
-        let (true, Ok(stretches)) = (word.values.are_different, word.stretches(alloc)?) else {
+        if !word.values.are_different {
             self.stop();
             return Ok(());
-        };
-        let ranks = word.ranked(alloc, &stretches)?;
-        let keepers = keepers_of(alloc, word)?;
-        self.add_ranked(word, &keepers, &stretches, &ranks)
+        }
+        let mut stretches = Vec::new(alloc);
+        if word.push_stretches(&mut stretches)?.is_some() {
+            self.stop();
+            return Ok(());
+        }
+        self.add_stretches(alloc, word, &stretches)
     }
+}
+
+/// Where an operation found a value and left no other: the place of that.
+fn kept_at<A: Allocator>(values: &Values<A>, known: Use) -> Option<usize> {
+    if known.left.is_some() || known.answer.is_none() {
+        return None;
+    }
+    values.place_of(known.found)
+}
+
+/// The operations of a word that found a value and left no other, each with the place of that.
+fn keyed_of<A: Allocator + Copy>(alloc: A, word: &Word<A>) -> Result<Vec<Keyed, A>, AllocError> {
+    let mut keyed = Vec::new(alloc);
+    for item in 0..word.uses.len() {
+        if let Some(key) = kept_at(&word.values, word.uses[item]) {
+            keyed.push(Keyed { key, item })?;
+        }
+    }
+    Ok(keyed)
 }
 
 /// Of each value of a word the operations that found it and left no other.
 fn keepers_of<A: Allocator + Copy>(alloc: A, word: &Word<A>) -> Result<Listed<A>, AllocError> {
-    let mut keyed = Vec::new(alloc);
-    for item in 0..word.uses.len() {
-        let known = word.uses[item];
-        if known.left.is_none()
-            && known.answer.is_some()
-            && let Some(key) = word.values.place_of(known.found)
-        {
-            keyed.push(Keyed { key, item })?;
-        }
-    }
+    let keyed = keyed_of(alloc, word)?;
     listed_by(alloc, word.values.numbers.len(), &keyed)
+}
+
+/// The events of an operation have a place, the x-th.
+fn place(places: &mut [usize], partners: &[Option<usize>], issue: usize, x: usize) {
+    if issue < places.len() {
+        places[issue] = x;
+    }
+    if let Some(answer) = number_at(partners, issue)
+        && answer < places.len()
+    {
+        places[answer] = x;
+    }
 }
 
 /// Of each event the place of its operation.
@@ -150,15 +187,7 @@ fn places_of<A: Allocator + Copy>(
 ) -> Result<Vec<usize, A>, AllocError> {
     let mut places = vec![in alloc; 0usize; events.len()]?;
     for x in 0..issues.len() {
-        let issue = issues[x];
-        if issue < places.len() {
-            places[issue] = x;
-        }
-        if let Some(answer) = number_at(partners, issue)
-            && answer < places.len()
-        {
-            places[answer] = x;
-        }
+        place(&mut places, partners, issues[x], x);
     }
     Ok(places)
 }

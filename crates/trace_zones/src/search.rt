@@ -3,11 +3,13 @@
 ghost use Rattle.std.specs.Prelude.{◌<◌, ◌≤◌, length};
 
 use crate::conflict::{Before, Conflict};
-use crate::stretches::{Cut, Stretch};
-use crate::uses::{Use, is_over_before, issue_of, uses_of};
-use crate::values::{Values, is_marked, values_of};
+use crate::guesses::{Guess, Part, crossing, part_of};
+use crate::stretches::{Cut, Stretch, is_head, push_seen};
+use crate::uses::{Use, is_over_before, issue_of, use_at};
+use crate::values::{Values, known_at, no_values};
+use crate::zone::Zone;
 use std::alloc::{AllocError, Allocator};
-use trace_guess::pairs::number_at;
+use trace_guess::pairs::call_at;
 use trace_laws::Event;
 
 /// Traces of more events are not searched.
@@ -24,135 +26,95 @@ pub(crate) struct Word<A: Allocator> {
 
 impl<A: Allocator + Copy> Word<A> {
     /// A value that was found before the operation was issued that alone may have written it, or that none may have.
-    fn unwritten_at(&self, alloc: A, place: usize) -> Result<Option<Conflict<A>>, AllocError> {
-        let values = &self.values;
-        let Some(reader) = number_at(&values.readers, place) else {
-            return Ok(None);
+    fn unwritten_at(&self, place: usize) -> Option<Guess> {
+        let known = known_at(&self.values.known, place);
+        let reader = known.reader?;
+        if self.values.opening == Some(place) || known.marked {
+            return None;
+        }
+        let part = Part {
+            head: place,
+            size: 1,
         };
-        if values.opening == Some(place) || is_marked(&values.marked, place) {
-            return Ok(None);
+        match known.writer {
+            Some(writer) => {
+                if is_over_before(&self.uses, reader, writer) {
+                    Some(Guess::Early { part, writer })
+                } else {
+                    None
+                }
+            }
+            None => Some(Guess::Unwritten { part }),
         }
-        let writer = number_at(&values.writers, place);
-        if let Some(w) = writer
-            && !is_over_before(&self.uses, reader, w)
-        {
-            return Ok(None);
-        }
-        let zone = values.zone_from(alloc, &self.uses, place, 1)?;
-        Ok(Some(match writer {
-            Some(w) => Conflict::Early {
-                zone,
-                writer: issue_of(&self.uses, w),
-            },
-            None => Conflict::Unwritten { zone },
-        }))
     }
 
     /// A value that was found too early, or that nobody wrote.
-    fn unwritten(&self, alloc: A) -> Result<Option<Conflict<A>>, AllocError> {
-        for place in 0..self.values.numbers.len() {
-            let found = self.unwritten_at(alloc, place)?;
+    fn unwritten(&self) -> Option<Guess> {
+        for place in 0..self.values.known.len() {
+            let found = self.unwritten_at(place);
             if found.is_some() {
-                return Ok(found);
+                return found;
             }
         }
-        Ok(None)
+        None
     }
 
     /// A value that two operations found and left.
-    fn twice(&self, alloc: A) -> Result<Option<Conflict<A>>, AllocError> {
-        let Some((place, first, second)) = self.values.twice else {
-            return Ok(None);
-        };
-        let zone = self.values.zone_from(alloc, &self.uses, place, 1)?;
-        Ok(Some(Conflict::Twice {
-            zone,
-            first: issue_of(&self.uses, first),
-            second: issue_of(&self.uses, second),
-        }))
+    fn twice(&self) -> Option<Guess> {
+        let (head, first, second) = self.values.twice?;
+        Some(Guess::Twice {
+            part: Part { head, size: 1 },
+            first,
+            second,
+        })
     }
 
     /// Values of a circle.
-    fn circular(&self, alloc: A) -> Result<Option<Conflict<A>>, AllocError> {
-        let Some(place) = self.values.circle(alloc)? else {
-            return Ok(None);
-        };
-        let zone = self.values.zone_from(alloc, &self.uses, place, usize::MAX)?;
-        Ok(Some(Conflict::Unwritten { zone }))
+    fn circular(&self, alloc: A) -> Result<Option<Guess>, AllocError> {
+        match self.values.circle(alloc)? {
+            Some(head) => Ok(Some(Guess::Unwritten {
+                part: Part {
+                    head,
+                    size: usize::MAX,
+                },
+            })),
+            None => Ok(None),
+        }
     }
 
     /// The two parts of a stretch that contradicts itself.
-    fn parted(&self, alloc: A, cut: Cut) -> Result<Option<Conflict<A>>, AllocError> {
-        let Some(atomic) = number_at(&self.values.writers, cut.place) else {
-            return Ok(None);
-        };
-        let uses = &self.uses;
-        let size = cut.stretch.size;
-        let one = self.values.zone_from(alloc, uses, cut.stretch.head, size)?;
-        let other = self.values.zone_from(alloc, uses, cut.place, usize::MAX)?;
-        Ok(Some(Conflict::Crossed {
-            one,
-            other,
+    fn parted(&self, cut: Cut) -> Option<Guess> {
+        let atomic = known_at(&self.values.known, cut.place).writer?;
+        Some(Guess::Crossed {
+            one: part_of(cut.stretch),
+            other: Part {
+                head: cut.place,
+                size: usize::MAX,
+            },
             before: Before::Atomic {
-                event: issue_of(uses, atomic),
+                event: issue_of(&self.uses, atomic),
             },
             behind: Before::Times {
-                first: issue_of(uses, cut.late),
-                second: issue_of(uses, cut.early),
+                first: issue_of(&self.uses, cut.late),
+                second: issue_of(&self.uses, cut.early),
             },
-        }))
+        })
     }
 
-    /// Two stretches of which each was seen before the other.
-    fn crossed(
+    /// Adds the stretches that an operation saw. Where one contradicts itself is answered, if one does.
+    pub(crate) fn push_stretches(
         &self,
-        alloc: A,
-        one: Stretch,
-        other: Stretch,
-    ) -> Result<Option<Conflict<A>>, AllocError> {
-        let uses = &self.uses;
-        let (Some(one_last), Some(other_first), Some(other_last)) = (
-            one.last,
-            other.first,
-            other.last,
-        ) else {
-            return Ok(None);
-        };
-        let second = issue_of(uses, other_last);
-        let before = match one.first {
-            Some(first) if !one.opening => Before::Times {
-                first: issue_of(uses, first),
-                second,
-            },
-            _ => Before::Opening { event: second },
-        };
-        Ok(Some(Conflict::Crossed {
-            one: self.values.zone_from(alloc, uses, one.head, one.size)?,
-            other: self.values.zone_from(alloc, uses, other.head, other.size)?,
-            before,
-            behind: Before::Times {
-                first: issue_of(uses, other_first),
-                second: issue_of(uses, one_last),
-            },
-        }))
-    }
-
-    /// The stretches that an operation saw; or where one contradicts itself.
-    pub(crate) fn stretches(&self, alloc: A) -> Result<Result<Vec<Stretch, A>, Cut>, AllocError> {
-        let mut stretches = Vec::new(alloc);
-        for place in 0..self.values.numbers.len() {
-            if self.values.is_head(place) {
+        stretches: &mut Vec<Stretch, A>,
+    ) -> Result<Option<Cut>, AllocError> {
+        for place in 0..self.values.known.len() {
+            if is_head(&self.values.known, place) {
                 match self.values.stretch_from(&self.uses, place) {
-                    Ok(stretch) => {
-                        if stretch.last.is_some() {
-                            stretches.push(stretch)?;
-                        }
-                    }
-                    Err(cut) => return Ok(Err(cut)),
+                    Ok(stretch) => push_seen(stretches, stretch)?,
+                    Err(cut) => return Ok(Some(cut)),
                 }
             }
         }
-        Ok(Ok(stretches))
+        Ok(None)
     }
 
     /// The numbers of stretches, by the least of a stretch's first answer and its last issue.
@@ -173,62 +135,133 @@ impl<A: Allocator + Copy> Word<A> {
         Ok(ranks)
     }
 
-    /// Two stretches of which each was seen before the other: each is compared with the one that reaches farthest of
-    /// those before it.
-    fn crossing(&self, stretches: &[Stretch], ranks: &[u64]) -> Option<(Stretch, Stretch)> {
-        let mut far: Option<Stretch> = None;
-        for rank in ranks {
-            let n = (*rank & 0xffff_ffff) as usize;
-            if n < stretches.len() {
-                let stretch = stretches[n];
-                let first = stretch.first_time(&self.uses);
-                let last = stretch.last_time(&self.uses);
-                if let Some(one) = far
-                    && first < one.last_time(&self.uses)
-                    && one.first_time(&self.uses) < last
-                {
-                    return Some((one, stretch));
-                }
-                let reach = match far {
-                    Some(one) => one.last_time(&self.uses),
-                    None => 0,
-                };
-                if first < last && reach < last {
-                    far = Some(stretch);
-                }
-            }
-        }
-        None
-    }
-
     /// A certificate from the stretches, if one is guessed.
-    fn contradiction(&self, alloc: A) -> Result<Option<Conflict<A>>, AllocError> {
-        let stretches = match self.stretches(alloc)? {
-            Ok(stretches) => stretches,
-            Err(cut) => return self.parted(alloc, cut),
-        };
-        let ranks = self.ranked(alloc, &stretches)?;
-        match self.crossing(&stretches, &ranks) {
-            Some((one, other)) => self.crossed(alloc, one, other),
-            None => Ok(None),
+    fn contradiction(&self, alloc: A) -> Result<Option<Guess>, AllocError> {
+        let mut stretches = Vec::new(alloc);
+        if let Some(cut) = self.push_stretches(&mut stretches)? {
+            return Ok(self.parted(cut));
         }
+        let ranks = self.ranked(alloc, &stretches)?;
+        Ok(crossing(&self.uses, &stretches, &ranks))
     }
 
     /// A certificate from what is known of this word, if one is guessed.
-    pub(crate) fn conflict(&self, alloc: A) -> Result<Option<Conflict<A>>, AllocError> {
+    fn guess(&self, alloc: A) -> Result<Option<Guess>, AllocError> {
         if self.unclear {
             return Ok(None);
         }
-        if let Some(found) = self.unwritten(alloc)? {
+        if let Some(found) = self.unwritten() {
             return Ok(Some(found));
         }
-        if let Some(found) = self.twice(alloc)? {
+        if let Some(found) = self.twice() {
             return Ok(Some(found));
         }
         if let Some(found) = self.circular(alloc)? {
             return Ok(Some(found));
         }
         self.contradiction(alloc)
+    }
+
+    /// A part of the values as a zone.
+    fn zone_of(&self, alloc: A, part: Part) -> Result<Zone<A>, AllocError> {
+        self.values
+            .zone_from(alloc, &self.uses, part.head, part.size)
+    }
+
+    /// Two parts of which each was seen before the other, as zones.
+    fn crossed_of(
+        &self,
+        alloc: A,
+        one: Part,
+        other: Part,
+        before: Before,
+        behind: Before,
+    ) -> Result<Conflict<A>, AllocError> {
+        let one = self.zone_of(alloc, one)?;
+        let other = self.zone_of(alloc, other)?;
+        Ok(Conflict::Crossed {
+            one,
+            other,
+            before,
+            behind,
+        })
+    }
+
+    /// A certificate that is guessed, with its zones.
+    fn conflict_of(&self, alloc: A, guess: Guess) -> Result<Conflict<A>, AllocError> {
+        match guess {
+            Guess::Early { part, writer } => Ok(Conflict::Early {
+                zone: self.zone_of(alloc, part)?,
+                writer: issue_of(&self.uses, writer),
+            }),
+            Guess::Unwritten { part } => Ok(Conflict::Unwritten {
+                zone: self.zone_of(alloc, part)?,
+            }),
+            Guess::Twice {
+                part,
+                first,
+                second,
+            } => Ok(Conflict::Twice {
+                zone: self.zone_of(alloc, part)?,
+                first: issue_of(&self.uses, first),
+                second: issue_of(&self.uses, second),
+            }),
+            Guess::Crossed {
+                one,
+                other,
+                before,
+                behind,
+            } => self.crossed_of(alloc, one, other, before, behind),
+        }
+    }
+
+    /// A certificate from what is known of this word, if one is guessed, with its zones.
+    pub(crate) fn conflict(&self, alloc: A) -> Result<Option<Conflict<A>>, AllocError> {
+        match self.guess(alloc)? {
+            Some(guess) => Ok(Some(self.conflict_of(alloc, guess)?)),
+            None => Ok(None),
+        }
+    }
+
+    /// Adds the operation that event i issues, or notes that it isn't clear what it did.
+    fn add(
+        &mut self,
+        events: &[Event],
+        partners: &[Option<usize>],
+        i: usize,
+    ) -> Result<(), AllocError> {
+        if let Some(call) = call_at(events, i) {
+            match use_at(events, partners, i, call.operation.op) {
+                Some(known) => self.uses.push(known)?,
+                None => self.unclear = true,
+            }
+        }
+        Ok(())
+    }
+
+    /// Adds the operations that these events issue.
+    fn add_all(
+        &mut self,
+        events: &[Event],
+        partners: &[Option<usize>],
+        mine: &[usize],
+    ) -> Result<(), AllocError> {
+        for i in mine {
+            self.add(events, partners, *i)?;
+        }
+        Ok(())
+    }
+
+    /// Takes up the operations that these events issue, and the values of the word, where there are none.
+    fn take_up(
+        &mut self,
+        opening: u64,
+        events: &[Event],
+        partners: &[Option<usize>],
+        mine: &[usize],
+    ) -> Result<(), AllocError> {
+        self.add_all(events, partners, mine)?;
+        self.values.take_up(opening, &self.uses)
     }
 }
 
@@ -243,11 +276,11 @@ pub(crate) fn word_of<A: Allocator + Copy>(
     if events.len() > MOST_EVENTS {
         return Ok(None);
     }
-    let uses = uses_of(alloc, events, partners, mine)?;
-    let values = values_of(alloc, opening, &uses.known)?;
-    Ok(Some(Word {
-        uses: uses.known,
-        unclear: uses.unclear,
-        values,
-    }))
+    let mut word = Word {
+        uses: Vec::new(alloc),
+        unclear: false,
+        values: no_values(alloc),
+    };
+    word.take_up(opening, events, partners, mine)?;
+    Ok(Some(word))
 }

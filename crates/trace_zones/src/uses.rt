@@ -3,8 +3,7 @@
 ghost use Rattle.std.specs.Prelude.{◌<◌, ◌≤◌, length};
 
 use packet::{Op, Reply, apply};
-use std::alloc::{AllocError, Allocator};
-use trace_guess::pairs::{call_at, number_at, reply_at};
+use trace_guess::pairs::{number_at, reply_at};
 use trace_laws::Event;
 
 /// An operation: the events that issue and answer it, the word that it found, and the other word that it left. One that
@@ -41,53 +40,20 @@ fn effect_of(op: Op, reply: Option<Reply>) -> Option<(Option<u64>, Option<u64>)>
     }
 }
 
-/// The operations on a word, and whether there is another of which it isn't clear what it found and left.
-#[derive(Drop)]
-pub(crate) struct Uses<A: Allocator> {
-    pub known: Vec<Use, A>,
-    pub unclear: bool,
-}
-
-impl<A: Allocator> Uses<A> {
-    /// Adds the operation that event i issues.
-    fn add(
-        &mut self,
-        events: &[Event],
-        partners: &[Option<usize>],
-        i: usize,
-    ) -> Result<(), AllocError> {
-        let Some(call) = call_at(events, i) else {
-            return Ok(());
-        };
-        let Some((found, left)) = effect_of(call.operation.op, reply_at(events, partners, i)) else {
-            self.unclear = true;
-            return Ok(());
-        };
-        self.known.push(Use {
-            issue: i,
-            answer: number_at(partners, i),
-            found,
-            left,
-        })?;
-        Ok(())
-    }
-}
-
-/// The operations that these events issue.
-pub(crate) fn uses_of<A: Allocator + Copy>(
-    alloc: A,
+/// The operation that event i issues, if it is clear what it found and left.
+pub(crate) fn use_at(
     events: &[Event],
     partners: &[Option<usize>],
-    mine: &[usize],
-) -> Result<Uses<A>, AllocError> {
-    let mut uses = Uses {
-        known: Vec::new(alloc),
-        unclear: false,
-    };
-    for i in mine {
-        uses.add(events, partners, *i)?;
-    }
-    Ok(uses)
+    i: usize,
+    op: Op,
+) -> Option<Use> {
+    let (found, left) = effect_of(op, reply_at(events, partners, i))?;
+    Some(Use {
+        issue: i,
+        answer: number_at(partners, i),
+        found,
+        left,
+    })
 }
 
 /// The event that issues an operation.

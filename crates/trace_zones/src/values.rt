@@ -4,24 +4,41 @@ ghost use Rattle.std.specs.Prelude.{◌<◌, ◌≤◌, length};
 
 use crate::uses::{Use, answer_of, earlier_answer, later_issue};
 use std::alloc::{AllocError, Allocator};
-use trace_guess::pairs::{number_at, set_number};
 
-/// The values that operations of a word found or left, which rise. Of each: the first operation that may have written
-/// it; whether others may have too, or it is the opening word again; the operation answered first that found it; the
-/// operation that found it and left another, and the place of that; whether there is a value before it; and of those
-/// that saw it the one answered first and the one issued last.
+/// What is known of a value: the first operation that may have written it; whether others may have too, or it is the
+/// opening word again; the operation answered first that found it; the operation that found it and left another, and
+/// the place of that; whether there is a value before it; and of those that saw it the one answered first and the one
+/// issued last.
+#[derive(Clone, Copy)]
+pub(crate) struct Known {
+    pub writer: Option<usize>,
+    pub marked: bool,
+    pub reader: Option<usize>,
+    pub leaver: Option<usize>,
+    pub next: Option<usize>,
+    pub behind: bool,
+    pub first: Option<usize>,
+    pub last: Option<usize>,
+}
+
+/// A value of which nothing is known.
+const UNKNOWN: Known = Known {
+    writer: None,
+    marked: false,
+    reader: None,
+    leaver: None,
+    next: None,
+    behind: false,
+    first: None,
+    last: None,
+};
+
+/// The values that operations of a word found or left, which rise, and what is known of each.
 #[derive(Drop)]
 pub(crate) struct Values<A: Allocator> {
     pub numbers: Vec<u64, A>,
     pub opening: Option<usize>,
-    pub writers: Vec<Option<usize>, A>,
-    pub marked: Vec<bool, A>,
-    pub readers: Vec<Option<usize>, A>,
-    pub leavers: Vec<Option<usize>, A>,
-    pub nexts: Vec<Option<usize>, A>,
-    pub behind: Vec<bool, A>,
-    pub firsts: Vec<Option<usize>, A>,
-    pub lasts: Vec<Option<usize>, A>,
+    pub known: Vec<Known, A>,
     /// Of each operation whether it surely took effect.
     pub taken: Vec<bool, A>,
     /// The place of a value that was left twice, and who did.
@@ -42,73 +59,120 @@ pub(crate) fn mark(marks: &mut [bool], place: usize) {
     }
 }
 
-/// The values that operations found or left, which rise, and the opening word.
-fn numbers_of<A: Allocator>(
-    alloc: A,
-    opening: u64,
-    uses: &[Use],
-) -> Result<Vec<u64, A>, AllocError> {
-    let mut numbers = Vec::new(alloc);
-    numbers.push(opening)?;
-    for known in uses {
-        if let Some(found) = known.found {
-            numbers.push(found)?;
-        }
-        if let Some(left) = known.left {
-            numbers.push(left)?;
+/// What is known of the value at a place, nothing where there is none.
+pub(crate) fn known_at(values: &[Known], place: usize) -> Known {
+    values.get(place).copied().unwrap_or(UNKNOWN)
+}
+
+/// Adds a value, if there is one.
+fn push_if_some<A: Allocator>(
+    numbers: &mut Vec<u64, A>,
+    value: Option<u64>,
+) -> Result<(), AllocError> {
+    if let Some(number) = value {
+        numbers.push(number)?;
+    }
+    Ok(())
+}
+
+/// Adds the values that operations found or left.
+fn push_values<A: Allocator>(numbers: &mut Vec<u64, A>, uses: &[Use]) -> Result<(), AllocError> {
+    for it in uses {
+        push_if_some(numbers, it.found)?;
+        push_if_some(numbers, it.left)?;
+    }
+    Ok(())
+}
+
+/// Notes that an operation may have written the value at a place. Says whether it alone may have, and it isn't the
+/// opening word.
+fn note_writer(values: &mut [Known], opening: Option<usize>, place: usize, u: usize) -> bool {
+    if place >= values.len() {
+        return true;
+    }
+    let is_alone = values[place].writer.is_none() && opening != Some(place);
+    values[place].marked = !is_alone;
+    values[place].writer = Some(u);
+    is_alone
+}
+
+/// Notes that an operation found the value at a place.
+fn note_reader(values: &mut [Known], uses: &[Use], place: usize, u: usize) {
+    if place < values.len() {
+        values[place].reader = earlier_answer(uses, values[place].reader, Some(u));
+    }
+}
+
+/// Notes that an operation found the value at one place, and left that at another, if there is one. The operation that
+/// did so before it is answered, if one did.
+fn link(values: &mut [Known], u: usize, place: usize, next: Option<usize>) -> Option<usize> {
+    if place >= values.len() {
+        return None;
+    }
+    let first = values[place].leaver;
+    if first.is_some() {
+        return first;
+    }
+    values[place].leaver = Some(u);
+    values[place].next = next;
+    if let Some(at) = next
+        && at < values.len()
+    {
+        values[at].behind = true;
+    }
+    None
+}
+
+/// Notes that an operation saw the value at a place.
+fn see(values: &mut [Known], uses: &[Use], u: usize, place: usize) {
+    if place < values.len() {
+        values[place].last = later_issue(uses, values[place].last, Some(u));
+        if answer_of(uses, u).is_some() {
+            values[place].first = earlier_answer(uses, values[place].first, Some(u));
         }
     }
-    numbers.sort_unstable();
-    numbers.dedup();
-    Ok(numbers)
 }
 
-/// The values of a word, of which nothing is known yet.
-fn empty_values<A: Allocator + Copy>(
-    alloc: A,
-    opening: u64,
-    uses: &[Use],
-) -> Result<Values<A>, AllocError> {
-    let numbers = numbers_of(alloc, opening, uses)?;
-    let count = numbers.len();
-    Ok(Values {
-        opening: numbers.binary_search(&opening).ok(),
-        numbers,
-        writers: vec![in alloc; None; count]?,
-        marked: vec![in alloc; false; count]?,
-        readers: vec![in alloc; None; count]?,
-        leavers: vec![in alloc; None; count]?,
-        nexts: vec![in alloc; None; count]?,
-        behind: vec![in alloc; false; count]?,
-        firsts: vec![in alloc; None; count]?,
-        lasts: vec![in alloc; None; count]?,
-        taken: vec![in alloc; false; uses.len()]?,
+/// No values.
+pub(crate) fn no_values<A: Allocator + Copy>(alloc: A) -> Values<A> {
+    Values {
+        numbers: Vec::new(alloc),
+        opening: None,
+        known: Vec::new(alloc),
+        taken: Vec::new(alloc),
         twice: None,
         are_different: true,
-    })
-}
-
-/// The values of a word.
-pub(crate) fn values_of<A: Allocator + Copy>(
-    alloc: A,
-    opening: u64,
-    uses: &[Use],
-) -> Result<Values<A>, AllocError> {
-    let mut values = empty_values(alloc, opening, uses)?;
-    values.note_writers(uses);
-    values.note_readers(uses);
-    values.take_written(uses);
-    values.link_all(uses);
-    values.see_all(uses);
-    Ok(values)
+    }
 }
 
 impl<A: Allocator> Values<A> {
+    /// Takes up the values of a word, where there are none.
+    pub(crate) fn take_up(&mut self, opening: u64, uses: &[Use]) -> Result<(), AllocError> {
+        self.numbers.push(opening)?;
+        push_values(&mut self.numbers, uses)?;
+        self.numbers.sort_unstable();
+        self.numbers.dedup();
+        self.known.resize(self.numbers.len(), UNKNOWN)?;
+        self.taken.resize(uses.len(), false)?;
+        self.opening = self.numbers.binary_search(&opening).ok();
+        self.note_all(uses);
+        Ok(())
+    }
+
+    /// Notes what operations tell of the values.
+    fn note_all(&mut self, uses: &[Use]) {
+        self.note_writers(uses);
+        self.note_readers(uses);
+        self.take_written(uses);
+        self.link_all(uses);
+        self.see_all(uses);
+    }
+
     /// The place of a value that one operation may have written.
     pub(crate) fn place_of(&self, value: Option<u64>) -> Option<usize> {
         let number = value?;
         let place = self.numbers.binary_search(&number).ok()?;
-        if is_marked(&self.marked, place) {
+        if known_at(&self.known, place).marked {
             return None;
         }
         Some(place)
@@ -117,12 +181,10 @@ impl<A: Allocator> Values<A> {
     /// Notes who may have written each value.
     fn note_writers(&mut self, uses: &[Use]) {
         for u in 0..uses.len() {
-            if let Some(place) = self.place_of(uses[u].left) {
-                if number_at(&self.writers, place).is_some() || self.opening == Some(place) {
-                    mark(&mut self.marked, place);
-                    self.are_different = false;
-                }
-                set_number(&mut self.writers, place, Some(u));
+            if let Some(place) = self.place_of(uses[u].left)
+                && !note_writer(&mut self.known, self.opening, place, u)
+            {
+                self.are_different = false;
             }
         }
     }
@@ -133,39 +195,38 @@ impl<A: Allocator> Values<A> {
             if uses[u].answer.is_some() {
                 mark(&mut self.taken, u);
                 if let Some(place) = self.place_of(uses[u].found) {
-                    let first = number_at(&self.readers, place);
-                    let earlier = earlier_answer(uses, first, Some(u));
-                    set_number(&mut self.readers, place, earlier);
+                    note_reader(&mut self.known, uses, place, u);
                 }
             }
         }
     }
 
+    /// The place of what the operation found that wrote the value at another, if it isn't known that it took effect.
+    /// Then that is noted.
+    fn step_back(&mut self, uses: &[Use], place: usize) -> Option<usize> {
+        let writer = known_at(&self.known, place).writer?;
+        if writer >= uses.len() || is_marked(&self.taken, writer) {
+            return None;
+        }
+        mark(&mut self.taken, writer);
+        self.place_of(uses[writer].found)
+    }
+
     /// What wrote the value at a place took effect, and so on back.
     fn take_back(&mut self, uses: &[Use], place: usize) {
-        let mut next = Some(place);
+        let mut at = place;
         for _ in 0..uses.len() {
-            let Some(at) = next else {
-                return;
-            };
-            let Some(writer) = number_at(&self.writers, at) else {
-                return;
-            };
-            if is_marked(&self.taken, writer) {
-                return;
+            match self.step_back(uses, at) {
+                Some(next) => at = next,
+                None => return,
             }
-            mark(&mut self.taken, writer);
-            next = match uses.get(writer).copied() {
-                Some(known) => self.place_of(known.found),
-                None => None,
-            };
         }
     }
 
     /// What wrote a value that was found took effect.
     fn take_written(&mut self, uses: &[Use]) {
-        for place in 0..self.numbers.len() {
-            if number_at(&self.readers, place).is_some() && !is_marked(&self.marked, place) {
+        for place in 0..self.known.len() {
+            if self.known[place].reader.is_some() && !self.known[place].marked {
                 self.take_back(uses, place);
             }
         }
@@ -173,14 +234,9 @@ impl<A: Allocator> Values<A> {
 
     /// Notes that an operation found the value at one place, and left another.
     fn link(&mut self, u: usize, place: usize, left: u64) {
-        if let Some(first) = number_at(&self.leavers, place) {
+        let next = self.place_of(Some(left));
+        if let Some(first) = link(&mut self.known, u, place, next) {
             self.twice = Some((place, first, u));
-            return;
-        }
-        set_number(&mut self.leavers, place, Some(u));
-        if let Some(next) = self.place_of(Some(left)) {
-            set_number(&mut self.nexts, place, Some(next));
-            mark(&mut self.behind, next);
         }
     }
 
@@ -196,15 +252,10 @@ impl<A: Allocator> Values<A> {
         }
     }
 
-    /// Notes that an operation saw the value at a place.
+    /// Notes that an operation saw a value.
     fn see(&mut self, uses: &[Use], u: usize, value: Option<u64>) {
         if let Some(place) = self.place_of(value) {
-            let last = later_issue(uses, number_at(&self.lasts, place), Some(u));
-            set_number(&mut self.lasts, place, last);
-            if answer_of(uses, u).is_some() {
-                let first = earlier_answer(uses, number_at(&self.firsts, place), Some(u));
-                set_number(&mut self.firsts, place, first);
-            }
+            see(&mut self.known, uses, u, place);
         }
     }
 
