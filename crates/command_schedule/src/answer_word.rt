@@ -10,7 +10,7 @@ use packet::Reply;
 use std::alloc::{AllocError, Allocator};
 
 /// A word of an answer.
-#[derive(Clone, Copy, Debug, PartialEq, Eq)]
+#[derive(Clone, Copy, PartialEq)]
 pub enum AnswerWord {
     /// What stands between the replies of two processors.
     Parting,

@@ -1,7 +1,7 @@
 use torus::Step;
 
 /// What a line of a schedule says.
-#[derive(Clone, Copy, Debug, PartialEq, Eq)]
+#[derive(Clone, Copy)]
 pub enum ScheduleLine {
     /// A comment in the schedule: the moves that follow are those of the round of this number.
     Round(u64),
