@@ -45,6 +45,7 @@ some_first q turn order x y lx ly (inr (inr (inr closed))) =
 some_first q turn order x y lx ly (inr (inr (inl read))) =
     let from : slice_index q.sources.now y < length q.operations.now = subst (λ z. z < length q.operations.now) (sym read.source) lx in
     read_rises q.rules.now q.operations.now order.sources q.words q.openings q.closing turn order.is x y lx ly (record {
+      told = (let low = read.told in let size = order.size in omega (arith, low, size));
       source = order.agrees y ly from ∙ read.source;
       written = read.written;
       word = read.word;

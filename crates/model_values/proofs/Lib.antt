@@ -7,6 +7,7 @@ pub mod Concluding
 pub mod Apart
 pub mod Forcing
 pub mod Accepted
+pub mod Adding
 pub mod Written
 pub mod ByValues
 pub mod Weights

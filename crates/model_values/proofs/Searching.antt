@@ -3,7 +3,7 @@ use Rattle.std.proofs.Common.{◌≡◌, ℕ, ◌+◌, ◌-◌, ◌*◌, ◌<◌
 use Rattle.std.specs.Prelude.{Option, None, Some}
 use Rattle.model_values.specs.declared.question.Unordered.{Unordered}
 use Rattle.model_values.specs.Answers.{IsRefuted, IsSplit, IsTurned}
-use Rattle.model_values.specs.Known.{AgreesWith, AreConcluded, AreRivals, HasSpreadOrder, IsOpenPair}
+use Rattle.model_values.specs.Known.{AgreesWith, AreConcluded, AreRivals, AreStarted, HasSpreadOrder, IsNowhereAround, IsOpenPair, IsTransitive}
 use Rattle.model_values.specs.Searches.{IsCutOff}
 use Rattle.model_values.specs.Unordered.{IsOrderOf}
 use Rattle.model_values.proofs.Split.{IsPathOf, path_first, path_spread, path_split, path_turned, path_ended}
@@ -33,9 +33,10 @@ number (Some n) = n
 
 pub searching_first : (q : Unordered) (nodes : Option ℕ) (table : List ℕ) (path : List (ℕ × ℕ)) → length path ≡ 0
     → length table ≡ length q.operations.now * length q.operations.now
-    → ((turn : ℕ → ℕ) → IsOrderOf q turn → AgreesWith table (length q.operations.now) 0 turn) → IsSearching q nodes nodes true table path
-searching_first q nodes table path zero size all = record {
-  stands = path_first q table path zero size all;
+    → ((turn : ℕ → ℕ) → IsOrderOf q turn → AgreesWith table (length q.operations.now) 0 turn) → AreStarted q table 0
+    → IsTransitive table (length q.operations.now) 0 → IsSearching q nodes nodes true table path
+searching_first q nodes table path zero size all started transitive = record {
+  stands = path_first q table path zero size all started transitive;
   count = 0;
   at = λ _. searches_first q table path zero;
   some = λ n is. (omega arith, (let e : n ≡ n - 0 = omega arith in is ∙ ap Some e));
@@ -67,11 +68,12 @@ some_more nodes left new count some spent n is =
 pub searching_split : (q : Unordered) (nodes left new : Option ℕ) (x y : ℕ) (path next : List (ℕ × ℕ)) (t s u : List ℕ)
     → length path + 1 < 18446744073709551615 → IsSearching q nodes left true t path → IsSpent true left new → HasSpreadOrder q (length path) t s
     → IsOpenPair q.operations.now s (length path) (x, y) → AreRivals q.operations.now x y → AreConcluded q s (length path)
+    → IsNowhereAround s (length q.operations.now) (length path)
     → IsSplit (length q.operations.now) x y path s next u → IsSearching q nodes new true u next
-searching_split q nodes left new x y path next t s u small g spent spread o rivals all split = record {
+searching_split q nodes left new x y path next t s u small g spent spread o rivals all around split = record {
   stands = path_split q x y path next s u small (path_spread q t s path spread g.stands) o split;
   count = g.count + 1;
-  at = λ _. searches_split q x y g.count path next t s u small (g.at refl) spread o rivals all split;
+  at = λ _. searches_split q x y g.count path next t s u small (path_spread q t s path spread g.stands) (g.at refl) spread o rivals all around split;
   some = some_more nodes left new g.count g.some spent;
   none = λ is. (spent.none (g.none is)).1;
   ended = λ bad. absurd (let no : true ≡ false = bad in cc);
@@ -125,7 +127,8 @@ searching_back q nodes left new path next t s u false back small go g spent spre
 pub searching_on : (q : Unordered) (nodes left new : Option ℕ) (x y : ℕ) (path next : List (ℕ × ℕ)) (t s u : List ℕ) (more : Bool)
     → length path + 1 < 18446744073709551615 → more ≡ true → IsSearching q nodes left more t path → IsSpent true left new
     → HasSpreadOrder q (length path) t s → IsOpenPair q.operations.now s (length path) (x, y) → AreRivals q.operations.now x y
-    → AreConcluded q s (length path) → IsSplit (length q.operations.now) x y path s next u → IsSearching q nodes new more u next
-searching_on q nodes left new x y path next t s u true small go g spent spread o rivals all split =
-    searching_split q nodes left new x y path next t s u small g spent spread o rivals all split
-searching_on q nodes left new x y path next t s u false small go g spent spread o rivals all split = absurd (let no : false ≡ true = go in cc)
+    → AreConcluded q s (length path) → IsNowhereAround s (length q.operations.now) (length path)
+    → IsSplit (length q.operations.now) x y path s next u → IsSearching q nodes new more u next
+searching_on q nodes left new x y path next t s u true small go g spent spread o rivals all around split =
+    searching_split q nodes left new x y path next t s u small g spent spread o rivals all around split
+searching_on q nodes left new x y path next t s u false small go g spent spread o rivals all around split = absurd (let no : false ≡ true = go in cc)

@@ -6,7 +6,7 @@ use Rattle.std.proofs.lemmas.Nat.{mul-add-lt}
 use Rattle.std.proofs.lemmas.List.{length-take-le, length_push, get_or-take, get_or_push, get_or_append_left}
 use Rattle.model_values.specs.declared.question.Unordered.{Unordered}
 use Rattle.model_values.specs.Answers.{AreSplitsBelow, IsRefuted, IsSplit, IsTurned, split_at}
-use Rattle.model_values.specs.Known.{is_known, AgreesWith, HasNoted, HasSpreadOrder, IsForgotten, IsNoted, IsOpenPair, IsSameBelow, unknown}
+use Rattle.model_values.specs.Known.{is_known, AgreesWith, AreStarted, HasNoted, HasSpreadOrder, IsForgotten, IsNoted, IsOpenPair, IsSameBelow, IsTransitive, unknown}
 use Rattle.model_values.specs.Unordered.{IsOrderOf}
 use Rattle.model_values.proofs.Explained.{one_first}
 use Rattle.model_values.proofs.Table.{known_le, le_known, noted_then, noted_below, below_noted, below_then, forgotten_below, same_agrees, forgotten_agrees, unknown_less, unknown_fewer, unknown_most}
@@ -26,10 +26,18 @@ pub record IsPathOf (q : Unordered) (table : List ℕ) (path : List (ℕ × ℕ)
   pub all : (turn : ℕ → ℕ) → IsOrderOf q turn → AgreesWith table (length q.operations.now) 0 turn
   pub each : (i : ℕ) → i < length path → IsSplitAt q table i (split_at path i).0 (split_at path i).1
   pub room : (i : ℕ) → i ≤ length path → i + unknown i table ≤ length table
+  pub started : AreStarted q table 0
+  pub transitive : (i : ℕ) → i ≤ length path → IsTransitive table (length q.operations.now) i
 
 -- entries up to a level stay
 abbrev pub StayTo : ℕ → List ℕ → List ℕ → Type 0
 StayTo level old new = (k : ℕ) → slice_index old k ≤ level → slice_index new k ≡ slice_index old k
+
+pub stays : (size level i x y : ℕ) (old new : List ℕ) → StayTo level old new → i ≤ level → is_known old size i x y ≡ true → is_known new size i x y ≡ true
+stays size level i x y old new stay low known =
+    let at = known_le old size i x y known in
+    let e = stay (x * size + y) (omega (arith, at, low)) in
+    le_known new size i x y (omega (arith, e, at))
 
 pub less_to : (level : ℕ) (old new : List ℕ) → length new ≡ length old → StayTo level old new → (i : ℕ) → i ≤ level → unknown i new ≤ unknown i old
 less_to level old new size stay i low =
@@ -61,6 +69,37 @@ back_known level size i x y old new same low known =
       | inr high ↦ absurd (let more = same.above (x * size + y) (omega (arith, high)) in omega (arith, more, at, low))
     ]
 
+pub forth_known : (level size i x y : ℕ) (old new : List ℕ) → IsSameBelow level old new → i < level → is_known old size i x y ≡ true
+    → is_known new size i x y ≡ true
+forth_known level size i x y old new same low known =
+    let at = known_le old size i x y known in
+    let e = same.kept (x * size + y) (omega (arith, at, low)) in
+    le_known new size i x y (omega (arith, e, at))
+
+below_transitive : (level size i : ℕ) (old new : List ℕ) → IsSameBelow level old new → i < level → IsTransitive old size i → IsTransitive new size i
+below_transitive level size i old new same low all x y z lx ly lz one two =
+    forth_known level size i x z old new same low
+    (all x y z lx ly lz (back_known level size i x y old new same low one) (back_known level size i y z old new same low two))
+
+forgotten_transitive : (level size : ℕ) (old new : List ℕ) → length old ≡ size * size → level + 1 < 18446744073709551615
+    → IsForgotten level old new → IsTransitive old size level → IsTransitive new size (level + 1)
+forgotten_transitive level size old new long small f all x y z lx ly lz one two =
+    let at = f.kept (x * size + z) (within x z lx lz) low in
+    le_known new size (level + 1) x z (omega (arith, at, low))
+  where
+    within : (a b : ℕ) → a < size → b < size → a * size + b < length old
+    within a b la lb = subst (λ n. a * size + b < n) (sym long) (mul-add-lt a size b size la lb)
+
+    was : (a b : ℕ) → a < size → b < size → is_known new size (level + 1) a b ≡ true → is_known old size level a b ≡ true
+    was a b la lb known = elim (cases_lt level (slice_index old (a * size + b))) [
+      | inl more ↦ absurd (let at = f.gone (a * size + b) (within a b la lb) more in
+          let low = known_le new size (level + 1) a b known in omega (arith, at, low, small))
+      | inr not ↦ le_known old size level a b (omega (arith, not))
+    ]
+
+    low : slice_index old (x * size + z) ≤ level
+    low = known_le old size level x z (all x y z lx ly lz (was x y lx ly one) (was y z ly lz two))
+
 -- a split below the level of what changes
 pub split_same : (q : Unordered) (old new : List ℕ) (level i x y : ℕ) → IsSameBelow level old new → i < level
     → ((turn : ℕ → ℕ) → IsOrderOf q turn → AgreesWith old (length q.operations.now) level turn → AgreesWith new (length q.operations.now) level turn)
@@ -91,8 +130,9 @@ all_same q old new (suc level) same top all turn order =
 pub path_same : (q : Unordered) (old new : List ℕ) (path : List (ℕ × ℕ)) → IsNoted (length path) old new
     → ((turn : ℕ → ℕ) → IsOrderOf q turn → AgreesWith old (length q.operations.now) (length path) turn
     → AgreesWith new (length q.operations.now) (length path) turn)
+    → (IsTransitive old (length q.operations.now) (length path) → IsTransitive new (length q.operations.now) (length path))
     → IsPathOf q old path → IsPathOf q new path
-path_same q old new path noted top p =
+path_same q old new path noted top follows p =
     let same = noted_below (length path) old new noted in
     record {
       size = noted.size ∙ p.size;
@@ -100,10 +140,16 @@ path_same q old new path noted top p =
       each = λ i low. split_same q old new (length path) i (split_at path i).0 (split_at path i).1 same low top (p.each i low);
       room = λ i low. (let less = less_to (length path) old new noted.size noted.kept i low in let room = p.room i low in
           omega (arith, less, room, noted.size));
+      started = λ x lx y ly first. stays (length q.operations.now) (length path) 0 x y old new noted.kept (omega arith) (p.started x lx y ly first);
+      transitive = λ i low. (elim (cases_lt i (length path)) [
+        | inl less ↦ below_transitive (length path) (length q.operations.now) i old new same less (p.transitive i low)
+        | inr not ↦ (let e : i ≡ length path = omega (arith, not, low) in
+            subst (λ z. IsTransitive new (length q.operations.now) z) (sym e) (follows (p.transitive (length path) (omega arith))))
+      ]);
     }
 
 pub path_spread : (q : Unordered) (old new : List ℕ) (path : List (ℕ × ℕ)) → HasSpreadOrder q (length path) old new → IsPathOf q old path → IsPathOf q new path
-path_spread q old new path s p = path_same q old new path s.noted s.agrees p
+path_spread q old new path s p = path_same q old new path s.noted s.agrees s.transitive p
 
 -- the writes of a path's splits are operations
 pub path_below : (q : Unordered) (table : List ℕ) (path : List (ℕ × ℕ)) → IsPathOf q table path → AreSplitsBelow (length q.operations.now) path
@@ -186,6 +232,15 @@ path_pushed q x y path next s t small p o g =
             let room = p.room (length path) (omega arith) in
             subst (λ z. z + unknown z t ≤ length t) (sym e) (omega (arith, fewer, room, long)))
       ]);
+      started = λ a la b lb first. forth_known (length path + 1) (length q.operations.now) 0 a b s t same (omega arith) (p.started a la b lb first);
+      transitive = λ i low. (elim (cases_lt i (length path + 1)) [
+        | inl less ↦ below_transitive (length path + 1) (length q.operations.now) i s t same less (p.transitive i (omega (arith, less)))
+        | inr not ↦ (let more = length_push path (x, y) in
+            let e : i ≡ length path + 1 = omega (arith, more, low, not) in
+            subst (λ z. IsTransitive t (length q.operations.now) z) (sym e)
+            (g.noted.transitive (forgotten_transitive (length path) (length q.operations.now) s g.kept p.size small g.forgot
+            (p.transitive (length path) (omega arith)))))
+      ]);
     }
   where
     under : (i : ℕ) → i < length path → IsSplitAt q t i (split_at path i).0 (split_at path i).1
@@ -235,6 +290,8 @@ path_shorter q s path last e p =
       each = λ i low. (let less : i < last = omega (arith, low, size) in
           subst (λ (w : ℕ × ℕ). IsSplitAt q s i w.0 w.1) (sym (get_or-take last path i (0, 0) less)) (p.each i (omega (arith, less, e))));
       room = λ i low. p.room i (omega (arith, low, size, e));
+      started = p.started;
+      transitive = λ i low. p.transitive i (omega (arith, low, size, e));
     }
 
 pub path_turned : (q : Unordered) (path next : List (ℕ × ℕ)) (s t : List ℕ) → length path < 18446744073709551615 → IsPathOf q s path
@@ -251,6 +308,9 @@ path_turned q path next s t small p none g =
     (λ turn order agrees. subst (λ z. AgreesWith t (length q.operations.now) z turn) (sym size)
     (turned_agrees q last (split_at path last).0 (split_at path last).1 s g.kept t low split refuted g.forgot g.noted turn order
     (subst (λ z. AgreesWith s (length q.operations.now) z turn) size agrees)))
+    (λ all. subst (λ z. IsTransitive t (length q.operations.now) z) (sym size)
+    (g.noted.transitive (below_transitive (last + 1) (length q.operations.now) last s g.kept (turned_below (length q.operations.now) last s g.kept low g.forgot)
+    (omega arith) (subst (λ z. IsTransitive s (length q.operations.now) z) size all))))
     (path_shorter q s path last g.behind p))
 
 -- the second side knows more
@@ -274,12 +334,15 @@ turned_fewer q path next s t small p g =
 -- the first path
 pub path_first : (q : Unordered) (table : List ℕ) (path : List (ℕ × ℕ)) → length path ≡ 0
     → length table ≡ length q.operations.now * length q.operations.now
-    → ((turn : ℕ → ℕ) → IsOrderOf q turn → AgreesWith table (length q.operations.now) 0 turn) → IsPathOf q table path
-path_first q table path none size all = record {
+    → ((turn : ℕ → ℕ) → IsOrderOf q turn → AgreesWith table (length q.operations.now) 0 turn) → AreStarted q table 0
+    → IsTransitive table (length q.operations.now) 0 → IsPathOf q table path
+path_first q table path none size all started transitive = record {
   size = size;
   all = all;
   each = λ i low. absurd (omega (arith, low, none));
   room = λ i low. (let e : i ≡ 0 = omega (arith, low, none) in let most = unknown_most i table in omega (arith, e, most));
+  started = started;
+  transitive = λ i low. (let e : i ≡ 0 = omega (arith, low, none) in subst (λ z. IsTransitive table (length q.operations.now) z) (sym e) transitive);
 }
 
 -- no order agrees with the lowest level, so none explains the trace

@@ -189,54 +189,9 @@ unknown_most level (e ∷ es) = let rest = unknown_most level es in let here = m
 pub not_wanted : (size level : ℕ) (wanted : Bool) (x y : ℕ) (table : List ℕ) → wanted ≡ false → HasNoted size level wanted x y table table
 not_wanted size level wanted x y table not = record {
   noted = noted_same level table;
+  transitive = λ old. old;
   agrees = λ turn agrees _. agrees;
   known = λ want. (let bad : true ≡ false = sym want ∙ not in cc);
-}
-
--- what is known needs no note
-pub was_known : (size level : ℕ) (wanted : Bool) (x y : ℕ) (table : List ℕ) → slice_index table (x * size + y) ≤ level
-    → HasNoted size level wanted x y table table
-was_known size level wanted x y table low = record {
-  noted = noted_same level table;
-  agrees = λ turn agrees _. agrees;
-  known = λ _. le_known table size level x y low;
-}
-
--- a note
-pub is_set : (size level : ℕ) (wanted : Bool) (x y : ℕ) (table : List ℕ) → length table ≡ size * size → x < size → y < size → wanted ≡ true
-    → level < slice_index table (x * size + y) → HasNoted size level wanted x y table (slice_set table (x * size + y) level)
-is_set size level wanted x y table long lx ly want high =
-    let low : x * size + y < length table = subst (λ n. x * size + y < n) (sym long) (mul-add-lt x size y size lx ly) in
-    record {
-      noted = set_noted table (x * size + y) level low high;
-      agrees = λ turn agrees less. set_agrees table size level x y turn long lx ly agrees (less want);
-      known = λ _. set_known table size level x y long lx ly;
-    }
-
--- and what the second comes before
-pub behind_more : (size level : ℕ) (wanted : Bool) (x y z : ℕ) (behind : Bool) (a b c : List ℕ) → y < size → z < size → wanted ≡ true
-    → behind ≡ is_known b size level y z → HasNoted size level wanted x y a b → HasNoted size level behind x z b c
-    → HasNoted size level wanted x y a c
-behind_more size level wanted x y z behind a b c ly lz want is one two = record {
-  noted = noted_then level a b c one.noted two.noted;
-  agrees = λ turn agrees less. (let mid = one.agrees turn agrees less in
-      two.agrees turn mid (λ late. (let first = less want in
-      let second = mid y z ly lz (sym is ∙ late) in
-      omega (arith, first, second))));
-  known = λ also. noted_known level size b c x y two.noted (one.known also);
-}
-
--- and what comes before the first
-pub before_more : (size level : ℕ) (wanted : Bool) (x y z : ℕ) (before : Bool) (a b c : List ℕ) → x < size → z < size → wanted ≡ true
-    → before ≡ is_known b size level z x → HasNoted size level wanted x y a b → HasNoted size level before z y b c
-    → HasNoted size level wanted x y a c
-before_more size level wanted x y z before a b c lx lz want is one two = record {
-  noted = noted_then level a b c one.noted two.noted;
-  agrees = λ turn agrees less. (let mid = one.agrees turn agrees less in
-      two.agrees turn mid (λ early. (let first = less want in
-      let second = mid z x lz lx (sym is ∙ early) in
-      omega (arith, first, second))));
-  known = λ also. noted_known level size b c x y two.noted (one.known also);
 }
 
 -- what is known needs no note
@@ -244,16 +199,18 @@ pub known_noted : (size level : ℕ) (wanted : Bool) (x y : ℕ) (table : List �
     → HasNoted size level wanted x y table table
 known_noted size level wanted x y table known is fact = record {
   noted = noted_same level table;
+  transitive = λ old. old;
   agrees = λ turn agrees _. agrees;
   known = λ _. sym is ∙ fact;
 }
 
 pub has_spread : (q : Unordered) (level : ℕ) (table : List ℕ) → HasSpreadOrder q level table table
-has_spread q level table = record { noted = noted_same level table; agrees = λ turn order agrees. agrees }
+has_spread q level table = record { noted = noted_same level table; transitive = λ old. old; agrees = λ turn order agrees. agrees }
 
 pub spread_then : (q : Unordered) (level : ℕ) (a b c : List ℕ) → HasSpreadOrder q level a b → HasSpreadOrder q level b c → HasSpreadOrder q level a c
 spread_then q level a b c one two = record {
   noted = noted_then level a b c one.noted two.noted;
+  transitive = λ old. two.transitive (one.transitive old);
   agrees = λ turn order agrees. two.agrees turn order (one.agrees turn order agrees);
 }
 
@@ -264,5 +221,6 @@ pub spread_noted : (q : Unordered) (level : ℕ) (wanted : Bool) (x y : ℕ) (a 
     → HasSpreadOrder q level a c
 spread_noted q level wanted x y a b c one two holds = record {
   noted = noted_then level a b c one.noted two.noted;
+  transitive = λ old. two.transitive (one.transitive old);
   agrees = λ turn order agrees. (let mid = one.agrees turn order agrees in two.agrees turn mid (holds turn order mid));
 }

@@ -3,11 +3,11 @@ use Rattle.std.proofs.Common.{◌≡◌, ℕ, zero, suc, ◌+◌, ◌*◌, ◌<�
 use Rattle.std.proofs.lemmas.List.{length-take-le, length_push, get_or-take, get_or_push, get_or_append_left}
 use Rattle.model_values.specs.declared.question.Unordered.{Unordered}
 use Rattle.model_values.specs.Answers.{IsRefuted, IsSplit, IsTurned, split_at}
-use Rattle.model_values.specs.Known.{is_known, AgreesWith, AreConcluded, AreRivals, HasSpreadOrder, IsOpenPair}
+use Rattle.model_values.specs.Known.{is_known, AgreesWith, AreConcluded, AreRivals, HasSpreadOrder, IsNowhereAround, IsOpenPair}
 use Rattle.model_values.specs.Searches.{Side, First, Second, KeepsSides, KnowsSides, Searches, Begins, Splits, Refutes, Turns, Closes}
 use Rattle.model_values.specs.Unordered.{IsOrderOf}
 use Rattle.model_values.proofs.Table.{known_le, le_known}
-use Rattle.model_values.proofs.Split.{IsPathOf, StayTo, split_below, turned_below}
+use Rattle.model_values.proofs.Split.{IsPathOf, StayTo, split_below, stays, turned_below}
 
 -- sides are known at their levels, and the first ones are the splits of a path
 abbrev pub IsAlong : ℕ → List ℕ → List (ℕ × ℕ) → List Side → ℕ → Type 0
@@ -23,12 +23,6 @@ pub record IsSearchAt (q : Unordered) (table : List ℕ) (path : List (ℕ × �
   pub sides : List Side
   pub search : Searches q sides false count
   pub along : IsAlong (length q.operations.now) table path sides (length path)
-
-stays : (size level i x y : ℕ) (old new : List ℕ) → StayTo level old new → i ≤ level → is_known old size i x y ≡ true → is_known new size i x y ≡ true
-stays size level i x y old new stay low known =
-    let at = known_le old size i x y known in
-    let e = stay (x * size + y) (omega (arith, at, low)) in
-    le_known new size i x y (omega (arith, e, at))
 
 -- what stays at the levels of sides
 pub along_same : (size level : ℕ) (old new : List ℕ) (path next : List (ℕ × ℕ)) → StayTo level old new → (sides : List Side) (l : ℕ) → l ≤ level
@@ -107,9 +101,10 @@ searches_first q table path none = record {
 
 -- a split
 pub searches_split : (q : Unordered) (x y count : ℕ) (path next : List (ℕ × ℕ)) (t s u : List ℕ) → length path + 1 < 18446744073709551615
-    → IsSearchAt q t path count → HasSpreadOrder q (length path) t s → IsOpenPair q.operations.now s (length path) (x, y) → AreRivals q.operations.now x y
-    → AreConcluded q s (length path) → IsSplit (length q.operations.now) x y path s next u → IsSearchAt q u next (count + 1)
-searches_split q x y count path next t s u small at spread o rivals all g =
+    → IsPathOf q s path → IsSearchAt q t path count → HasSpreadOrder q (length path) t s → IsOpenPair q.operations.now s (length path) (x, y)
+    → AreRivals q.operations.now x y → AreConcluded q s (length path) → IsNowhereAround s (length q.operations.now) (length path)
+    → IsSplit (length q.operations.now) x y path s next u → IsSearchAt q u next (count + 1)
+searches_split q x y count path next t s u small p at spread o rivals all around g =
     let size : ℕ = length q.operations.now in
     let l : ℕ = length path in
     let same = split_below size x y path next s u small g in
@@ -127,6 +122,9 @@ searches_split q x y count path next t s u small at spread o rivals all g =
         table = s;
         level = l;
         sided = along_known size s path at.sides l l (omega arith) spreads;
+        started = λ a la b lb first. known_at size 0 l a b s (omega arith) (p.started a la b lb first);
+        transitive = p.transitive l (omega arith);
+        around = around;
         concluded = all;
         forth = o.forth;
         back = o.back;

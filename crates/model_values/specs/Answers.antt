@@ -11,7 +11,7 @@ use Rattle.model_values.specs.declared.search.Looked.{Looked}
 use Rattle.model_values.specs.declared.search.Looked.TheVariants.{Explained, Refuted, Open}
 use Rattle.model_values.specs.Unordered.{IsPlacing, IsOrderOf}
 use Rattle.model_values.specs.Known.{AgreesWith, AreConcluded, AreRivals, HasNoted, IsForgotten}
-use Rattle.model_values.specs.Known.{IsOpenPair}
+use Rattle.model_values.specs.Known.{IsNowhereAround, IsOpenPair}
 use Rattle.model_values.specs.Searches.{IsCutOff}
 
 -- an order of each word's writes, and turns by which the trace obeys the model with it
@@ -34,13 +34,13 @@ IsRefuted q table level = (turn : ℕ → ℕ) → IsOrderOf q turn
     → AgreesWith table (length q.operations.now) level turn → ⊥
 
 -- an explanation; or no order agrees with the table; or two writes on one word in no known order, though
--- all that follows for rival writes is known
+-- all that follows for rival writes is known, and nothing comes before itself
 abbrev pub IsLookedAt : {A : Type 0} → Unordered → List ℕ → ℕ → Looked A → Type 0
 IsLookedAt q table level (Explained e) = IsExplanation q e
 IsLookedAt q table level Refuted = IsRefuted q table level
 IsLookedAt q table level (Open x y) =
     IsOpenPair q.operations.now table level (x, y) × AreRivals q.operations.now x y
-    × AreConcluded q table level
+    × AreConcluded q table level × IsNowhereAround table (length q.operations.now) level
 
 -- the two writes of a split of a path
 abbrev pub split_at : List (ℕ × ℕ) → ℕ → ℕ × ℕ

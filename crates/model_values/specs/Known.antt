@@ -25,9 +25,31 @@ pub record IsNoted (level : ℕ) (old new : List ℕ) : Type 0 where
   pub kept : (k : ℕ) → slice_index old k ≤ level → slice_index new k ≡ slice_index old k
   pub above : (k : ℕ) → level < slice_index old k → level ≤ slice_index new k
 
+-- of two known pairs in a row the first and the last operation are a known pair too
+abbrev pub IsTransitive : List ℕ → ℕ → ℕ → Type 0
+IsTransitive table size level = (x y z : ℕ) → x < size → y < size → z < size
+    → is_known table size level x y ≡ true → is_known table size level y z ≡ true
+    → is_known table size level x z ≡ true
+
+-- an operation, or what is known to come before it
+abbrev pub IsUpTo : List ℕ → ℕ → ℕ → ℕ → ℕ → Type 0
+IsUpTo table size level x a = (a ≡ x) ⊎ (is_known table size level a x ≡ true)
+
+-- an operation, or what is known to come behind it
+abbrev pub IsOnFrom : List ℕ → ℕ → ℕ → ℕ → ℕ → Type 0
+IsOnFrom table size level y b = (b ≡ y) ⊎ (is_known table size level y b ≡ true)
+
+-- the pairs that are known at a level are the old ones, and some that are new
+pub record HasAdded (size level : ℕ) (is_new : ℕ → ℕ → Type 0) (old new : List ℕ) : Type 0 where
+  pub noted : IsNoted level old new
+  pub some : (a b : ℕ) → a < size → b < size → is_known new size level a b ≡ true
+      → (is_known old size level a b ≡ true) ⊎ is_new a b
+  pub all : (a b : ℕ) → a < size → b < size → is_new a b → is_known new size level a b ≡ true
+
 -- a pair is noted at a level if it is wanted, and what follows from that
 pub record HasNoted (size level : ℕ) (wanted : Bool) (x y : ℕ) (old new : List ℕ) : Type 0 where
   pub noted : IsNoted level old new
+  pub transitive : IsTransitive old size level → IsTransitive new size level
   pub agrees : (turn : ℕ → ℕ) → AgreesWith old size level turn → (wanted ≡ true → turn x < turn y)
       → AgreesWith new size level turn
   pub known : wanted ≡ true → is_known new size level x y ≡ true
@@ -82,6 +104,7 @@ pub record IsOwnLoad (ops : List Operation) (w x : ℕ) : Type 0 where
 -- the second read what the first wrote, and is no load of its processor behind it; or it is the
 -- atomic just behind it
 pub record IsReadBy (ops : List Operation) (sources : List ℕ) (x y : ℕ) : Type 0 where
+  pub told : y < length sources
   pub source : slice_index sources y ≡ x
   pub written : is_write (operation_at ops x).kind ≡ true
   pub word : (operation_at ops x).word ≡ (operation_at ops y).word
@@ -100,6 +123,21 @@ abbrev pub IsFirstOf : List Rule → List Operation → List ℕ → ℕ → ℕ
 IsFirstOf rules ops sources openings closing x y =
     KeepsOrder rules ops x y
     ⊎ (IsOpeningOf openings ops x y ⊎ (IsReadBy ops sources x y ⊎ IsClosedBy closing ops x y))
+
+-- each operation before which an operation comes for one of these reasons is known
+abbrev pub AreStartedFrom : Unordered → List ℕ → ℕ → ℕ → Type 0
+AreStartedFrom q table level x = (y : ℕ) → y < length q.operations.now
+    → IsFirstOf q.rules.now q.operations.now q.sources.now q.openings q.closing x y
+    → is_known table (length q.operations.now) level x y ≡ true
+
+-- each pair that comes first for one of these reasons is known
+abbrev pub AreStarted : Unordered → List ℕ → ℕ → Type 0
+AreStarted q table level = (x : ℕ) → x < length q.operations.now → AreStartedFrom q table level x
+
+-- no operation is known to come before itself
+abbrev pub IsNowhereAround : List ℕ → ℕ → ℕ → Type 0
+IsNowhereAround table size level =
+    (x : ℕ) → x < size → is_known table size level x x ≡ true → ⊥
 
 -- two different writes on one word
 pub record AreRivals (ops : List Operation) (x y : ℕ) : Type 0 where
@@ -143,6 +181,8 @@ AreConcluded q table level = (x : ℕ) → AreConcludedOf q table level x
 -- what holds in each order that explains the trace is noted at a level
 pub record HasSpreadOrder (q : Unordered) (level : ℕ) (old new : List ℕ) : Type 0 where
   pub noted : IsNoted level old new
+  pub transitive : IsTransitive old (length q.operations.now) level
+      → IsTransitive new (length q.operations.now) level
   pub agrees : (turn : ℕ → ℕ) → IsOrderOf q turn
       → AgreesWith old (length q.operations.now) level turn
       → AgreesWith new (length q.operations.now) level turn

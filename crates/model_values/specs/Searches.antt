@@ -2,7 +2,8 @@
 -- are in no known order it assumes one way round, and the other once the first is refuted.
 use Rattle.std.specs.Prelude.{◌≡◌, ℕ, ◌+◌, ◌<◌, Bool, true, false, List, [], ◌∷◌, Option, Some, length}
 use Rattle.model_values.specs.declared.question.Unordered.{Unordered}
-use Rattle.model_values.specs.Known.{AreConcluded, AreRivals, is_known}
+use Rattle.model_values.specs.Known.{AreConcluded, AreRivals, AreStarted, IsNowhereAround}
+use Rattle.model_values.specs.Known.{IsTransitive, is_known}
 use Rattle.model_values.specs.Unordered.{IsOrderOf}
 
 -- of two writes the first is assumed to come first: as the first way round, or as the second
@@ -24,12 +25,16 @@ KnowsSides size table level (First x y ∷ sides) =
 KnowsSides size table level (Second x y ∷ sides) =
     (is_known table size level x y ≡ true) × KnowsSides size table level sides
 
--- in a table in which the sides are known, and what follows for readers and rival writes, two writes are
--- in no known order
+-- in a table in which the sides are known, the pairs that come first, what follows for readers and rival
+-- writes, and what follows from pairs in a row, nothing comes before itself, and two writes are in no known
+-- order
 pub record LeaveOpen (q : Unordered) (sides : List Side) (x y : ℕ) : Type 0 where
   pub table : List ℕ
   pub level : ℕ
   pub sided : KnowsSides (length q.operations.now) table level sides
+  pub started : AreStarted q table level
+  pub transitive : IsTransitive table (length q.operations.now) level
+  pub around : IsNowhereAround table (length q.operations.now) level
   pub concluded : AreConcluded q table level
   pub forth : is_known table (length q.operations.now) level x y ≡ true → ⊥
   pub back : is_known table (length q.operations.now) level y x ≡ true → ⊥

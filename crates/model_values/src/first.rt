@@ -1,29 +1,16 @@
 //! What is known of every order that explains a trace, before anything is concluded.
 
 ghost use Rattle.std.specs.Prelude.{◌≡◌, ◌≢◌, ℕ, ◌+◌, ◌*◌, ◌<◌, true, false, length, IfOk, IfSome};
-ghost use Rattle.memory_models.specs.Order.{KeepsOrder};
 ghost use Rattle.memory_models.specs.Trace.{operation_at};
-ghost use Rattle.model_values.specs.Known.{AgreesWith, HasSpreadOrder, IsClosedBy, IsFirstOf, IsReadBy};
+ghost use Rattle.model_values.specs.Known.{AgreesWith, AreStarted, AreStartedFrom, HasSpreadOrder};
+ghost use Rattle.model_values.specs.Known.{IsClosedBy, IsFirstOf, IsReadBy, IsTransitive};
 ghost use Rattle.model_values.specs.Unordered.{IsOrderOf, IsOpeningOf};
 
 use crate::known::add;
 use crate::question::Unordered;
 use memory_models::kinds::{is_load, is_write};
-use memory_models::{Kind, Operation, Rule, Why, reason_of};
+use memory_models::{Kind, Operation, keeps};
 use std::alloc::{AllocError, Allocator};
-
-/// Whether the model keeps two operations in their program order.
-fn is_kept(rules: &[Rule], operations: &[Operation], x: usize, y: usize) -> bool
-    requires x { x < length operations.now }
-    requires y { y < length operations.now }
-    ensures { result ≡ true → KeepsOrder rules.now operations.now x y }
-{
-    let none = [0usize; 0];
-    matches!(
-        reason_of(rules, operations, &none, x, y),
-        Some(Why::Program)
-    )
-}
 
 /// Whether the first is the opening store of the second's word.
 pub(crate) fn is_opening_of(operations: &[Operation], openings: usize, x: usize, y: usize) -> bool
@@ -44,8 +31,7 @@ fn is_read_by(operations: &[Operation], sources: &[usize], x: usize, y: usize) -
     requires x { x < length operations.now }
     requires y { y < length operations.now }
     ensures yes { result ≡ true → IsReadBy operations.now sources.now x y }
-    ensures no { result ≡ false → y < length sources.now → IsReadBy operations.now sources.now x y
-        → ⊥ }
+    ensures no { result ≡ false → IsReadBy operations.now sources.now x y → ⊥ }
 {
     if y >= sources.len() || sources[y] != x {
         return false;
@@ -90,10 +76,12 @@ fn is_closed_by(operations: &[Operation], closing: usize, x: usize, y: usize) ->
 pub(crate) fn starts(question: &Unordered, x: usize, y: usize) -> bool
     requires x { x < length question.now.operations.now }
     requires y { y < length question.now.operations.now }
-    ensures { result ≡ true → IsFirstOf question.now.rules.now question.now.operations.now
+    ensures yes { result ≡ true → IsFirstOf question.now.rules.now question.now.operations.now
         question.now.sources.now question.now.openings question.now.closing x y }
+    ensures no { result ≡ false → IsFirstOf question.now.rules.now question.now.operations.now
+        question.now.sources.now question.now.openings question.now.closing x y → ⊥ }
 {
-    if is_kept(question.rules, question.operations, x, y) {
+    if keeps(question.rules, question.operations, x, y) {
         return true;
     }
     if is_opening_of(question.operations, question.openings, x, y) {
@@ -110,7 +98,8 @@ fn start_row(question: &Unordered, table: &mut [usize], x: usize)
     requires size { length table.old
         ≡ length question.now.operations.now * length question.now.operations.now }
     requires x { x < length question.now.operations.now }
-    ensures { HasSpreadOrder question.now 0 table.old table.new }
+    ensures spread { HasSpreadOrder question.now 0 table.old table.new }
+    ensures started { AreStartedFrom question.now table.new 0 x }
 {
     let size = question.operations.len();
     for y in 0..size {
@@ -123,7 +112,8 @@ fn start_row(question: &Unordered, table: &mut [usize], x: usize)
 fn start_rows(question: &Unordered, table: &mut [usize])
     requires size { length table.old
         ≡ length question.now.operations.now * length question.now.operations.now }
-    ensures { HasSpreadOrder question.now 0 table.old table.new }
+    ensures spread { HasSpreadOrder question.now 0 table.old table.new }
+    ensures started { AreStarted question.now table.new 0 }
 {
     let size = question.operations.len();
     for i in 0..size {
@@ -149,6 +139,9 @@ pub(crate) fn first_table<A: Allocator + Copy>(
         ≡ length question.now.operations.now * length question.now.operations.now) }
     ensures agrees { IfOk result (λ table. (turn : ℕ → ℕ) → IsOrderOf question.now turn
         → AgreesWith table.items (length question.now.operations.now) 0 turn) }
+    ensures started { IfOk result (λ table. AreStarted question.now table.items 0) }
+    ensures transitive { IfOk result (λ table.
+        IsTransitive table.items (length question.now.operations.now) 0) }
 {
     let size = question.operations.len();
     let Some(count) = squared(size) else {

@@ -2,7 +2,8 @@
 //! which the pair was noted, so that what was noted above a level can be forgotten.
 
 ghost use Rattle.std.specs.Prelude.{◌≡◌, ℕ, ◌+◌, ◌*◌, ◌<◌, ◌≤◌, true, false, length};
-ghost use Rattle.model_values.specs.Known.{AgreesWith, HasNoted, IsForgotten, NotesMore, is_known};
+ghost use Rattle.model_values.specs.Known.{AgreesWith, HasAdded, HasNoted, IsForgotten};
+ghost use Rattle.model_values.specs.Known.{IsNowhereAround, IsOnFrom, IsUpTo, NotesMore, is_known};
 
 /// Whether one operation is known at a level to come before another.
 pub(crate) fn is_before(table: &[usize], size: usize, level: usize, x: usize, y: usize) -> bool
@@ -19,7 +20,7 @@ fn put(table: &mut [usize], size: usize, level: usize, wanted: bool, x: usize, y
     requires size { length table.old ≡ size * size }
     requires x { x < size }
     requires y { y < size }
-    ensures { HasNoted size level wanted x y table.old table.new }
+    ensures { HasAdded size level (λ a b. (wanted ≡ true) × ((a ≡ x) × (b ≡ y))) table.old table.new }
 {
     if !wanted {
         return;
@@ -37,7 +38,8 @@ fn put_behind(table: &mut [usize], size: usize, level: usize, wanted: bool, x: u
     requires size { length table.old ≡ size * size }
     requires x { x < size }
     requires y { y < size }
-    ensures { HasNoted size level wanted x y table.old table.new }
+    ensures { HasAdded size level
+        (λ a b. (wanted ≡ true) × ((a ≡ x) × IsOnFrom table.old size level y b)) table.old table.new }
 {
     if !wanted {
         return;
@@ -49,17 +51,15 @@ fn put_behind(table: &mut [usize], size: usize, level: usize, wanted: bool, x: u
     }
 }
 
-/// Notes at a level that one operation comes before another, if that is wanted, and what follows from
-/// it.
-fn add_new(table: &mut [usize], size: usize, level: usize, wanted: bool, x: usize, y: usize)
+/// Notes at a level that one operation comes before another, and what follows from it.
+fn add_new(table: &mut [usize], size: usize, level: usize, x: usize, y: usize)
     requires size { length table.old ≡ size * size }
     requires x { x < size }
     requires y { y < size }
-    ensures { HasNoted size level wanted x y table.old table.new }
+    ensures { HasAdded size level
+        (λ a b. IsUpTo table.old size level x a × IsOnFrom table.old size level y b)
+        table.old table.new }
 {
-    if !wanted {
-        return;
-    }
     put_behind(table, size, level, true, x, y);
     for z in 0..size {
         let before = is_before(table, size, level, z, x);
@@ -88,7 +88,7 @@ pub(crate) fn add(
     if is_before(table, size, level, x, y) {
         return false;
     }
-    add_new(table, size, level, true, x, y);
+    add_new(table, size, level, x, y);
     true
 }
 
@@ -113,8 +113,7 @@ pub(crate) fn forget(table: &mut [usize], level: usize)
 pub(crate) fn is_around(table: &[usize], size: usize, level: usize) -> bool
     requires size { length table.now ≡ size * size }
     ensures yes { result ≡ true → (turn : ℕ → ℕ) → AgreesWith table.now size level turn → ⊥ }
-    ensures no { result ≡ false → (x : ℕ) → x < size → is_known table.now size level x x ≡ true
-        → ⊥ }
+    ensures no { result ≡ false → IsNowhereAround table.now size level }
 {
     for x in 0..size {
         if is_before(table, size, level, x, x) {

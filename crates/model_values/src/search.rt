@@ -7,8 +7,8 @@ ghost use Rattle.memory_models.specs.Following.{IsChainedOn};
 ghost use Rattle.memory_models.specs.Trace.{rule_at};
 ghost use Rattle.model_values.specs.Answers.{AreSplitsBelow, IsLookedAt, IsOrderVerdict, IsSplit};
 ghost use Rattle.model_values.specs.Answers.{IsTurned};
-ghost use Rattle.model_values.specs.Known.{AgreesWith, AreRivals, AreSettled, HasSpreadOrder, IsOpenPair};
-ghost use Rattle.model_values.specs.Known.{is_known};
+ghost use Rattle.model_values.specs.Known.{AgreesWith, AreRivals, AreSettled, AreStarted};
+ghost use Rattle.model_values.specs.Known.{HasSpreadOrder, IsOpenPair, IsTransitive, is_known};
 ghost use Rattle.model_values.specs.Unordered.{IsOrderOf};
 
 use crate::accept::is_placing;
@@ -229,6 +229,8 @@ fn search<A: Allocator + Copy>(
         ≡ length question.now.operations.now * length question.now.operations.now }
     requires agrees { (turn : ℕ → ℕ) → IsOrderOf question.now turn
         → AgreesWith table.old (length question.now.operations.now) 0 turn }
+    requires started { AreStarted question.now table.old 0 }
+    requires transitive { IsTransitive table.old (length question.now.operations.now) 0 }
     ensures { IfOk result (IsOrderVerdict question.now nodes) }
 {
     let size = question.operations.len();

@@ -8,7 +8,7 @@ use Rattle.model_values.proofs.search.search.Goals as goal
 
 pub tables-init : goal.tables-init
 tables-init g c = searching_first c.args.question.now c.args.nodes c.args.table.now c.new-path.result.items (ap length c.new-path.ensures.items)
-    c.requires.size c.requires.agrees
+    c.requires.size c.requires.agrees c.requires.started c.requires.transitive
 
 pub returns-then-not-spend : goal.returns-then-not-spend
 returns-then-not-spend g c = searching_cut c.args.question.now c.args.nodes c.tables.left c.tables.table c.tables.path.items
@@ -55,7 +55,7 @@ tables-preserved g c =
     subst (λ b. IsSpent b c.tables.left c.spend.new.left) c.if-not-spend.false (record { none = c.spend.ensures.none; less = c.spend.ensures.less }) in
     searching_on q c.args.nodes c.tables.left c.spend.new.left c.in-Open.x c.in-Open.y c.tables.path.items c.split.new.path.items c.tables.table c.look.new.table
     c.split.new.table c.tables.more small c.tables-test.true c.tables.invariant spent
-    spread looked.0 looked.1 looked.2 c.in_ok-split-in-Open.ensures
+    spread looked.0 looked.1 looked.2 looked.3 c.in_ok-split-in-Open.ensures
 
 pub tables-smaller : goal.tables-smaller
 tables-smaller g c =
