@@ -1,241 +1,227 @@
 //! What follows where operations wait for one another around.
 
-use crate::arcs::{NONE, at, count_down, count_up, is_set, put};
+use crate::arcs::{Ground, NONE, Run, at, put};
 use crate::forced::Reason;
-use crate::schedule::Schedule;
-use crate::waits::Wait;
-use std::alloc::{AllocError, Allocator};
 
 /// How many operations are looked at for a path.
 const LOOKS: usize = 500;
 
-/// A write that was done before another one without a reason, which waits for what reads the first.
-#[derive(Clone, Copy)]
-pub(crate) struct Choice {
-    pub first: usize,
-    pub second: usize,
-    pub place: usize,
-}
-
-/// What a circle rests on, but for arcs with reasons: choices, and the places in it of arcs that are guessed.
-#[derive(Drop)]
-pub(crate) struct Grounds<A: Allocator> {
-    pub choices: Vec<Choice, A>,
-    pub guesses: Vec<usize, A>,
-}
-
-impl<'a, A: Allocator + Copy> Schedule<'a, A> {
-    /// Lets an operation wait for another one by the newest arc.
-    fn await_newest(&mut self, from: usize, to: usize) {
-        if !is_set(&self.done, from) {
-            count_up(&mut self.pending, to);
+impl<'q, 't> Run<'q, 't> {
+    /// Lets an operation wait for another one, if an arc for that was added. Returns whether it was.
+    fn await_if(&mut self, added: bool, from: usize, to: usize) -> bool {
+        if added && !self.node(from).is_done {
+            if let Some(node) = self.nodes.get_mut(to) {
+                node.pending = node.pending.saturating_add(1);
+            }
         }
+        added
     }
 
     /// Adds an arc by a reason.
-    fn add_by(
-        &mut self,
-        from: usize,
-        to: usize,
-        reason: Reason,
-        begin: usize,
-    ) -> Result<(), AllocError> {
-        self.arcs.add_by(from, to, reason, begin)?;
-        self.await_newest(from, to);
-        Ok(())
+    fn learn(&mut self, from: usize, to: usize, reason: Reason, begin: usize) -> bool {
+        let added = self.add_by(from, to, reason, begin);
+        self.await_if(added, from, to)
+    }
+
+    /// Adds to the operations that are to be looked at.
+    pub(crate) fn enqueue(&mut self, x: usize) {
+        put(self.queue, self.queue_end, x);
+        self.queue_end = self.queue_end.saturating_add(1);
+    }
+
+    /// Notes by which arc an operation leads on, unless that is known or the operation was done before a time.
+    fn look_at(&mut self, x: usize, place: usize, time: usize) {
+        let Some(node) = self.nodes.get_mut(x) else {
+            return;
+        };
+        if node.link == NONE && node.is_done && node.time > time {
+            node.link = place;
+            self.enqueue(x);
+        }
     }
 
     /// Looks at the arcs to an operation for one from another, and notes where the others come from.
-    fn look_behind(
-        &mut self,
-        alloc: A,
-        source: usize,
-        x: usize,
-        open: &mut Vec<usize, A>,
-    ) -> Result<bool, AllocError> {
-        let time = at(&self.times, source);
-        let mut place = at(&self.arcs.to, x);
-        for _ in 0..self.arcs.list.len() {
-            let Some(arc) = self.arcs.arc(place) else {
-                return Ok(false);
+    fn look_behind(&mut self, source: usize, x: usize) -> bool {
+        let time = self.node(source).time;
+        let mut place = self.node(x).arc_to;
+        for _ in 0..self.arc_count {
+            let Some(arc) = self.arc(place) else {
+                return false;
             };
             if arc.step != NONE && arc.from == source {
-                put(&mut self.links, source, place);
-                return Ok(true);
+                if let Some(node) = self.nodes.get_mut(source) {
+                    node.link = place;
+                }
+                return true;
             }
-            let is_new = at(&self.links, arc.from) == NONE;
-            let is_later = is_set(&self.done, arc.from) && at(&self.times, arc.from) > time;
-            if arc.step != NONE && is_new && is_later {
-                put(&mut self.links, arc.from, place);
-                open.push(arc.from)?;
+            if arc.step != NONE {
+                self.look_at(arc.from, place, time);
             }
             place = arc.next_to;
         }
-        Ok(false)
+        false
     }
 
     /// Adds to the paths the one by which a write comes before an operation.
-    fn put_path(&mut self, source: usize, x: usize) -> Result<(), AllocError> {
+    fn put_path(&mut self, source: usize, x: usize) {
         let mut y = source;
-        for _ in 0..self.question.operations.len() {
-            let Some(arc) = self.arcs.arc(at(&self.links, y)) else {
-                return Ok(());
+        for _ in 0..self.nodes.len() {
+            let Some(arc) = self.arc(self.node(y).link) else {
+                return;
             };
-            self.arcs.paths.push(arc.step)?;
+            self.add_path(arc.step);
             y = arc.to;
             if y == x {
-                return Ok(());
+                return;
             }
         }
-        Ok(())
     }
 
     /// Looks for a path of arcs with reasons from a write to an operation, among what was done behind the write.
-    fn finds_path(
-        &mut self,
-        alloc: A,
-        source: usize,
-        x: usize,
-        open: &mut Vec<usize, A>,
-    ) -> Result<bool, AllocError> {
-        open.push(x)?;
+    fn finds_path(&mut self, source: usize, x: usize) -> bool {
+        self.queue_end = 0;
+        self.enqueue(x);
         for k in 0..LOOKS {
-            let Some(y) = open.get(k).copied() else {
-                return Ok(false);
-            };
-            if self.look_behind(alloc, source, y, open)? {
-                self.put_path(source, x)?;
-                return Ok(true);
+            if k >= self.queue_end {
+                return false;
+            }
+            let y = at(self.queue, k);
+            if self.look_behind(source, y) {
+                self.put_path(source, x);
+                return true;
             }
         }
-        Ok(false)
+        false
+    }
+
+    /// Forgets by which arc an operation leads on.
+    fn forget_link(&mut self, x: usize) {
+        if let Some(node) = self.nodes.get_mut(x) {
+            node.link = NONE;
+        }
     }
 
     /// Adds that an operation comes before a write, if what it read does by a path.
-    fn comes_before(&mut self, alloc: A, reader: usize, x: usize) -> Result<bool, AllocError> {
+    fn comes_before(&mut self, reader: usize, x: usize) -> bool {
         let source = self.source(reader);
-        let begin = self.arcs.paths.len();
-        let mut open = Vec::new(alloc);
-        let found = self.finds_path(alloc, source, x, &mut open)?;
-        put(&mut self.links, source, NONE);
-        for k in 0..open.len() {
-            put(&mut self.links, open[k], NONE);
+        let begin = self.path_count;
+        let found = self.finds_path(source, x);
+        self.forget_link(source);
+        for k in 0..self.queue_end {
+            let y = at(self.queue, k);
+            self.forget_link(y);
         }
-        if found {
-            self.add_by(reader, x, Reason::Later(reader), begin)?;
-        }
-        Ok(found)
+        found && self.learn(reader, x, Reason::Later(reader), begin)
     }
 
-    /// What a circle rests on. Where a wait turns out to have a reason, it gets its arc.
-    pub(crate) fn grounds_of(
-        &mut self,
-        alloc: A,
-        circle: &mut [Wait],
-    ) -> Result<Grounds<A>, AllocError> {
-        let mut grounds = Grounds {
-            choices: Vec::new(alloc),
-            guesses: Vec::new(alloc),
-        };
-        for place in 0..circle.len() {
-            let wait = circle[place];
-            match self.arcs.arc(wait.arc) {
-                Some(arc) => {
-                    if arc.step == NONE {
-                        grounds.guesses.push(place)?;
-                    }
-                }
-                None => {
-                    let reader = next_in(circle, place);
-                    if self.comes_before(alloc, reader, wait.operation)? {
-                        circle[place].arc = self.arcs.list.len().saturating_sub(1);
-                    } else {
-                        grounds.choices.push(Choice {
-                            first: self.source(reader),
-                            second: wait.operation,
-                            place,
-                        })?;
-                    }
+    /// What an operation of the circle rests on. Where a wait turns out to have a reason, it gets its arc.
+    fn ground_at(&mut self, place: usize) -> Ground {
+        let wait = self.wait(place);
+        match self.arc(wait.arc) {
+            Some(arc) => {
+                if arc.step == NONE {
+                    Ground::Guess
+                } else {
+                    Ground::Reason
                 }
             }
+            None => {
+                let reader = self.wait(self.place_after(place)).operation;
+                if !self.comes_before(reader, wait.operation) {
+                    return Ground::Choice;
+                }
+                let arc = self.arc_count.saturating_sub(1);
+                if let Some(wait) = self.circle.get_mut(place) {
+                    wait.arc = arc;
+                }
+                Ground::Reason
+            }
         }
-        Ok(grounds)
     }
 
-    /// Adds to the paths the one that leads around a circle from the operation at a place to the next one.
-    fn put_way(&mut self, circle: &[Wait], from: usize) -> Result<(), AllocError> {
-        let size = circle.len();
-        for k in 1..size {
-            let place = from.saturating_add(size).saturating_sub(k) % size;
-            let step = match self.arcs.arc(circle[place].arc) {
+    /// Finds what the circle rests on.
+    pub(crate) fn find_grounds(&mut self) {
+        for place in self.circle_begin..self.circle_end {
+            let ground = self.ground_at(place);
+            if let Some(wait) = self.circle.get_mut(place) {
+                wait.ground = ground;
+            }
+        }
+    }
+
+    /// Adds to the paths the one that leads around the circle from the operation at a place to the next one.
+    fn put_way(&mut self, from: usize) {
+        let mut place = from;
+        for _ in self.circle_begin.saturating_add(1)..self.circle_end {
+            place = self.place_before(place);
+            let step = match self.arc(self.wait(place).arc) {
                 Some(arc) => arc.step,
                 None => NONE,
             };
-            self.arcs.paths.push(step)?;
+            self.add_path(step);
         }
-        Ok(())
+    }
+
+    /// The operation that is to read the newest write before the operation at a place of the circle may be done.
+    fn reader_at(&self, place: usize) -> usize {
+        self.wait(self.place_after(place)).operation
+    }
+
+    /// The write that was done without a reason before the one at a place of the circle.
+    pub(crate) fn chosen_at(&self, place: usize) -> usize {
+        self.source(self.reader_at(place))
     }
 
     /// Adds that a write comes before another one, which was done first without a reason: around the circle it comes
     /// before what read that.
-    pub(crate) fn conclude(&mut self, circle: &[Wait], choice: Choice) -> Result<(), AllocError> {
-        let begin = self.arcs.paths.len();
-        self.put_way(circle, choice.place)?;
-        let reader = next_in(circle, choice.place);
-        self.add_by(choice.second, choice.first, Reason::Earlier(reader), begin)?;
-        self.undo(choice.first)
+    pub(crate) fn conclude(&mut self, place: usize) {
+        let begin = self.path_count;
+        self.put_way(place);
+        let (first, second) = (self.chosen_at(place), self.wait(place).operation);
+        self.learn(second, first, Reason::Earlier(self.reader_at(place)), begin);
+        self.undo(first);
     }
 
     /// Guesses that a write comes before another one, which was done first without a reason.
-    pub(crate) fn guess(&mut self, choice: Choice) -> Result<(), AllocError> {
-        self.arcs.guess(choice.second, choice.first)?;
-        self.await_newest(choice.second, choice.first);
-        self.undo(choice.first)
+    pub(crate) fn guess(&mut self, place: usize) {
+        let (first, second) = (self.chosen_at(place), self.wait(place).operation);
+        let added = self.add(second, first, NONE);
+        self.await_if(added, second, first);
+        self.undo(first);
     }
 
-    /// Takes away the only guess of a circle. Around it the second write comes before the first, and so does what reads
-    /// the second.
-    pub(crate) fn refute(&mut self, circle: &[Wait], place: usize) -> Result<(), AllocError> {
-        let first = next_in(circle, place);
-        let Some(second) = circle.get(place).copied() else {
-            return Ok(());
-        };
-        self.drop_guess(second.arc);
-        let begin = self.arcs.paths.len();
-        self.put_way(circle, place)?;
-        let mut reader = at(&self.readers, second.operation);
-        for _ in 0..self.question.operations.len() {
+    /// Takes away the only guess of the circle. Around it the second write comes before the first, and so does what
+    /// reads the second.
+    pub(crate) fn refute(&mut self, place: usize) {
+        let first = self.reader_at(place);
+        let second = self.wait(place);
+        self.drop_guess(place);
+        let begin = self.path_count;
+        self.put_way(place);
+        let mut reader = self.node(second.operation).reader;
+        for _ in 0..self.nodes.len() {
             if reader == NONE {
-                return Ok(());
+                return;
             }
-            if reader != first && !is_set(&self.done, reader) {
-                self.add_by(reader, first, Reason::Later(reader), begin)?;
+            let node = self.node(reader);
+            if reader != first && !node.is_done {
+                self.learn(reader, first, Reason::Later(reader), begin);
             }
-            reader = at(&self.next_readers, reader);
+            reader = node.next_reader;
         }
-        Ok(())
     }
 
-    /// Takes a guess away.
+    /// Takes the guess at a place of the circle away.
     pub(crate) fn drop_guess(&mut self, place: usize) {
-        let Some(arc) = self.arcs.arc(place) else {
+        let wait = self.wait(place);
+        let Some(arc) = self.arcs.get_mut(wait.arc) else {
             return;
         };
-        self.arcs.remove(place);
-        if !is_set(&self.done, arc.from) {
-            count_down(&mut self.pending, arc.to);
-            if at(&self.pending, arc.to) == 0 && !is_set(&self.done, arc.to) {
-                self.enlist(arc.to);
-            }
+        let (from, to) = (arc.from, arc.to);
+        arc.from = NONE;
+        arc.to = NONE;
+        if !self.node(from).is_done {
+            self.release(to);
         }
-    }
-}
-
-/// The operation that the one at a place of a circle waits for.
-fn next_in(circle: &[Wait], place: usize) -> usize {
-    let next = place.saturating_add(1);
-    match circle.get(if next < circle.len() { next } else { 0 }) {
-        Some(wait) => wait.operation,
-        None => NONE,
     }
 }

@@ -36,6 +36,15 @@ pub(crate) struct Step {
     pub end: usize,
 }
 
+/// No pair.
+pub(crate) const NO_STEP: Step = Step {
+    from: usize::MAX,
+    to: usize::MAX,
+    reason: Reason::First,
+    begin: 0,
+    end: 0,
+};
+
 /// Whether pairs, each by its place, lead from one operation to another.
 fn leads(edges: &[Edge], path: &[usize], from: usize, to: usize) -> bool
     ensures { result ≡ true → (number : ℕ → ℕ) → RisesOnEdges edges.now number
@@ -164,7 +173,7 @@ pub(crate) fn is_refuted<A: Allocator + Copy>(
     }
 }
 
-/// Pairs that go around, by their places in the list of all, where the reasons of all hold.
+/// Pairs that go around, by their places in the list of all, where the reasons of all hold; nothing where none do.
 ///
 /// Errors: out of memory.
 pub(crate) fn circle_of<A: Allocator + Copy>(
@@ -172,16 +181,13 @@ pub(crate) fn circle_of<A: Allocator + Copy>(
     question: &Unordered,
     steps: &[Step],
     paths: &[usize],
-) -> Result<Option<Vec<usize, A>>, AllocError> {
+) -> Result<Vec<usize, A>, AllocError> {
     let edges = forced_edges(alloc, question, steps, paths)?;
-    match rise(alloc, question.operations.len(), &edges)? {
-        Found::Cycle(places) => {
-            if edges.len() == steps.len() {
-                Ok(Some(places))
-            } else {
-                Ok(None)
-            }
-        }
-        Found::Rising(_) => Ok(None),
+    let Found::Cycle(places) = rise(alloc, question.operations.len(), &edges)? else {
+        return Ok(Vec::new(alloc));
+    };
+    if edges.len() < steps.len() {
+        return Ok(Vec::new(alloc));
     }
+    Ok(places)
 }

@@ -1,6 +1,6 @@
 //! What pairs of operations that go around rest on: the pairs that are needed, and the operations whose sources are.
 
-use crate::arcs::{NONE, at, is_set, put, set};
+use crate::arcs::{NONE, at, put};
 use crate::first::starts;
 use crate::forced::{Reason, Step, circle_of, part};
 use crate::question::Unordered;
@@ -14,29 +14,35 @@ pub(crate) struct Grounded<A: Allocator> {
     pub readers: Vec<usize, A>,
 }
 
-/// Marks the pairs by which a pair follows.
-fn mark_path(path: &[usize], needed: &mut [bool]) {
+/// Marks the pairs of a path.
+fn mark_path(path: &[usize], marks: &mut [usize]) {
     for k in 0..path.len() {
-        set(needed, path[k], true);
+        put(marks, path[k], 0);
     }
 }
 
-/// Which pairs are needed, so that some go around.
-fn needed_for<A: Allocator + Copy>(
-    alloc: A,
-    steps: &[Step],
-    paths: &[usize],
-    circle: &[usize],
-) -> Result<Vec<bool, A>, AllocError> {
-    let mut needed = vec![in alloc; false; steps.len()]?;
-    mark_path(circle, &mut needed);
+/// Marks the pairs by which those that are marked follow.
+fn mark_paths(steps: &[Step], paths: &[usize], marks: &mut [usize]) {
     for n in 0..steps.len() {
-        let k = steps.len() - 1 - n;
-        if is_set(&needed, k) {
-            mark_path(part(paths, steps[k].begin, steps[k].end), &mut needed);
+        let step = steps[steps.len() - 1 - n];
+        if at(marks, steps.len() - 1 - n) != NONE {
+            mark_path(part(paths, step.begin, step.end), marks);
         }
     }
-    Ok(needed)
+}
+
+/// Which pairs are needed, so that some go around: a mark for each, `NONE` where it isn't.
+fn needed_of<A: Allocator + Copy>(
+    alloc: A,
+    question: &Unordered,
+    steps: &[Step],
+    paths: &[usize],
+) -> Result<Vec<usize, A>, AllocError> {
+    let circle = circle_of(alloc, question, steps, paths)?;
+    let mut marks = vec![in alloc; NONE; steps.len()]?;
+    mark_path(&circle, &mut marks);
+    mark_paths(steps, paths, &mut marks);
+    Ok(marks)
 }
 
 /// Whether a pair holds with any sources.
@@ -71,11 +77,18 @@ fn reader_of(question: &Unordered, step: Step) -> usize {
 }
 
 impl<A: Allocator> Grounded<A> {
-    /// Adds a pair that is needed, by the new numbers of those by which it follows.
-    fn add(&mut self, step: Step, path: &[usize], numbers: &[usize]) -> Result<(), AllocError> {
-        let begin = self.paths.len();
+    /// Adds a path, by the new numbers of its pairs.
+    fn add_path(&mut self, path: &[usize], numbers: &[usize]) -> Result<(), AllocError> {
         for k in 0..path.len() {
             self.paths.push(at(numbers, path[k]))?;
+        }
+        Ok(())
+    }
+
+    /// Adds a pair that is needed, whose path begins at a place, and the operation whose source it rests on.
+    fn add(&mut self, step: Step, begin: usize, reader: usize) -> Result<(), AllocError> {
+        if reader != NONE {
+            self.readers.push(reader)?;
         }
         self.steps.push(Step {
             from: step.from,
@@ -97,26 +110,18 @@ pub(crate) fn grounds_of<A: Allocator + Copy>(
     steps: &[Step],
     paths: &[usize],
 ) -> Result<Grounded<A>, AllocError> {
+    let mut numbers = needed_of(alloc, question, steps, paths)?;
     let mut grounded = Grounded {
         steps: Vec::new(alloc),
         paths: Vec::new(alloc),
         readers: Vec::new(alloc),
     };
-    let Some(circle) = circle_of(alloc, question, steps, paths)? else {
-        return Ok(grounded);
-    };
-    let needed = needed_for(alloc, steps, paths, &circle)?;
-    let mut numbers = vec![in alloc; NONE; steps.len()]?;
     for k in 0..steps.len() {
-        if is_set(&needed, k) {
-            let step = steps[k];
-            let number = grounded.steps.len();
-            put(&mut numbers, k, number);
-            grounded.add(step, part(paths, step.begin, step.end), &numbers)?;
-            let reader = reader_of(question, step);
-            if reader != NONE {
-                grounded.readers.push(reader)?;
-            }
+        if at(&numbers, k) != NONE {
+            let begin = grounded.paths.len();
+            put(&mut numbers, k, grounded.steps.len());
+            grounded.add_path(part(paths, steps[k].begin, steps[k].end), &numbers)?;
+            grounded.add(steps[k], begin, reader_of(question, steps[k]))?;
         }
     }
     Ok(grounded)

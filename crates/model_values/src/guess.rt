@@ -1,14 +1,9 @@
 //! A guess at an order that explains a trace, or at pairs of operations that go around in each.
 
-use crate::arcs::{Arcs, NONE, at, count_down, count_up, put};
-use crate::conflict::{Choice, Grounds};
-use crate::forced::Step;
-use crate::lists::empty_lists;
+use crate::arcs::{Arc, Ground, NO_ARC, NO_NODE, NO_WAIT, NONE, Node, Run, Wait, at, put};
+use crate::forced::{NO_STEP, Step};
 use crate::placed::count_writes;
 use crate::question::Unordered;
-use crate::schedule::Schedule;
-use crate::starting::{first_arcs, reads};
-use crate::waits::Wait;
 use memory_models::Kind;
 use std::alloc::{AllocError, Allocator};
 
@@ -20,6 +15,14 @@ const FOR_ONE: usize = 8;
 /// How often each operation may be taken back.
 const TIMES: usize = 40;
 
+/// How many arcs each operation may begin with, but for one by each rule.
+const ARCS: usize = 7;
+
+/// How many arcs an operation may get in a run, and how many all may.
+const LEARNED: usize = 16;
+
+const ROOM: usize = 20_000;
+
 /// A guess at the place of each operation; none where the list is empty. And pairs, with their reasons, that may go
 /// around.
 #[derive(Drop)]
@@ -29,82 +32,147 @@ pub(crate) struct Guess<A: Allocator> {
     pub paths: Vec<usize, A>,
 }
 
-/// How many arcs lead to each operation.
-fn pending_of<A: Allocator + Copy>(alloc: A, arcs: &Arcs<A>) -> Result<Vec<usize, A>, AllocError> {
-    let mut pending = vec![in alloc; 0usize; arcs.to.len()]?;
-    for k in 0..arcs.list.len() {
-        count_up(&mut pending, arcs.list[k].to);
-    }
-    Ok(pending)
+/// The tables of a run.
+#[derive(Drop)]
+struct Tables<A: Allocator> {
+    nodes: Vec<Node, A>,
+    words: Vec<usize, A>,
+    heads: Vec<usize, A>,
+    arcs: Vec<Arc, A>,
+    circle: Vec<Wait, A>,
+    queue: Vec<usize, A>,
+    open: Vec<usize, A>,
+    guess: Guess<A>,
 }
 
-/// Raises the level of what comes behind an operation, and lists what nothing else comes before.
-fn raise_behind<A: Allocator + Copy>(
-    arcs: &Arcs<A>,
-    x: usize,
-    pending: &mut [usize],
-    levels: &mut [usize],
-    open: &mut Vec<usize, A>,
-) -> Result<(), AllocError> {
-    let above = at(levels, x).saturating_add(1);
-    let mut place = at(&arcs.from, x);
-    for _ in 0..arcs.list.len() {
-        let Some(arc) = arcs.arc(place) else {
-            return Ok(());
-        };
-        let level = at(levels, arc.to).max(above);
-        put(levels, arc.to, level);
-        count_down(pending, arc.to);
-        if at(pending, arc.to) == 0 {
-            open.push(arc.to)?;
-        }
-        place = arc.next_from;
-    }
-    Ok(())
+/// How many arcs a run may have.
+fn most_arcs(question: &Unordered) -> usize {
+    let count = question.operations.len();
+    let first = question.rules.len().saturating_add(ARCS);
+    let learned = count.saturating_mul(LEARNED).min(ROOM);
+    count.saturating_mul(first).saturating_add(learned)
 }
 
-/// The level of each operation: above that of each that an arc leads from. None where arcs go around.
-fn levels_of<A: Allocator + Copy>(
+/// Room for a guess.
+fn empty_guess<A: Allocator + Copy>(
     alloc: A,
-    arcs: &Arcs<A>,
-) -> Result<Option<Vec<usize, A>>, AllocError> {
-    let mut pending = pending_of(alloc, arcs)?;
-    let mut levels = vec![in alloc; 0usize; pending.len()]?;
-    let mut open = Vec::new(alloc);
-    for x in 0..pending.len() {
-        if pending[x] == 0 {
-            open.push(x)?;
-        }
-    }
-    for k in 0..pending.len() {
-        let Some(x) = open.get(k).copied() else {
-            return Ok(None);
-        };
-        raise_behind(arcs, x, &mut pending, &mut levels, &mut open)?;
-    }
-    Ok(Some(levels))
+    question: &Unordered,
+) -> Result<Guess<A>, AllocError> {
+    let most = most_arcs(question);
+    Ok(Guess {
+        places: vec![in alloc; 0usize; question.operations.len()]?,
+        steps: vec![in alloc; NO_STEP; most]?,
+        paths: vec![in alloc; NONE; most.saturating_mul(2)]?,
+    })
 }
 
-impl<'a, A: Allocator + Copy> Schedule<'a, A> {
-    /// Chains what reads each write, and notes how high it stands.
-    fn chain_readers(&mut self) {
-        for y in 0..self.question.operations.len() {
-            if reads(self.question.operations, y) {
-                let source = self.source(y);
-                count_up(&mut self.unread, source);
-                let reader = at(&self.readers, source);
-                put(&mut self.next_readers, y, reader);
-                put(&mut self.readers, source, y);
-                let late = at(&self.lates, source).max(at(&self.levels, y));
-                put(&mut self.lates, source, late);
+/// The tables of a run that has not begun.
+fn tables_of<A: Allocator + Copy>(alloc: A, question: &Unordered) -> Result<Tables<A>, AllocError> {
+    let count = question.operations.len();
+    let lists = count.saturating_add(2).saturating_add(question.words);
+    Ok(Tables {
+        nodes: vec![in alloc; NO_NODE; count]?,
+        words: vec![in alloc; NONE; question.words]?,
+        heads: vec![in alloc; NONE; lists]?,
+        arcs: vec![in alloc; NO_ARC; most_arcs(question)]?,
+        circle: vec![in alloc; NO_WAIT; count]?,
+        queue: vec![in alloc; NONE; count]?,
+        open: vec![in alloc; NONE; count]?,
+        guess: empty_guess(alloc, question)?,
+    })
+}
+
+impl<'q, 't> Run<'q, 't> {
+    /// Counts how many arcs lead to each operation.
+    fn count_pending(&mut self) {
+        for k in 0..self.arc_count {
+            let Some(arc) = self.arc(k) else {
+                return;
+            };
+            if let Some(node) = self.nodes.get_mut(arc.to) {
+                node.pending = node.pending.saturating_add(1);
+            }
+        }
+    }
+
+    /// Raises the level of an operation, and enqueues it if nothing else comes before it.
+    fn raise(&mut self, x: usize, level: usize) {
+        let Some(node) = self.nodes.get_mut(x) else {
+            return;
+        };
+        node.level = node.level.max(level);
+        node.late = node.level;
+        node.pending = node.pending.saturating_sub(1);
+        if node.pending == 0 {
+            self.enqueue(x);
+        }
+    }
+
+    /// Raises the levels of what comes behind an operation.
+    fn raise_behind(&mut self, x: usize) {
+        let node = self.node(x);
+        let level = node.level.saturating_add(1);
+        let mut place = node.arc_from;
+        for _ in 0..self.arc_count {
+            let Some(arc) = self.arc(place) else {
+                return;
+            };
+            self.raise(arc.to, level);
+            place = arc.next_from;
+        }
+    }
+
+    /// Gives each operation a level above that of each that an arc leads from. Returns whether no arcs go around.
+    fn find_levels(&mut self) -> bool {
+        self.count_pending();
+        for x in 0..self.nodes.len() {
+            if self.node(x).pending == 0 {
+                self.enqueue(x);
+            }
+        }
+        for k in 0..self.nodes.len() {
+            if k >= self.queue_end {
+                return false;
+            }
+            let x = at(self.queue, k);
+            self.raise_behind(x);
+        }
+        true
+    }
+
+    /// Chains what reads a write, and notes how high it stands.
+    fn chain(&mut self, y: usize) {
+        let level = self.node(y).level;
+        let source = self.source(y);
+        let Some(node) = self.nodes.get_mut(source) else {
+            return;
+        };
+        let reader = node.reader;
+        node.unread = node.unread.saturating_add(1);
+        node.late = node.late.max(level);
+        node.reader = y;
+        if let Some(node) = self.nodes.get_mut(y) {
+            node.next_reader = reader;
+        }
+    }
+
+    /// Chains what reads each write.
+    fn chain_all(&mut self) {
+        for y in 0..self.nodes.len() {
+            if self.reads(y) {
+                self.chain(y);
             }
         }
     }
 
     /// Lists what may be done first.
-    fn enlist_first(&mut self) {
-        for x in 0..self.question.operations.len() {
-            if at(&self.pending, x) == 0 {
+    fn begin(&mut self) {
+        self.forget_words();
+        self.count_pending();
+        for x in 0..self.nodes.len() {
+            let node = self.node(x);
+            put(self.open, x, node.level);
+            if node.pending == 0 {
                 self.enlist(x);
             }
         }
@@ -123,146 +191,154 @@ impl<'a, A: Allocator + Copy> Schedule<'a, A> {
         }
     }
 
-    /// The choice that was made last; now and then another one.
-    fn pick(&mut self, choices: &[Choice]) -> Option<Choice> {
+    /// The place in the circle of the choice that was made last; now and then of another one.
+    fn pick(&mut self, choices: usize) -> usize {
         if self.draw(4) == 0 {
-            let place = self.draw(choices.len());
-            return choices.get(place).copied();
+            let number = self.draw(choices);
+            return self.nth(Ground::Choice, number);
         }
-        let mut last = choices.get(0).copied();
+        let mut last = self.nth(Ground::Choice, 0);
         let mut time = 0usize;
-        for k in 0..choices.len() {
-            let made = at(&self.times, choices[k].first);
-            if made >= time {
+        for place in self.circle_begin..self.circle_end {
+            let made = self.node(self.chosen_at(place)).time;
+            if self.wait(place).ground == Ground::Choice && made >= time {
                 time = made;
-                last = Some(choices[k]);
+                last = place;
             }
         }
         last
     }
 
-    /// Changes a choice or a guess that a circle rests on. Says whether there is one.
-    fn change(&mut self, circle: &[Wait], grounds: &Grounds<A>) -> Result<bool, AllocError> {
-        if grounds.guesses.is_empty() || self.draw(3) > 0 {
-            if let Some(choice) = self.pick(&grounds.choices) {
-                self.guess(choice)?;
-                return Ok(true);
-            }
+    /// Changes a choice or a guess that the circle rests on.
+    fn change(&mut self, choices: usize, guesses: usize) {
+        if choices > 0 && (guesses == 0 || self.draw(3) > 0) {
+            let place = self.pick(choices);
+            return self.guess(place);
         }
-        let drawn = self.draw(grounds.guesses.len());
-        let Some(place) = grounds.guesses.get(drawn).copied() else {
-            return Ok(false);
-        };
-        if grounds.choices.is_empty() && grounds.guesses.len() == 1 {
-            self.refute(circle, place)?;
-            return Ok(true);
+        let number = self.draw(guesses);
+        let place = self.nth(Ground::Guess, number);
+        if choices == 0 && guesses == 1 {
+            self.refute(place);
+        } else {
+            self.drop_guess(place);
         }
-        if let Some(wait) = circle.get(place) {
-            self.drop_guess(wait.arc);
-        }
-        Ok(true)
     }
 
-    /// Goes on where operations wait for one another around. Says whether it can.
-    fn turn(&mut self, alloc: A) -> Result<bool, AllocError> {
-        let mut circle = self.circle(alloc)?;
-        if circle.is_empty() {
-            return Ok(false);
+    /// Goes on where operations wait for one another around. Returns whether it can.
+    fn turn(&mut self) -> bool {
+        if !self.finds_circle() {
+            return false;
         }
-        let grounds = self.grounds_of(alloc, &mut circle)?;
-        if grounds.choices.len() == 1 && grounds.guesses.is_empty() {
-            self.conclude(&circle, grounds.choices[0])?;
-            return Ok(true);
+        self.find_grounds();
+        let (choices, guesses) = (self.count(Ground::Choice), self.count(Ground::Guess));
+        if choices == 1 && guesses == 0 {
+            self.conclude(self.nth(Ground::Choice, 0));
+            return true;
         }
-        self.change(&circle, &grounds)
+        if choices == 0 && guesses == 0 {
+            return false;
+        }
+        self.change(choices, guesses);
+        true
+    }
+
+    /// Runs until all is done, or it is given up. Returns whether all is done.
+    fn finish(&mut self) -> bool {
+        let count = self.nodes.len();
+        let most = count.saturating_add(ENDS).saturating_mul(TIMES);
+        for _ in 0..(count / FOR_ONE).saturating_add(ENDS) {
+            self.run();
+            if self.left == 0 {
+                return true;
+            }
+            if self.taken_back > most || !self.turn() {
+                return false;
+            }
+        }
+        false
     }
 
     /// Puts the writes of a word at the places below one. Returns the lowest one.
-    fn place_writes(&self, word: usize, end: usize, places: &mut [usize]) -> usize {
+    fn place_writes(&mut self, word: usize, end: usize) -> usize {
         let mut place = end;
-        let mut x = at(&self.newest, word);
-        for _ in 0..places.len() {
+        let mut x = at(self.words, word);
+        for _ in 0..self.nodes.len() {
             if x == NONE {
                 return place;
             }
             place = place.saturating_sub(1);
-            put(places, x, place);
-            x = at(&self.before, x);
+            put(self.places, x, place);
+            x = self.node(x).before;
         }
         place
     }
 
-    /// The places of writes as they were done, and of loads those of their sources; none where not all is done.
-    fn places(&self, alloc: A) -> Result<Vec<usize, A>, AllocError> {
-        if self.left > 0 {
-            return Ok(Vec::new(alloc));
-        }
-        let count = self.question.operations.len();
-        let mut places = vec![in alloc; 0usize; count]?;
+    /// Finds the places of writes as they were done, and of loads those of their sources.
+    fn find_places(&mut self) {
         let mut end = count_writes(self.question.operations);
-        for n in 0..self.newest.len() {
-            end = self.place_writes(self.newest.len() - 1 - n, end, &mut places);
+        let words = self.words.len();
+        for n in 0..words {
+            end = self.place_writes(words - 1 - n, end);
         }
-        for x in 0..count {
+        for x in 0..self.nodes.len() {
             if matches!(self.kind(x), Kind::Load) {
-                let place = at(&places, self.source(x));
-                put(&mut places, x, place);
+                let source = self.source(x);
+                let place = at(self.places, source);
+                put(self.places, x, place);
             }
         }
-        Ok(places)
     }
 
-    /// Runs until all is done, or it is given up.
-    fn finish(&mut self, alloc: A) -> Result<(), AllocError> {
-        let count = self.question.operations.len();
-        for _ in 0..(count / FOR_ONE).saturating_add(ENDS) {
-            self.run();
-            if self.left == 0
-                || self.taken_back > count.saturating_add(ENDS).saturating_mul(TIMES)
-            {
-                return Ok(());
-            }
-            if !self.turn(alloc)? {
-                return Ok(());
-            }
+    /// Runs. Returns whether all is done.
+    fn finds_order(&mut self) -> bool {
+        self.add_all();
+        if !self.find_levels() {
+            return false;
         }
-        Ok(())
+        self.chain_all();
+        self.begin();
+        let found = self.finish();
+        if found {
+            self.find_places();
+        }
+        found
     }
 }
 
-/// A run that has not begun.
-fn schedule_of<'a, A: Allocator + Copy>(
-    alloc: A,
-    question: &'a Unordered<'a>,
-    arcs: Arcs<A>,
-    levels: Vec<usize, A>,
-) -> Result<Schedule<'a, A>, AllocError> {
+/// Runs. Returns whether all is done, how many reasons there are, and how long their paths.
+fn run_in<'q, A: Allocator>(
+    question: &'q Unordered<'q>,
+    tables: &mut Tables<A>,
+) -> (bool, usize, usize) {
     let count = question.operations.len();
-    let lists = count.saturating_add(2).saturating_add(question.words);
-    Ok(Schedule {
+    let mut run = Run {
         question,
-        pending: pending_of(alloc, &arcs)?,
-        arcs,
-        unread: vec![in alloc; 0usize; count]?,
-        readers: vec![in alloc; NONE; count]?,
-        next_readers: vec![in alloc; NONE; count]?,
-        lates: levels.clone()?,
-        levels,
-        before: vec![in alloc; NONE; count]?,
-        behind: vec![in alloc; NONE; count]?,
-        done: vec![in alloc; false; count]?,
-        times: vec![in alloc; 0usize; count]?,
-        newest: vec![in alloc; NONE; question.words]?,
-        lists: empty_lists(alloc, lists, count)?,
+        nodes: &mut tables.nodes,
+        words: &mut tables.words,
+        heads: &mut tables.heads,
+        arcs: &mut tables.arcs,
+        steps: &mut tables.guess.steps,
+        paths: &mut tables.guess.paths,
+        places: &mut tables.guess.places,
+        circle: &mut tables.circle,
+        queue: &mut tables.queue,
+        open: &mut tables.open,
+        arc_count: 0,
+        step_count: 0,
+        path_count: 0,
+        circle_begin: 0,
+        circle_end: 0,
+        queue_end: 0,
+        lowest: 0,
         clock: 0,
         left: count,
-        undone: Vec::new(alloc),
-        again: Vec::new(alloc),
-        seen: vec![in alloc; NONE; count]?,
-        links: vec![in alloc; NONE; count]?,
-        drawn: 12_345,
         taken_back: 0,
-    })
+        undone: count,
+        again: NONE,
+        drawn: 12_345,
+    };
+    let found = run.finds_order();
+    (found, run.step_count, run.path_count)
 }
 
 /// A guess at an order that explains a trace, or at pairs that go around.
@@ -272,22 +348,12 @@ pub(crate) fn guess_of<A: Allocator + Copy>(
     alloc: A,
     question: &Unordered,
 ) -> Result<Guess<A>, AllocError> {
-    let arcs = first_arcs(alloc, question)?;
-    let Some(levels) = levels_of(alloc, &arcs)? else {
-        return Ok(Guess {
-            places: Vec::new(alloc),
-            steps: arcs.steps,
-            paths: arcs.paths,
-        });
-    };
-    let mut schedule = schedule_of(alloc, question, arcs, levels)?;
-    schedule.chain_readers();
-    schedule.enlist_first();
-    schedule.finish(alloc)?;
-    let places = schedule.places(alloc)?;
-    Ok(Guess {
-        places,
-        steps: schedule.arcs.steps,
-        paths: schedule.arcs.paths,
-    })
+    let mut tables = tables_of(alloc, question)?;
+    let (found, steps, paths) = run_in(question, &mut tables);
+    tables.guess.steps.truncate(steps);
+    tables.guess.paths.truncate(paths);
+    if !found {
+        tables.guess.places.truncate(0);
+    }
+    Ok(tables.guess)
 }

@@ -17,7 +17,6 @@ mod guess;
 mod known;
 pub mod laws;
 mod likely;
-mod lists;
 mod looking;
 mod lost;
 mod placed;
@@ -26,6 +25,7 @@ mod schedule;
 mod search;
 mod spread;
 mod starting;
+mod undoing;
 pub mod valued;
 mod waits;
 

@@ -8,7 +8,7 @@ ghost use Rattle.memory_models.specs.Trace.{operation_at};
 ghost use Rattle.model_values.specs.Values.{AreTwins, HasNoLostUpdate, IsLeftBy, IsLostUpdate};
 
 use crate::arcs::{NONE, at, put};
-use crate::by_word::Writes;
+use crate::by_word::{likely_place, likely_source};
 use crate::placed::number_at;
 use crate::valued::{Valued, is_left_by, may_read, source_of, word_at};
 use memory_models::{Kind, Operation};
@@ -96,33 +96,28 @@ fn lost_with(valued: &Valued, x: usize) -> Option<usize>
 pub(crate) fn followers_of<A: Allocator + Copy>(
     alloc: A,
     valued: &Valued,
-    writes: &Writes<A>,
+    order: &[usize],
 ) -> Result<Vec<usize, A>, AllocError> {
     let mut followers = vec![in alloc; NONE; valued.operations.len()]?;
     for x in 0..valued.operations.len() {
         if is_atomic(valued.operations, x) {
-            put(&mut followers, writes.likely_source(valued, x), x);
+            put(&mut followers, likely_source(valued, order, x), x);
         }
     }
     Ok(followers)
 }
 
 /// Whether an atomic has two writes that left what it found, or one that it is told to follow.
-fn is_followed<A: Allocator>(
-    valued: &Valued,
-    writes: &Writes<A>,
-    followers: &[usize],
-    x: usize,
-) -> bool
+fn is_followed(valued: &Valued, order: &[usize], followers: &[usize], x: usize) -> bool
     requires x { x < length valued.now.operations.now }
     ensures { result ≡ true → IsFollowed valued.now followers.now x }
 {
     if !is_atomic(valued.operations, x) {
         return true;
     }
-    let place = writes.likely_place(valued, x);
-    let source = at(&writes.order, place);
-    let other = at(&writes.order, place.saturating_add(1));
+    let place = likely_place(valued, order, x);
+    let source = at(order, place);
+    let other = at(order, place.saturating_add(1));
     if !may_read(valued, x, source) {
         return false;
     }
@@ -133,31 +128,27 @@ fn is_followed<A: Allocator>(
 }
 
 /// The first atomic that isn't, and the one that its write is told to be followed by.
-fn first_shared<A: Allocator>(
-    valued: &Valued,
-    writes: &Writes<A>,
-    followers: &[usize],
-) -> Option<(usize, usize)>
+fn first_shared(valued: &Valued, order: &[usize], followers: &[usize]) -> Option<(usize, usize)>
     ensures { IfNone result (HasNoLostUpdate valued.now) }
 {
     for x in 0..valued.operations.len() {
-        if !is_followed(valued, writes, followers, x) {
-            return Some((x, at(followers, writes.likely_source(valued, x))));
+        if !is_followed(valued, order, followers, x) {
+            return Some((x, at(followers, likely_source(valued, order, x))));
         }
     }
     None
 }
 
 /// A lost update.
-pub(crate) fn find_lost<A: Allocator>(
+pub(crate) fn find_lost(
     valued: &Valued,
-    writes: &Writes<A>,
+    order: &[usize],
     followers: &[usize],
 ) -> Option<(usize, usize)>
     ensures some { IfSome result (λ pair. IsLostUpdate valued.now pair.0 pair.1) }
     ensures none { IfNone result (HasNoLostUpdate valued.now) }
 {
-    let Some((x, y)) = first_shared(valued, writes, followers) else {
+    let Some((x, y)) = first_shared(valued, order, followers) else {
         return None;
     };
     let size = valued.operations.len();

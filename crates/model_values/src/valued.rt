@@ -6,7 +6,7 @@ ghost use Rattle.model_values.specs.Choices.{MayRead};
 ghost use Rattle.model_values.specs.Values.{AreAlikeValues, AreSourcesOf, IsKnownSource, IsLeftBy};
 ghost use Rattle.model_values.specs.Values.{IsReader, IsUnwritten};
 
-use crate::by_word::{Writes, are_unlike, sorted_writes};
+use crate::by_word::{are_unlike, likely_source, sorted_writes};
 use crate::lost::{find_lost, followers_of};
 use memory_models::kinds::is_write;
 use memory_models::{Kind, Operation};
@@ -158,7 +158,7 @@ pub(crate) fn source_of(valued: &Valued, x: usize, likely: usize) -> Option<usiz
 }
 
 /// The source of an operation: of a load or an atomic that write, of another operation 0.
-fn source_at<A: Allocator>(valued: &Valued, writes: &Writes<A>, x: usize) -> Option<usize>
+fn source_at(valued: &Valued, order: &[usize], x: usize) -> Option<usize>
     requires x { x < length valued.now.operations.now }
     ensures some { IfSome result (IsKnownSource valued.now x) }
     ensures none { IfNone result (IsUnwritten valued.now x) }
@@ -166,7 +166,7 @@ fn source_at<A: Allocator>(valued: &Valued, writes: &Writes<A>, x: usize) -> Opt
     if !is_reader(valued.operations, x) {
         return Some(0);
     }
-    source_of(valued, x, writes.likely_source(valued, x))
+    source_of(valued, x, likely_source(valued, order, x))
 }
 
 /// The sources of loads and atomics; or an operation that found what no write of its word left; or a lost
@@ -182,13 +182,13 @@ pub fn sources_by_values<A: Allocator + Copy>(
     let writes = sorted_writes(alloc, valued)?;
     let mut sources = Vec::new(alloc);
     for x in 0..valued.operations.len() {
-        let Some(source) = source_at(valued, &writes, x) else {
+        let Some(source) = source_at(valued, &writes.order, x) else {
             return Ok(Sources::Unwritten(x));
         };
         sources.push(source)?;
     }
-    let followers = followers_of(alloc, valued, &writes)?;
-    if let Some((x, y)) = find_lost(valued, &writes, &followers) {
+    let followers = followers_of(alloc, valued, &writes.order)?;
+    if let Some((x, y)) = find_lost(valued, &writes.order, &followers) {
         return Ok(Sources::Lost(x, y));
     }
     let (order, places) = (&writes.order, &writes.places);

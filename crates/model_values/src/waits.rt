@@ -1,18 +1,8 @@
 //! Operations that wait for one another around, where a run can't go on.
 
-use crate::arcs::{NONE, at, is_set, put};
-use crate::schedule::Schedule;
-use std::alloc::{AllocError, Allocator};
+use crate::arcs::{Arc, Ground, NO_WAIT, NONE, Run, Wait, at};
 
-/// An operation that waits, and the arc for which it does; `NONE` where it waits for what is to read the newest write
-/// of its word.
-#[derive(Clone, Copy)]
-pub(crate) struct Wait {
-    pub operation: usize,
-    pub arc: usize,
-}
-
-/// The next operation that one waits for, and by which arc.
+/// The next operation that one waits for, by which arc, and whether this is only guessed.
 #[derive(Clone, Copy)]
 struct Next {
     operation: usize,
@@ -21,78 +11,79 @@ struct Next {
     level: usize,
 }
 
-impl Next {
-    /// Whether this is to be looked at before another.
-    fn is_before(self, other: Next) -> bool {
-        if self.is_guessed != other.is_guessed {
-            return other.is_guessed;
-        }
-        self.level < other.level
-    }
-}
+/// Nothing that an operation waits for.
+const NO_NEXT: Next = Next {
+    operation: NONE,
+    arc: NONE,
+    is_guessed: true,
+    level: NONE,
+};
 
 /// The one of two that is to be looked at first.
-fn first_of(best: Option<Next>, next: Next) -> Option<Next> {
-    match best {
-        Some(other) => {
-            if next.is_before(other) {
-                Some(next)
-            } else {
-                best
-            }
-        }
-        None => Some(next),
-    }
+fn first_of(best: Next, next: Next) -> Next {
+    let is_before = if next.is_guessed == best.is_guessed {
+        next.level < best.level
+    } else {
+        best.is_guessed
+    };
+    if is_before { next } else { best }
 }
 
-impl<'a, A: Allocator + Copy> Schedule<'a, A> {
+impl<'q, 't> Run<'q, 't> {
+    /// What an operation waits for by an arc at a place, if it does.
+    fn next_at(&self, place: usize, arc: Arc) -> Next {
+        let node = self.node(arc.from);
+        if arc.from == NONE || node.is_done {
+            return NO_NEXT;
+        }
+        Next {
+            operation: arc.from,
+            arc: place,
+            is_guessed: arc.step == NONE,
+            level: node.level,
+        }
+    }
+
     /// The first operation that an operation waits for by an arc.
-    fn next_by_arc(&self, x: usize) -> Option<Next> {
-        let mut best = None;
-        let mut place = at(&self.arcs.to, x);
-        for _ in 0..self.arcs.list.len() {
-            let Some(arc) = self.arcs.arc(place) else {
+    fn next_by_arc(&self, x: usize) -> Next {
+        let mut best = NO_NEXT;
+        let mut place = self.node(x).arc_to;
+        for _ in 0..self.arc_count {
+            let Some(arc) = self.arc(place) else {
                 return best;
             };
-            if arc.from != NONE && !is_set(&self.done, arc.from) {
-                let next = Next {
-                    operation: arc.from,
-                    arc: place,
-                    is_guessed: arc.step == NONE,
-                    level: at(&self.levels, arc.from),
-                };
-                best = first_of(best, next);
-            }
+            best = first_of(best, self.next_at(place, arc));
             place = arc.next_to;
         }
         best
     }
 
     /// The first operation that is to read the newest write of a word before another write follows.
-    fn next_reader(&self, x: usize) -> Option<Next> {
-        let mut best = None;
-        let mut reader = at(&self.readers, at(&self.newest, self.word(x)));
-        for _ in 0..self.question.operations.len() {
+    fn next_reader(&self, x: usize) -> Next {
+        let mut best = NO_NEXT;
+        let mut reader = self.node(at(self.words, self.word(x))).reader;
+        for _ in 0..self.nodes.len() {
             if reader == NONE {
                 return best;
             }
-            if reader != x && !is_set(&self.done, reader) {
+            let node = self.node(reader);
+            if reader != x && !node.is_done {
                 let next = Next {
                     operation: reader,
                     arc: NONE,
                     is_guessed: false,
-                    level: at(&self.levels, reader),
+                    level: node.level,
                 };
                 best = first_of(best, next);
             }
-            reader = at(&self.next_readers, reader);
+            reader = node.next_reader;
         }
         best
     }
 
     /// The first operation that an operation waits for.
-    fn next_of(&self, x: usize) -> Option<Next> {
-        if at(&self.pending, x) > 0 {
+    fn next_of(&self, x: usize) -> Next {
+        if self.node(x).pending > 0 {
             self.next_by_arc(x)
         } else {
             self.next_reader(x)
@@ -100,61 +91,116 @@ impl<'a, A: Allocator + Copy> Schedule<'a, A> {
     }
 
     /// The operation of the lowest level that is not done.
-    fn lowest(&self) -> Option<usize> {
-        let mut best = None;
+    fn lowest_open(&self) -> usize {
+        let mut best = NONE;
         let mut level = NONE;
-        for x in 0..self.question.operations.len() {
-            if !is_set(&self.done, x) && at(&self.levels, x) < level {
-                level = at(&self.levels, x);
-                best = Some(x);
+        for x in 0..self.open.len() {
+            if at(self.open, x) < level {
+                level = at(self.open, x);
+                best = x;
             }
         }
         best
     }
 
-    /// Walks from an operation to what it waits for, and on, until it comes to one again: the place where it was.
-    fn walk(&mut self, start: usize, path: &mut Vec<Wait, A>) -> Result<Option<usize>, AllocError> {
-        let mut x = start;
-        for k in 0..self.question.operations.len().saturating_add(1) {
-            let seen = at(&self.seen, x);
-            if seen != NONE {
-                return Ok(Some(seen));
-            }
-            let Some(next) = self.next_of(x) else {
-                return Ok(None);
+    /// An operation of the walk.
+    pub(crate) fn wait(&self, place: usize) -> Wait {
+        match self.circle.get(place) {
+            Some(wait) => *wait,
+            None => NO_WAIT,
+        }
+    }
+
+    /// Puts an operation at the end of the walk.
+    fn put_wait(&mut self, operation: usize, arc: usize) {
+        let end = self.circle_end;
+        if let Some(node) = self.nodes.get_mut(operation) {
+            node.seen = end;
+        }
+        if let Some(place) = self.circle.get_mut(end) {
+            *place = Wait {
+                operation,
+                arc,
+                ground: Ground::Reason,
             };
-            put(&mut self.seen, x, k);
-            path.push(Wait {
-                operation: x,
-                arc: next.arc,
-            })?;
+        }
+        self.circle_end = end.saturating_add(1);
+    }
+
+    /// Walks from an operation to what it waits for, and on, until it comes to one again. Returns whether it does.
+    fn walk(&mut self, start: usize) -> bool {
+        let mut x = start;
+        self.circle_end = 0;
+        for _ in 0..self.nodes.len().saturating_add(1) {
+            let seen = self.node(x).seen;
+            if seen != NONE {
+                self.circle_begin = seen;
+                return true;
+            }
+            let next = self.next_of(x);
+            if next.operation == NONE {
+                return false;
+            }
+            self.put_wait(x, next.arc);
             x = next.operation;
         }
-        Ok(None)
+        false
     }
 
-    /// Forgets where a walk was.
-    fn forget(&mut self, path: &[Wait]) {
-        for k in 0..path.len() {
-            put(&mut self.seen, path[k].operation, NONE);
+    /// Finds operations that wait for one another around: each for the next, and the last one for the first. Returns
+    /// whether there are any.
+    pub(crate) fn finds_circle(&mut self) -> bool {
+        let found = self.walk(self.lowest_open());
+        for k in 0..self.circle_end {
+            let x = self.wait(k).operation;
+            if let Some(node) = self.nodes.get_mut(x) {
+                node.seen = NONE;
+            }
+        }
+        found
+    }
+
+    /// The place of the operation that the one at a place of the circle waits for.
+    pub(crate) fn place_after(&self, place: usize) -> usize {
+        let next = place.saturating_add(1);
+        if next < self.circle_end {
+            next
+        } else {
+            self.circle_begin
         }
     }
 
-    /// Operations that wait for one another around: each for the next, and the last one for the first.
-    pub(crate) fn circle(&mut self, alloc: A) -> Result<Vec<Wait, A>, AllocError> {
-        let mut path = Vec::new(alloc);
-        let mut circle = Vec::new(alloc);
-        let Some(start) = self.lowest() else {
-            return Ok(circle);
-        };
-        let begin = self.walk(start, &mut path)?;
-        self.forget(&path);
-        let Some(begin) = begin else {
-            return Ok(circle);
-        };
-        for k in begin..path.len() {
-            circle.push(path[k])?;
+    /// The place of the operation that waits for the one at a place of the circle.
+    pub(crate) fn place_before(&self, place: usize) -> usize {
+        if place > self.circle_begin {
+            place.saturating_sub(1)
+        } else {
+            self.circle_end.saturating_sub(1)
         }
-        Ok(circle)
+    }
+
+    /// How many operations of the circle wait for what rests on a ground.
+    pub(crate) fn count(&self, ground: Ground) -> usize {
+        let mut count = 0usize;
+        for place in self.circle_begin..self.circle_end {
+            if self.wait(place).ground == ground {
+                count = count.saturating_add(1);
+            }
+        }
+        count
+    }
+
+    /// The place of one of these operations, by its number.
+    pub(crate) fn nth(&self, ground: Ground, number: usize) -> usize {
+        let mut count = 0usize;
+        for place in self.circle_begin..self.circle_end {
+            if self.wait(place).ground == ground {
+                if count == number {
+                    return place;
+                }
+                count = count.saturating_add(1);
+            }
+        }
+        self.circle_end
     }
 }

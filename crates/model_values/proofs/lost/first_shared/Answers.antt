@@ -3,4 +3,4 @@ use Rattle.model_values.proofs.LostUpdates.{followed}
 use Rattle.model_values.proofs.lost.first_shared.Goals as goal
 
 pub returns : goal.returns
-returns g c = followed c.args.valued.now c.args.followers.now (λ x low. c.loop-x.invariant.each x (omega (arith, low, c.loop-x-test.false)))
+returns c = followed c.args.valued.now c.args.followers.now (λ x low. c.loop-x.invariant.each x (omega (arith, low, c.loop-x-test.false)))
