@@ -140,8 +140,8 @@ pub(crate) const NO_WAIT: Wait = Wait {
 };
 
 /// A run: its operations; of each word the newest write; the first operation of each list; the arcs, their reasons and
-/// the paths by which these follow; the places of operations once all are done; the level
-/// of each operation that is not done, `NONE` of others; a walk among what waits, which ends in a circle; and operations to be looked at.
+/// the paths by which these follow; the places of operations once all are done; the level of each operation that is not
+/// done, `NONE` of others; a walk among what waits, which ends in a circle; and operations to be looked at.
 #[derive(Drop)]
 pub(crate) struct Run<'q, 't> {
     pub question: &'q Unordered<'q>,

@@ -16,6 +16,7 @@ pub mod grouped;
 mod guess;
 mod known;
 pub mod laws;
+mod levels;
 mod likely;
 mod looking;
 mod lost;
