@@ -126,6 +126,33 @@ def table(lots: random.Random) -> Network:
     return net
 
 
+def duato(lots: random.Random) -> Network:
+    """Duato's ring: packets take the second channel of a link only to destinations ahead of the round's end, and the first is an escape
+    for those behind it alone; or a drawn one of these escapes is missing, or there is one more."""
+    count = lots.randint(3, 5)
+    made = Routers({r: [(r + 1) % count] for r in range(count)}, 2)
+    firsts = {(made.hops[r, (r + 1) % count, 0], count + goal) for r in range(count) for goal in range(count)}
+    made.net.escapes = {x for (r, _, v), x in made.hops.items() if v and r < count - 1}
+    made.net.own_escapes = {(x, count + goal) for (r, _, v), x in made.hops.items() if not v for goal in range(r)}
+    for goal in range(count):
+        for r in range(count):
+            made.choose(r, goal, [made.hops[r, (r + 1) % count, v] for v in range(1 + (r < goal))])
+    if lots.random() < 0.5:
+        made.net.own_escapes ^= {lots.choice(sorted(firsts))}
+    made.join(lots)
+    return made.net
+
+
+def by_goal(lots: random.Random) -> Network:
+    """Another one of whose escapes some are one for packets to drawn ejection channels alone."""
+    net = lots.choice([ring, lambda it: mesh(it, "x"), lambda it: mesh(it, "xy"), graph, table])(lots)
+    ends, often = [x for x, kind in enumerate(net.kinds) if kind == "eject"], lots.choice([0.5, 0.9])
+    for y in lots.sample(sorted(net.escapes), lots.randint(1, len(net.escapes))):
+        net.escapes.discard(y)
+        net.own_escapes |= {(y, j) for j in ends if lots.random() < often} or {(y, ends[0])}
+    return net
+
+
 def broken(lots: random.Random) -> Network:
     """Another one of which escapes or choices are dropped, or whose channels are escapes that weren't."""
     net = lots.choice([ring, lambda it: mesh(it, "x"), lambda it: mesh(it, "xy"), graph, turns])(lots)
@@ -139,7 +166,7 @@ def broken(lots: random.Random) -> Network:
     return net
 
 
-WAYS = (ring, lambda it: mesh(it, "x"), lambda it: mesh(it, "xy"), graph, broken, turns, table, broken)
+WAYS = (ring, lambda it: mesh(it, "x"), lambda it: mesh(it, "xy"), graph, broken, turns, table, broken, duato, by_goal)
 
 
 def drawn(seed: int) -> Network:

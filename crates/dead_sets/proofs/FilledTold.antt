@@ -1,13 +1,16 @@
 -- What the flags of filled channels tell of the network.
-use Rattle.std.proofs.Common.{◌≡◌, ◌≢◌, inl, inr, ℕ, zero, suc, ◌<◌, ◌≤◌, ◌&&◌, ◌||◌, not, Bool, true, false, cond, set, List, [], ◌∷◌, length, map, refl, sym, ◌∙◌, ap, subst, arith, eq-eqb}
+use Rattle.std.proofs.Common.{◌≡◌, ◌≢◌, inl, inr, ℕ, zero, suc, ◌<◌, ◌≤◌, ◌&&◌, ◌||◌, not, Bool, true, false, cond, set, Some, List, [], ◌∷◌, length, map, refl, sym, ◌∙◌, ap, subst, arith, eq-eqb}
 use Rattle.std.specs.Prelude.{nat_lt, slice_get, get_or, drop, ◌==◌}
 use Rattle.std.proofs.lemmas.Bool.{cases_eq, ltb-true, lt-ltb, ne_eqb, and_parts, and_from}
 use Rattle.std.proofs.lemmas.List.{get_or-set_same, get_or-set_other, length-set, length-map, get_or-map, drop_all}
 use Rattle.std.proofs.Math.Seq.{drop-cons}
+use Rattle.network_judge.specs.declared.table.Kind.TheVariants.{Ejection}
 use Rattle.network_judge.specs.Table.{is_receiver}
 use Rattle.network_judge.specs.TableNet.{Flits}
 use Rattle.network_judge.specs.Marks.{is_marked_at}
+use Rattle.network_adaptive.specs.Spread.{marks_to}
 use Rattle.network_adaptive.specs.Choosing.{ChoiceTable, base_of, chooses_of, network, IsShaped}
+use Rattle.network_adaptive.proofs.Bases.{receiver_is}
 use Rattle.network_adaptive.proofs.Flags.{not_true, true_not}
 use Rattle.deadlock_laws.specs.Fillings.{Filling, IsWayTo, enters_behind, is_occupied, is_full, ComesFreely, FillInTurn}
 use Rattle.dead_sets.specs.declared.filling.FilledChannel.{FilledChannel}
@@ -58,6 +61,9 @@ module _ (t : ChoiceTable) where
       let d = and_parts (not (is_marked_at taken f.at)) (comes_so taken f) b.1 in
       (ltb-true f.at (length t.kinds) a.0, b.0, not_true (is_marked_at taken f.at) d.0, d.1)
 
+  pub fills_ends : (taken : List Bool) (f : Filling) → fills taken f ≡ true → slice_get t.kinds f.to ≡ Some Ejection
+  fills_ends taken f e = receiver_is (slice_get t.kinds f.to) (fills_parts taken f e).1
+
   -- packets come freely just where this is so
   pub comes_freely : (depth : ℕ) (flits : Flits) (fs : List Filling) (taken full : List Bool) (f : Filling) → FlagsTell t fs taken full → fills taken f ≡ true
       → ComesFreely (network t depth flits) f fs
@@ -80,13 +86,13 @@ module _ (t : ChoiceTable) where
 
   -- whether they enter behind others
   behind_is : (depth : ℕ) (flits : Flits) (j y : ℕ) (xs : List ℕ) → IsWayTo (network t depth flits) j y xs
-      → (is_none xs || is_marked_at t.marks y) ≡ enters_behind (network t depth flits) j y xs
+      → (is_none xs || is_marked_at (marks_to t.kinds t.marks j) y) ≡ enters_behind (network t depth flits) j y xs
   behind_is depth flits j y [] w = refl
-  behind_is depth flits j y (x ∷ xs) w = let chosen : chooses_of t x j y ≡ true = w.0.chosen in sym (ap (λ a. a && is_marked_at t.marks y) chosen)
+  behind_is depth flits j y (x ∷ xs) w = let chosen : chooses_of t x j y ≡ true = w.0.chosen in sym (ap (λ a. a && is_marked_at (marks_to t.kinds t.marks j) y) chosen)
 
   -- one channel more is filled
   pub one_more : (fs : List Filling) (taken full : List Bool) (f : Filling) (b : Bool) → FlagsTell t fs taken full → fills taken f ≡ true
-      → b ≡ (is_none f.before || is_marked_at t.marks f.at) → FlagsTell t (f ∷ fs) (set taken f.at true) (set full f.at b)
+      → b ≡ (is_none f.before || is_marked_at (marks_to t.kinds t.marks f.to) f.at) → FlagsTell t (f ∷ fs) (set taken f.at true) (set full f.at b)
   one_more fs taken full f b tell e is =
       let p = fills_parts taken f e in
       let size = tell.size in
@@ -131,7 +137,7 @@ module _ (t : ChoiceTable) where
   }
 
   pub filled_more : (fs : List Filling) (k m : ℕ) (f : Filling) (taken full : List Bool) (b : Bool) → k ≡ suc m → drop m fs ≡ f ∷ drop (suc m) fs
-      → fills taken f ≡ true → b ≡ (is_none f.before || is_marked_at t.marks f.at) → IsFilledSo fs k taken full
+      → fills taken f ≡ true → b ≡ (is_none f.before || is_marked_at (marks_to t.kinds t.marks f.to) f.at) → IsFilledSo fs k taken full
       → IsFilledSo fs m (set taken f.at true) (set full f.at b)
   filled_more fs k m f taken full b e here passes is so =
       let inside = so.inside in

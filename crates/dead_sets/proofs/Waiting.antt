@@ -10,7 +10,7 @@ use Rattle.network_judge.specs.Table.{is_receiver}
 use Rattle.network_judge.specs.TableNet.{Flits}
 use Rattle.network_judge.specs.Marks.{is_marked_at}
 use Rattle.network_adaptive.specs.Choices.{AdaptiveNet, IsChoice}
-use Rattle.network_adaptive.specs.Spread.{block_base, any_below, leads_on}
+use Rattle.network_adaptive.specs.Spread.{block_base, any_below, leads_on, marks_to}
 use Rattle.network_adaptive.specs.Choosing.{ChoiceTable, base_of, chooses_of, network, IsShaped}
 use Rattle.network_adaptive.specs.Judged.{answers_of}
 use Rattle.network_adaptive.proofs.Flags.{or_cases, not_true, true_not, any_at, any_from}
@@ -64,7 +64,7 @@ module _ (kinds : List Kind) (replies : List Reply) (choices : List ℕ) (ways :
   start = block_base kinds ways f.to + f.at * ways
 
   abbrev free_at : ℕ → Bool
-  free_at k = leaves_free (length kinds) marks taken full (slice_index choices (start + k))
+  free_at k = leaves_free (length kinds) (marks_to kinds marks f.to) taken full (slice_index choices (start + k))
 
   abbrev waits : Bool
   waits = waits_by kinds replies choices ways marks taken full f
@@ -101,7 +101,7 @@ module _ (kinds : List Kind) (replies : List Reply) (choices : List ℕ) (ways :
       waits_so low ends ∙ (ap either leads ∙ ap not (any_at free_at ways k place free))
 
   pub waits_all : f.at < length kinds → is_receiver (slice_get kinds f.to) ≡ true → leads_on kinds f.at ≡ true
-      → (m : ℕ) → m ≡ ways → NoneFree choices start m (length kinds) marks taken full → waits ≡ true
+      → (m : ℕ) → m ≡ ways → NoneFree choices start m (length kinds) (marks_to kinds marks f.to) taken full → waits ≡ true
   waits_all low ends leads m e none =
       let nothing : any_below free_at ways ≡ false = elim (cases_Bool (any_below free_at ways)) [
         | inl some ↦ (let w = any_from free_at ways some in
@@ -122,32 +122,32 @@ module _ (t : ChoiceTable) (replies : List Reply) (depth : ℕ) (flits : Flits) 
   waiting taken full f = waits_by t.kinds replies t.choices t.ways t.marks taken full f
 
   module _ (fs : List Filling) (taken full : List Bool) (tell : FlagsTell t fs taken full) where
-    leaves : ℕ → Bool
-    leaves y = leaves_free (length t.kinds) t.marks taken full y
+    abbrev row : Filling → List Bool
+    row f = marks_to t.kinds t.marks f.to
 
     -- a choice that is free shows
-    free_shows : (f : Filling) (y : ℕ) → IsChoice n f.to f.at y → leaves_free (length t.kinds) t.marks taken full y ≡ true
+    free_shows : (f : Filling) (y : ℕ) → IsChoice n f.to f.at y → leaves_free (length t.kinds) (row f) taken full y ≡ true
         → any_below (free_for taken full f) t.ways ≡ true
     free_shows f y c free =
         let p = step_parts t.kinds t.choices (base_of t f.to) t.ways [] f.at y (goes_step t [] (λ z. refl) depth flits f.to f.at y c) in
         let w = any_from (λ k. slice_index t.choices (base_of t f.to + f.at * t.ways + k) == y) t.ways p.2 in
         any_at (free_for taken full f) t.ways w.0 w.1
-        (ap (leaves_free (length t.kinds) t.marks taken full) (eqb-true (slice_index t.choices (base_of t f.to + f.at * t.ways + w.0)) y w.2) ∙ free)
+        (ap (leaves_free (length t.kinds) (row f) taken full) (eqb-true (slice_index t.choices (base_of t f.to + f.at * t.ways + w.0)) y w.2) ∙ free)
 
     low_choice : (f : Filling) (y : ℕ) → IsChoice n f.to f.at y → y < length t.kinds
     low_choice f y c = (step_parts t.kinds t.choices (base_of t f.to) t.ways [] f.at y (goes_step t [] (λ z. refl) depth flits f.to f.at y c)).0
 
-    free_untaken : (y : ℕ) → y < length t.kinds → is_marked_at taken y ≡ false → leaves_free (length t.kinds) t.marks taken full y ≡ true
-    free_untaken y low down =
-        and_from (nat_lt y (length t.kinds)) (not (is_marked_at taken y) || (is_marked_at t.marks y && not (is_marked_at full y))) (lt-ltb y (length t.kinds) low)
-        (or_left (not (is_marked_at taken y)) (is_marked_at t.marks y && not (is_marked_at full y)) (true_not (is_marked_at taken y) down))
+    free_untaken : (f : Filling) (y : ℕ) → y < length t.kinds → is_marked_at taken y ≡ false → leaves_free (length t.kinds) (row f) taken full y ≡ true
+    free_untaken f y low down =
+        and_from (nat_lt y (length t.kinds)) (not (is_marked_at taken y) || (is_marked_at (row f) y && not (is_marked_at full y))) (lt-ltb y (length t.kinds) low)
+        (or_left (not (is_marked_at taken y)) (is_marked_at (row f) y && not (is_marked_at full y)) (true_not (is_marked_at taken y) down))
 
-    free_unfilled : (y : ℕ) → y < length t.kinds → is_marked_at t.marks y ≡ true → is_marked_at full y ≡ false
-        → leaves_free (length t.kinds) t.marks taken full y ≡ true
-    free_unfilled y low mark down =
-        and_from (nat_lt y (length t.kinds)) (not (is_marked_at taken y) || (is_marked_at t.marks y && not (is_marked_at full y))) (lt-ltb y (length t.kinds) low)
-        (or_right (not (is_marked_at taken y)) (is_marked_at t.marks y && not (is_marked_at full y))
-        (and_from (is_marked_at t.marks y) (not (is_marked_at full y)) mark (true_not (is_marked_at full y) down)))
+    free_unfilled : (f : Filling) (y : ℕ) → y < length t.kinds → is_marked_at (row f) y ≡ true → is_marked_at full y ≡ false
+        → leaves_free (length t.kinds) (row f) taken full y ≡ true
+    free_unfilled f y low mark down =
+        and_from (nat_lt y (length t.kinds)) (not (is_marked_at taken y) || (is_marked_at (row f) y && not (is_marked_at full y))) (lt-ltb y (length t.kinds) low)
+        (or_right (not (is_marked_at taken y)) (is_marked_at (row f) y && not (is_marked_at full y))
+        (and_from (is_marked_at (row f) y) (not (is_marked_at full y)) mark (true_not (is_marked_at full y) down)))
 
     shut_ends : (x : ℕ) → n.frame.ejects x ≡ true → leads_on t.kinds x ≡ false
     shut_ends x e = ap not e
@@ -155,10 +155,10 @@ module _ (t : ChoiceTable) (replies : List Reply) (depth : ℕ) (flits : Flits) 
     waits_leading : (f : Filling) → leads_on t.kinds f.at ≡ true → any_below (free_for taken full f) t.ways ≡ false → WaitsForAll n (answers_of replies) fs f
     waits_leading f leads none = record {
       occupied = λ y c. true_from_ne_false (is_occupied fs y) (λ down.
-          (let bad : true ≡ false = sym (free_shows f y c (free_untaken y (low_choice f y c) (tell.are_taken y ∙ down))) ∙ none in cc));
+          (let bad : true ≡ false = sym (free_shows f y c (free_untaken f y (low_choice f y c) (tell.are_taken y ∙ down))) ∙ none in cc));
       full = λ y c esc. true_from_ne_false (is_full n fs y) (λ down.
-          (let mark = (and_parts (chooses_of t f.at f.to y) (is_marked_at t.marks y) esc).1 in
-          let bad : true ≡ false = sym (free_shows f y c (free_unfilled y (low_choice f y c) mark (tell.are_full depth flits y ∙ down))) ∙ none in cc));
+          (let mark = (and_parts (chooses_of t f.at f.to y) (is_marked_at (row f) y) esc).1 in
+          let bad : true ≡ false = sym (free_shows f y c (free_unfilled f y (low_choice f y c) mark (tell.are_full depth flits y ∙ down))) ∙ none in cc));
       at_end = λ ends. (let bad : true ≡ false = sym leads ∙ shut_ends f.at ends in absurd (cc));
     }
 
@@ -182,17 +182,17 @@ module _ (t : ChoiceTable) (replies : List Reply) (depth : ℕ) (flits : Flits) 
     none_free : (f : Filling) → leads_on t.kinds f.at ≡ true → WaitsForAll n (answers_of replies) fs f → (k : ℕ) → k < t.ways → free_for taken full f k ≡ true → ⊥
     none_free f leads w k place free =
         let y : ℕ = slice_index t.choices (base_of t f.to + f.at * t.ways + k) in
-        let a = and_parts (nat_lt y (length t.kinds)) (not (is_marked_at taken y) || (is_marked_at t.marks y && not (is_marked_at full y))) free in
+        let a = and_parts (nat_lt y (length t.kinds)) (not (is_marked_at taken y) || (is_marked_at (row f) y && not (is_marked_at full y))) free in
         let c : IsChoice n f.to f.at y = step_goes t [] (λ z. refl) depth flits f.to f.at y
         (step_at t.kinds t.choices (base_of t f.to) t.ways f.at y k leads (ltb-true y (length t.kinds) a.0) place refl) in
         ⊎_elim
         (λ (d : not (is_marked_at taken y) ≡ true).
         (let bad : true ≡ false = sym (tell.are_taken y ∙ w.occupied y c) ∙ not_true (is_marked_at taken y) d in cc))
-        (λ (d : (is_marked_at t.marks y && not (is_marked_at full y)) ≡ true).
-        (let p = and_parts (is_marked_at t.marks y) (not (is_marked_at full y)) d in
-        let esc = and_from (chooses_of t f.at f.to y) (is_marked_at t.marks y) c.chosen p.0 in
+        (λ (d : (is_marked_at (row f) y && not (is_marked_at full y)) ≡ true).
+        (let p = and_parts (is_marked_at (row f) y) (not (is_marked_at full y)) d in
+        let esc = and_from (chooses_of t f.at f.to y) (is_marked_at (row f) y) c.chosen p.0 in
         let bad : true ≡ false = sym (tell.are_full depth flits y ∙ w.full y c esc) ∙ not_true (is_marked_at full y) p.1 in cc))
-        (or_cases (not (is_marked_at taken y)) (is_marked_at t.marks y && not (is_marked_at full y)) a.1)
+        (or_cases (not (is_marked_at taken y)) (is_marked_at (row f) y && not (is_marked_at full y)) a.1)
 
     pub waits_back : (f : Filling) → f.at < length t.kinds → is_receiver (slice_get t.kinds f.to) ≡ true → WaitsForAll n (answers_of replies) fs f
         → waiting taken full f ≡ true

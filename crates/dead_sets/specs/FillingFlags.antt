@@ -9,7 +9,7 @@ use Rattle.network_judge.specs.declared.table.Reply.{Reply}
 use Rattle.network_judge.specs.Table.{table_of, joins_of, is_receiver}
 use Rattle.network_judge.specs.TableNet.{Flits}
 use Rattle.network_judge.specs.Marks.{is_marked_at}
-use Rattle.network_adaptive.specs.Spread.{any_below, block_base, leads_on, choice_step}
+use Rattle.network_adaptive.specs.Spread.{any_below, block_base, marks_to, leads_on, choice_step}
 use Rattle.network_adaptive.specs.Choosing.{ChoiceTable, network}
 use Rattle.network_adaptive.specs.Judged.{answers_of}
 use Rattle.deadlock_laws.specs.Fillings.{Filling, is_occupied, is_full, FillInTurn, IsDeadFilling}
@@ -41,7 +41,8 @@ abbrev pub answered_by : List Reply → List Bool → ℕ → Bool
 answered_by replies full x =
     list_any (λ (r : Reply). r.from == x && is_marked_at full r.to) replies
 
--- whether packets can enter channel y: it isn't taken, or it is an escape and not full
+-- whether packets can enter channel y, by the marks of their escapes: it isn't taken, or it is an escape
+-- and not full
 abbrev pub leaves_free : ℕ → List Bool → List Bool → List Bool → ℕ → Bool
 leaves_free count marks taken full y =
     nat_lt y count
@@ -53,7 +54,7 @@ abbrev pub waits_by : List Kind → List Reply → List ℕ → ℕ → List Boo
 waits_by kinds replies choices ways marks taken full f =
     nat_lt f.at (length kinds) && (is_receiver (slice_get kinds f.to)
     && (if leads_on kinds f.at
-    then not (any_below (λ k. leaves_free (length kinds) marks taken full
+    then not (any_below (λ k. leaves_free (length kinds) (marks_to kinds marks f.to) taken full
     (slice_index choices (block_base kinds ways f.to + f.at * ways + k))) ways)
     else answered_by replies full f.at))
 

@@ -24,6 +24,7 @@ fn all_wait<A: Allocator>(
     items: &[FilledChannel<A>],
 ) -> bool
     requires room { count_by ejects kinds.now * (length kinds.now * ways) ≤ length choices.now }
+    requires marks { length marks.now ≡ count_by ejects kinds.now * length kinds.now }
     ensures { result ≡ list_all (λ item. waits_by kinds.now replies.now choices.now ways marks.now
         taken.now full.now (filling_of item)) items.now }
 {

@@ -13,6 +13,7 @@ ghost use Rattle.dead_sets.specs.FillingFlags.{filling_of, comes_by, fills_by, a
 ghost use Rattle.dead_sets.specs.FillingFlags.{leaves_free};
 ghost use Rattle.dead_sets.specs.FillingFlags.{waits_by, TellsInTurn, IsDeadBy, CanDeadlock};
 
+use network_adaptive::marks::marks_to;
 use network_adaptive::spread::{base_of, goes_on};
 use network_judge::walk::{cell, is_receiver, kind_at};
 use network_judge::{Join, Kind, Reply};
@@ -161,7 +162,7 @@ pub(crate) fn fill_in_turn<A: Allocator>(
         }
         let x = item.at;
         taken[x] = true;
-        full[x] = item.before.is_empty() || is_up(marks, x);
+        full[x] = item.before.is_empty() || is_up(marks_to(kinds, marks, item.to), x);
     }
     true
 }
@@ -175,7 +176,7 @@ pub(crate) fn is_answered(replies: &[Reply], full: &[bool], from: usize) -> bool
         .any(|reply| reply.from == from && is_up(full, reply.to))
 }
 
-/// Whether packets can enter a channel.
+/// Whether packets can enter a channel, by the marks of their escapes.
 fn leaves_free(count: usize, marks: &[bool], taken: &[bool], full: &[bool], y: usize) -> bool
     ensures { result ≡ leaves_free count marks.now taken.now full.now y }
 {
@@ -194,6 +195,7 @@ pub(crate) fn waits_by<A: Allocator>(
     item: &FilledChannel<A>,
 ) -> bool
     requires room { count_by ejects kinds.now * (length kinds.now * ways) ≤ length choices.now }
+    requires marks { length marks.now ≡ count_by ejects kinds.now * length kinds.now }
     ensures { result ≡ waits_by kinds.now replies.now choices.now ways marks.now taken.now full.now
         (filling_of item.now) }
 {
@@ -207,9 +209,10 @@ pub(crate) fn waits_by<A: Allocator>(
         return is_answered(replies, full, item.at);
     }
     let base = base_of(kinds, ways, item.to);
+    let row = marks_to(kinds, marks, item.to);
     for k in 0..ways {
         let y = choices[base + cell(kinds.len(), ways, item.at, k)] as usize;
-        if leaves_free(kinds.len(), marks, taken, full, y) {
+        if leaves_free(kinds.len(), row, taken, full, y) {
             return false;
         }
     }

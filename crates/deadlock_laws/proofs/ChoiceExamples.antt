@@ -21,7 +21,7 @@ lists = record {
   joins = record { from = 2; to = 3 } ∷ record { from = 4; to = 5 } ∷ [];
   ways = 1;
   choices = 1 ∷ 3 ∷ 0 ∷ 6 ∷ 6 ∷ 6 ∷ 5 ∷ 0 ∷ 6 ∷ 6 ∷ 1 ∷ 6 ∷ [];
-  marks = true ∷ true ∷ true ∷ true ∷ true ∷ true ∷ [];
+  marks = true ∷ true ∷ true ∷ true ∷ true ∷ true ∷ true ∷ true ∷ true ∷ true ∷ true ∷ true ∷ [];
 }
 
 abbrev net : AdaptiveNet

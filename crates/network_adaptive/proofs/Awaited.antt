@@ -141,13 +141,13 @@ module _ (kinds : List Kind) (choices : List ℕ) (base ways : ℕ) (marks : Lis
       p
 
 -- what holds channels below k
-pub record IsWaitSo (kinds : List Kind) (choices : List ℕ) (base ways : ℕ) (marks seen : List Bool) (k x y : ℕ) : Type 0 where
-  pub wait : IsWait kinds choices base ways marks (λ z. is_marked_at seen z ≡ true) x y
+pub record IsWaitSo (kinds : List Kind) (choices : List ℕ) (base ways : ℕ) (holds marks seen : List Bool) (k x y : ℕ) : Type 0 where
+  pub wait : IsWait kinds choices base ways holds marks (λ z. is_marked_at seen z ≡ true) x y
   pub low : x < k
 
-module _ (kinds : List Kind) (choices : List ℕ) (base ways : ℕ) (marks seen : List Bool) where
+module _ (kinds : List Kind) (choices : List ℕ) (base ways : ℕ) (holds marks seen : List Bool) where
   abbrev Held : ℕ → ℕ → ℕ → Type 0
-  Held k x y = IsWaitSo kinds choices base ways marks seen k x y
+  Held k x y = IsWaitSo kinds choices base ways holds marks seen k x y
 
   abbrev step : ℕ → ℕ → Bool
   step = choice_step kinds choices base ways marks
@@ -159,7 +159,7 @@ module _ (kinds : List Kind) (choices : List ℕ) (base ways : ℕ) (marks seen 
   beyond k i x y e p = record { wait = p.wait; low = (let l = p.low in omega arith) }
 
   pub waits_put : (h i : ℕ) (flags : List Bool) (held : List ℕ) (old edges new : List Edge) → i ≡ suc h → is_marked_at seen h ≡ true
-      → is_marked_at marks h ≡ true → AreBehind kinds step h flags → AreFlagsOf flags held → HasPut (Held h) old edges
+      → is_marked_at holds h ≡ true → AreBehind kinds step h flags → AreFlagsOf flags held → HasPut (Held h) old edges
       → HasPut (IsAwaited kinds choices base ways marks held h) edges new → HasPut (Held i) old new
   waits_put h i flags held old edges new e up mark are listed p q =
       put_then (Held h) (IsAwaited kinds choices base ways marks held h) (Held i) old edges new
@@ -167,7 +167,7 @@ module _ (kinds : List Kind) (choices : List ℕ) (base ways : ℕ) (marks seen 
       (λ x y r. (let is = r.is in record {
         wait = record {
           comes = subst (λ z. is_marked_at seen z ≡ true) (sym r.is) up;
-          held = subst (λ z. is_marked_at marks z ≡ true) (sym r.is) mark;
+          held = subst (λ z. is_marked_at holds z ≡ true) (sym r.is) mark;
           head = slice_index held r.place;
           path = subst (λ z. Path step z (slice_index held r.place)) (sym r.is) (are.only (slice_index held r.place) (listed.each r.place r.low));
           leads = r.leads;
@@ -190,18 +190,18 @@ module _ (kinds : List Kind) (choices : List ℕ) (base ways : ℕ) (marks seen 
       ])
       p q
 
-  pub waits_skip : (h i : ℕ) (old edges : List Edge) → i ≡ suc h → (is_marked_at seen h ≡ true → is_marked_at marks h ≡ true → ⊥)
+  pub waits_skip : (h i : ℕ) (old edges : List Edge) → i ≡ suc h → (is_marked_at seen h ≡ true → is_marked_at holds h ≡ true → ⊥)
       → HasPut (Held h) old edges → HasPut (Held i) old edges
   waits_skip h i old edges e never p = put_map (Held h) (Held i) old edges (λ x y r. beyond h i x y e r)
       (λ x y r. elim (cases_lt x h) [
         | inl less ↦ record { wait = r.wait; low = less }
         | inr high ↦ (let l = r.low in let here : x ≡ h = omega arith in
-            absurd (never (subst (λ z. is_marked_at seen z ≡ true) here r.wait.comes) (subst (λ z. is_marked_at marks z ≡ true) here r.wait.held)))
+            absurd (never (subst (λ z. is_marked_at seen z ≡ true) here r.wait.comes) (subst (λ z. is_marked_at holds z ≡ true) here r.wait.held)))
       ])
       p
 
   pub waits_end : (i : ℕ) (old new : List Edge) → i ≡ length kinds → length seen ≡ length kinds → HasPut (Held i) old new
-      → HasPut (IsWait kinds choices base ways marks (λ x. is_marked_at seen x ≡ true)) old new
-  waits_end i old new e size p = put_map (Held i) (IsWait kinds choices base ways marks (λ x. is_marked_at seen x ≡ true)) old new (λ x y r. r.wait)
+      → HasPut (IsWait kinds choices base ways holds marks (λ x. is_marked_at seen x ≡ true)) old new
+  waits_end i old new e size p = put_map (Held i) (IsWait kinds choices base ways holds marks (λ x. is_marked_at seen x ≡ true)) old new (λ x y r. r.wait)
       (λ x y r. record { wait = r; low = (let l = up_inside seen x r.comes in omega arith) })
       p

@@ -10,7 +10,7 @@ use Rattle.network_judge.specs.TableNet.{Flits}
 use Rattle.network_judge.specs.Marks.{is_marked_at}
 use Rattle.network_adaptive.specs.Choices.{AdaptiveNet, IsAdaptiveNet, Comes, BeginsIn, ByChoice, IsChoice, Roams, FromHere, ByNoEscape, ExtendedDependency, HasEscapes}
 use Rattle.network_adaptive.specs.Verdicts.{LacksEscape, LacksEscapeFirst}
-use Rattle.network_adaptive.specs.Spread.{Path, Stop, Go, any_below, names, opens, leads_on, choice_step}
+use Rattle.network_adaptive.specs.Spread.{Path, Stop, Go, any_below, names, opens, leads_on, choice_step, marks_to, AreHeld}
 use Rattle.network_adaptive.specs.Choosing.{ChoiceTable, table, base_of, chooses_of, network, IsWritten, IsShaped}
 use Rattle.network_adaptive.specs.Flags.{AreDown, ComesTo, IsEdgeOf, IsWaitOf, IsBareTo, IsFirstBareTo, HasWaits}
 use Rattle.network_adaptive.specs.Between.{LeadsToWait, MayWaitTo, MayWait, IsWayBetween, WaitsOver}
@@ -48,11 +48,14 @@ module _ (t : ChoiceTable) (none : List Bool) (down : AreDown none) (depth : ℕ
   abbrev count : ℕ
   count = length t.kinds
 
+  abbrev row : ℕ → List Bool
+  row j = marks_to t.kinds t.marks j
+
   abbrev step : ℕ → ℕ → ℕ → Bool
   step j = choice_step t.kinds t.choices (base_of t j) t.ways none
 
   abbrev roam : ℕ → ℕ → ℕ → Bool
-  roam j = choice_step t.kinds t.choices (base_of t j) t.ways t.marks
+  roam j = choice_step t.kinds t.choices (base_of t j) t.ways (row j)
 
   input_leads : (x : ℕ) → n.frame.ejects x ≡ false → leads_on t.kinds x ≡ true
   input_leads x e = true_not (is_receiver (slice_get t.kinds x)) e
@@ -89,20 +92,20 @@ module _ (t : ChoiceTable) (none : List Bool) (down : AreDown none) (depth : ℕ
   -- a step that is no escape
   roam_goes : (j x y : ℕ) → roam j x y ≡ true → IsChoice n j x y × (n.escapes x j y ≡ false)
   roam_goes j x y e =
-      let a = and_parts (leads_on t.kinds x) (opens count t.choices (base_of t j + x * t.ways) t.ways t.marks y) e in
-      let b = and_parts (nat_lt y count) (not (is_marked_at t.marks y) && names t.choices (base_of t j + x * t.ways) t.ways y) a.1 in
-      let d = and_parts (not (is_marked_at t.marks y)) (names t.choices (base_of t j + x * t.ways) t.ways y) b.1 in (
+      let a = and_parts (leads_on t.kinds x) (opens count t.choices (base_of t j + x * t.ways) t.ways (row j) y) e in
+      let b = and_parts (nat_lt y count) (not (is_marked_at (row j) y) && names t.choices (base_of t j + x * t.ways) t.ways y) a.1 in
+      let d = and_parts (not (is_marked_at (row j) y)) (names t.choices (base_of t j + x * t.ways) t.ways y) b.1 in (
         record { input = leads_input x a.0; chosen = and_from (nat_lt y count) (names t.choices (base_of t j + x * t.ways) t.ways y) b.0 d.1 },
-        and_false (chooses_of t x j y) (is_marked_at t.marks y) (not_true (is_marked_at t.marks y) d.0),
+        and_false (chooses_of t x j y) (is_marked_at (row j) y) (not_true (is_marked_at (row j) y) d.0),
       )
 
   goes_roam : (j x y : ℕ) → IsChoice n j x y → n.escapes x j y ≡ false → roam j x y ≡ true
   goes_roam j x y s no_esc =
       let b = and_parts (nat_lt y count) (names t.choices (base_of t j + x * t.ways) t.ways y) s.chosen in
-      and_from (leads_on t.kinds x) (opens count t.choices (base_of t j + x * t.ways) t.ways t.marks y) (input_leads x s.input)
-      (and_from (nat_lt y count) (not (is_marked_at t.marks y) && names t.choices (base_of t j + x * t.ways) t.ways y) b.0
-      (and_from (not (is_marked_at t.marks y)) (names t.choices (base_of t j + x * t.ways) t.ways y)
-      (true_not (is_marked_at t.marks y) (false_and (chooses_of t x j y) (is_marked_at t.marks y) s.chosen no_esc)) b.1))
+      and_from (leads_on t.kinds x) (opens count t.choices (base_of t j + x * t.ways) t.ways (row j) y) (input_leads x s.input)
+      (and_from (nat_lt y count) (not (is_marked_at (row j) y) && names t.choices (base_of t j + x * t.ways) t.ways y) b.0
+      (and_from (not (is_marked_at (row j) y)) (names t.choices (base_of t j + x * t.ways) t.ways y)
+      (true_not (is_marked_at (row j) y) (false_and (chooses_of t x j y) (is_marked_at (row j) y) s.chosen no_esc)) b.1))
 
   path_roams : (j x c : ℕ) → Path (roam j) x c → Roams n j x c
   path_roams j x c Stop = FromHere
@@ -113,12 +116,12 @@ module _ (t : ChoiceTable) (none : List Bool) (down : AreDown none) (depth : ℕ
   roams_path j x c (ByNoEscape u v r s e) = Go u v (roams_path j x u r) (goes_roam j u v s e)
 
   -- a way between the channels of a dependency
-  pub way_waits : (j x y : ℕ) (over : List ℕ) → y < count → is_marked_at t.marks y ≡ true
-      → IsWayBetween t.kinds t.choices (base_of t j) t.ways t.marks x over y → WaitsOver n j x over y
+  pub way_waits : (j x y : ℕ) (over : List ℕ) → y < count → is_marked_at (row j) y ≡ true
+      → IsWayBetween t.kinds t.choices (base_of t j) t.ways (row j) x over y → WaitsOver n j x over y
   way_waits j x y [] low up w =
       let a = and_parts (leads_on t.kinds x) (names t.choices (base_of t j + x * t.ways) t.ways y) w in (
         leads_input x a.0,
-        and_from (chooses_of t x j y) (is_marked_at t.marks y)
+        and_from (chooses_of t x j y) (is_marked_at (row j) y)
             (and_from (nat_lt y count) (names t.choices (base_of t j + x * t.ways) t.ways y) (lt-ltb y count low) a.1) up,
       )
   way_waits j x y (z ∷ over) low up w =
@@ -127,6 +130,11 @@ module _ (t : ChoiceTable) (none : List Bool) (down : AreDown none) (depth : ℕ
 
   low_choice : (x j y : ℕ) → chooses_of t x j y ≡ true → y < count
   low_choice x j y e = ltb-true y count (and_parts (nat_lt y count) (names t.choices (base_of t j + x * t.ways) t.ways y) e).0
+
+  -- a mark in some row
+  pub held_at : (y j : ℕ) → kind_of (table t) j ≡ Some Ejection → is_marked_at (row j) y ≡ true → n.marked y ≡ true
+  held_at y j ejects up = any_at (λ i. is_receiver (slice_get t.kinds i) && is_marked_at (row i) y) count j (slice_get_within t.kinds j Ejection ejects)
+      (and_from (is_receiver (slice_get t.kinds j)) (is_marked_at (row j) y) (ap is_receiver ejects) up)
 
   -- the shape
   pub is_adaptive : IsShaped t → IsAdaptiveNet n
@@ -138,9 +146,9 @@ module _ (t : ChoiceTable) (none : List Bool) (down : AreDown none) (depth : ℕ
     apart = λ j x y c s. shaped.apart x j y (written j x y c s);
     outputs = λ j x y c s. no_inject (kind_of (table t) y) (shaped.outputs x j y (written j x y c s));
     arrives = arrives;
-    chosen = λ j x y c e. (and_parts (chooses_of t x j y) (is_marked_at t.marks y) e).0;
-    last = λ j x y c s e. and_from (chooses_of t x j y) (is_marked_at t.marks y) s.chosen (shaped.marked y (is_eject (kind_of (table t) y) e));
-    marks = λ j x y c e. (and_parts (chooses_of t x j y) (is_marked_at t.marks y) e).1;
+    chosen = λ j x y c e. (and_parts (chooses_of t x j y) (is_marked_at (row j) y) e).0;
+    last = λ j x y c s e. and_from (chooses_of t x j y) (is_marked_at (row j) y) s.chosen (shaped.marked j y (end j x c) (is_eject (kind_of (table t) y) e));
+    marks = λ j x y c e. held_at y j (end j x c) (and_parts (chooses_of t x j y) (is_marked_at (row j) y) e).1;
   }
     where
       inside : (j x : ℕ) → Comes n j x → x < count
@@ -169,7 +177,8 @@ module _ (t : ChoiceTable) (none : List Bool) (down : AreDown none) (depth : ℕ
     beside = λ z l s. b.beside z l (stuck_bare j z s);
   }
 
-  module _ (shaped : IsShaped t) (edges : List Edge) (has : HasWaits t.kinds t.joins t.choices t.ways t.marks none edges) where
+  module _ (shaped : IsShaped t) (held : List Bool) (are : AreHeld t.kinds t.marks held) (edges : List Edge)
+      (has : HasWaits t.kinds t.joins t.choices t.ways held t.marks none edges) where
     pub has_escapes : HasEscapes n
     has_escapes j x come input = elim (cases_Bool (any_below (λ y. n.escapes x j y) count)) [
       | inl some ↦ (let w = any_from (λ y. n.escapes x j y) count some in (w.0, w.2))
@@ -177,7 +186,7 @@ module _ (t : ChoiceTable) (none : List Bool) (down : AreDown none) (depth : ℕ
         comes = comes_to j x come;
         leads = input_leads x input;
         bare = λ y. elim (cases_Bool (n.escapes x j y)) [
-          | inl esc ↦ (let low = low_choice x j y (and_parts (chooses_of t x j y) (is_marked_at t.marks y) esc).0 in
+          | inl esc ↦ (let low = low_choice x j y (and_parts (chooses_of t x j y) (is_marked_at (row j) y) esc).0 in
               let bad : true ≡ false = sym (any_at (λ y. n.escapes x j y) count y low esc) ∙ no_one in absurd (cc))
           | inr no_esc ↦ no_esc
         ];
@@ -188,11 +197,11 @@ module _ (t : ChoiceTable) (none : List Bool) (down : AreDown none) (depth : ℕ
     pub edge_awaits : (x y : ℕ) → IsEdgeOf edges x y → (j : ℕ) × ExtendedDependency n x j y
     edge_awaits x y e = ⊎_elim
         (λ (a : IsEdgeOf [] x y). absurd (no_edge_of x y a))
-        (λ (w : IsWaitOf t.kinds t.joins t.choices t.ways t.marks none x y).
+        (λ (w : IsWaitOf t.kinds t.joins t.choices t.ways held t.marks none x y).
         let r = w.wait in (
           w.to,
           record {
-            held = r.held;
+            held = sym (are.each x) ∙ r.held;
             comes = to_comes w.to x r.comes;
             head = r.head;
             roams = path_roams w.to x r.head r.path;
@@ -208,7 +217,7 @@ module _ (t : ChoiceTable) (none : List Bool) (down : AreDown none) (depth : ℕ
       low = (let c = comes_to j x a.comes in (is_adaptive shaped).ends c.0 j c.1);
       wait = record {
         comes = comes_to j x a.comes;
-        held = a.held;
+        held = are.each x ∙ a.held;
         head = a.head;
         path = roams_path j x a.head a.roams;
         leads = input_leads a.head a.input;
@@ -216,25 +225,23 @@ module _ (t : ChoiceTable) (none : List Bool) (down : AreDown none) (depth : ℕ
       };
     })
 
-    -- an edge tells that packets to some channel wait, and both its ends are marked channels
+    -- an edge tells that packets to some channel wait, and it leads from a channel that is marked
     pub edge_waits : (x y : ℕ) → IsEdgeOf edges x y
-        → MayWait t.kinds t.joins t.choices t.ways t.marks none x y × (is_marked_at t.marks x ≡ true) × (is_marked_at t.marks y ≡ true)
-        × (x < count) × (y < count)
+        → MayWait t.kinds t.joins t.choices t.ways t.marks none x y × (n.marked x ≡ true) × (x < count) × (y < count)
     edge_waits x y e = ⊎_elim
         (λ (a : IsEdgeOf [] x y). absurd (no_edge_of x y a))
-        (λ (w : IsWaitOf t.kinds t.joins t.choices t.ways t.marks none x y).
+        (λ (w : IsWaitOf t.kinds t.joins t.choices t.ways held t.marks none x y).
         let r = w.wait in
-        let e = and_parts (chooses_of t r.head w.to y) (is_marked_at t.marks y) r.escape in
+        let e = and_parts (chooses_of t r.head w.to y) (is_marked_at (row w.to) y) r.escape in
         let d = and_parts (nat_lt y count) (names t.choices (base_of t w.to + r.head * t.ways) t.ways y) e.0 in
-        let leads : LeadsToWait t.kinds t.choices (base_of t w.to) t.ways t.marks x y = record {
+        let leads : LeadsToWait t.kinds t.choices (base_of t w.to) t.ways (row w.to) x y = record {
           head = r.head;
           path = r.path;
           waits = and_from (leads_on t.kinds r.head) (names t.choices (base_of t w.to + r.head * t.ways) t.ways y) r.leads d.1;
         } in
-        let waits : MayWaitTo t.kinds t.joins t.choices t.ways t.marks none w.to x y = record { comes = r.comes; leads = leads } in (
+        let waits : MayWaitTo t.kinds t.joins t.choices t.ways t.marks none w.to x y = record { comes = r.comes; leads = leads; marked = e.1 } in (
           (w.to, w.low, waits),
-          r.held,
-          e.1,
+          sym (are.each x) ∙ r.held,
           (is_adaptive shaped).within w.to x (to_comes w.to x r.comes),
           ltb-true y count d.0,
         ))

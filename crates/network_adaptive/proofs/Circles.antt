@@ -18,6 +18,7 @@ use Rattle.network_judge.specs.Replies.{reply_at, IsReply, AreReplies}
 use Rattle.network_adaptive.specs.Choices.{AdaptiveNet, HasEscapes, AreReplyEnds, AreRising}
 use Rattle.network_adaptive.specs.Choosing.{ChoiceTable, table, network, IsShaped}
 use Rattle.network_adaptive.specs.Flags.{AreDown, IsEdgeOf, HasWaits}
+use Rattle.network_adaptive.specs.Spread.{AreHeld}
 use Rattle.network_adaptive.specs.Edges.{reply_edge}
 use Rattle.network_adaptive.specs.declared.verdict.Dependency as dependency
 use Rattle.network_adaptive.specs.declared.verdict.How.{How}
@@ -25,7 +26,7 @@ use Rattle.network_adaptive.specs.declared.verdict.How.TheVariants.{Over, Replie
 use Rattle.network_adaptive.specs.Between.{MayWait, WaitsOver, IsDependencyBy, IsCycleBy, dependency_at, IsWaitingLook, IsHow, IsDependencyOf, AreDependencies}
 use Rattle.network_adaptive.specs.Judged.{answers_of}
 use Rattle.network_adaptive.proofs.Begins.{down_at}
-use Rattle.network_adaptive.proofs.Bridge.{has_escapes, to_comes, way_waits, edge_waits, awaits_edge}
+use Rattle.network_adaptive.proofs.Bridge.{held_at, has_escapes, to_comes, way_waits, edge_waits, awaits_edge}
 
 -- a format of flits
 any_flits : Flits
@@ -57,7 +58,8 @@ pub are_answers : (t : ChoiceTable) (replies : List Reply) (depth : ℕ) (flits 
 are_answers t replies depth flits shaped are = record {
   from = λ x y e. slice_get_within t.kinds x Ejection (are x y (answers_reply replies x y e)).0;
   to = λ x y e. slice_get_within t.kinds y Injection (are x y (answers_reply replies x y e)).1;
-  marks = λ x y e. shaped.sends y (are x y (answers_reply replies x y e)).1;
+  marks = λ x y e. (let ends = are x y (answers_reply replies x y e) in
+      held_at t [] (λ z. refl) depth flits y x ends.0 (shaped.sends x y ends.0 ends.1));
 }
 
 -- an edge of these lists is one of the first, or of a reply
@@ -78,7 +80,7 @@ module _ (waits : List Edge) (replies : List Reply) where
       ∙ get_or-map reply_edge replies (k - length waits) (record { from = 0; to = 0 }) (record { from = 0; to = 0 }) (omega arith)
 
 module _ (t : ChoiceTable) (replies : List Reply) (shaped : IsShaped t) (are : AreReplies (table t) replies) (none : List Bool) (down : AreDown none)
-    (waits : List Edge) (has : HasWaits t.kinds t.joins t.choices t.ways t.marks none waits) where
+    (held : List Bool) (holds : AreHeld t.kinds t.marks held) (waits : List Edge) (has : HasWaits t.kinds t.joins t.choices t.ways held t.marks none waits) where
   abbrev count : ℕ
   count = length t.kinds
 
@@ -131,7 +133,7 @@ module _ (t : ChoiceTable) (replies : List Reply) (shaped : IsShaped t) (are : A
 
   ends_low : (k : ℕ) → k < length all → ((edge_at all k).from < count) × ((edge_at all k).to < count)
   ends_low k low = elim (cases_lt k (length waits)) [
-    | inl less ↦ (let w = edge_waits t none down 0 any_flits shaped waits has (edge_at all k).from (edge_at all k).to (wait_of k less) in (w.3, w.4))
+    | inl less ↦ (let w = edge_waits t none down 0 any_flits shaped held holds waits has (edge_at all k).from (edge_at all k).to (wait_of k less) in (w.2, w.3))
     | inr high ↦ (let r = are (edge_at all k).from (edge_at all k).to (reply_of k high low) in (
       slice_get_within t.kinds (edge_at all k).from Ejection r.0,
       slice_get_within t.kinds (edge_at all k).to Injection r.1,
@@ -150,7 +152,7 @@ module _ (t : ChoiceTable) (replies : List Reply) (shaped : IsShaped t) (are : A
   waiting_look look y l = record {
     node = subst (λ z. z < count) (starts look y l) (ends_low look.column l.end).0;
     column = (let low = l.end in let long = all_long waits replies in omega arith);
-    awaits = λ less. (let w = edge_waits t none down 0 any_flits shaped waits has (edge_at all look.column).from (edge_at all look.column).to (wait_of look.column less) in
+    awaits = λ less. (let w = edge_waits t none down 0 any_flits shaped held holds waits has (edge_at all look.column).from (edge_at all look.column).to (wait_of look.column less) in
         subst (λ z. MayWait t.kinds t.joins t.choices t.ways t.marks none z (edge_at waits look.column).to) (starts look y l)
         (subst (λ z. MayWait t.kinds t.joins t.choices t.ways t.marks none (edge_at all look.column).from z)
         (ap (λ (v : Edge). v.to) (wait_at waits replies look.column less)) w.0));
@@ -178,15 +180,13 @@ module _ (t : ChoiceTable) (replies : List Reply) (shaped : IsShaped t) (are : A
         by (Over j over) h =
             let low = h.0 in
             let same : (edge_at waits look.column).to ≡ y = sym (ap (λ (v : Edge). v.to) (wait_at waits replies look.column low)) ∙ l.next in
-            let w = edge_waits t none down depth flits shaped waits has (edge_at all look.column).from (edge_at all look.column).to (wait_of look.column low) in
-            let up : is_marked_at t.marks (edge_at waits look.column).to ≡ true =
-            ap (λ (v : Edge). is_marked_at t.marks v.to) (sym (wait_at waits replies look.column low)) ∙ w.2 in
+            let w = edge_waits t none down depth flits shaped held holds waits has (edge_at all look.column).from (edge_at all look.column).to (wait_of look.column low) in
             let inside : (edge_at waits look.column).to < count =
-            subst (λ z. z < count) (ap (λ (v : Edge). v.to) (wait_at waits replies look.column low)) w.4 in (
-              ap (is_marked_at t.marks) (sym (starts look y l)) ∙ w.1,
+            subst (λ z. z < count) (ap (λ (v : Edge). v.to) (wait_at waits replies look.column low)) w.3 in (
+              ap n.marked (sym (starts look y l)) ∙ w.1,
               to_comes t none down depth flits j look.node h.1.1,
               subst (λ z. WaitsOver n j look.node over.items z) same
-                  (way_waits t none down depth flits j look.node (edge_at waits look.column).to over.items inside up h.1.2),
+                  (way_waits t none down depth flits j look.node (edge_at waits look.column).to over.items inside h.1.3 h.1.2),
             )
         by (Replied z) h =
             let high = h.0 in
@@ -229,7 +229,7 @@ module _ (t : ChoiceTable) (replies : List Reply) (shaped : IsShaped t) (are : A
 
       pub rising : AreRising n (answers_of replies) (slice_index numbers)
       rising = record {
-        awaits = λ x j y w. rise x y (waits_edge x y (awaits_edge t none down depth flits shaped waits has x j y w));
+        awaits = λ x j y w. rise x y (waits_edge x y (awaits_edge t none down depth flits shaped held holds waits has x j y w));
         answered = λ x y e. rise x y (replies_edge x y (answers_reply replies x y e));
         bounded = p.low;
       }
@@ -241,9 +241,9 @@ pub down_from : (flags items : List Bool) (m : ℕ) → flags ≡ items → item
 down_from flags items m e f = down_of flags m (e ∙ f)
 
 module _ (t : ChoiceTable) (replies : List Reply) (shaped : IsShaped t) (are : AreReplies (table t) replies) (none : List Bool) (down : AreDown none)
-    (waits : List Edge) (has : HasWaits t.kinds t.joins t.choices t.ways t.marks none waits) where
+    (held : List Bool) (holds : AreHeld t.kinds t.marks held) (waits : List Edge) (has : HasWaits t.kinds t.joins t.choices t.ways held t.marks none waits) where
   pub ready_escapes : (depth : ℕ) (flits : Flits) → HasEscapes (network t depth flits)
-  ready_escapes depth flits = has_escapes t none down depth flits shaped waits has
+  ready_escapes depth flits = has_escapes t none down depth flits shaped held holds waits has
 
   pub ready_cycle : {A : Type 0} (looks : List Look) (channels : List (dependency.Dependency A))
       → IsCircuit (digraph_of (length t.kinds) (all_edges waits replies)) looks
@@ -251,7 +251,7 @@ module _ (t : ChoiceTable) (replies : List Reply) (shaped : IsShaped t) (are : A
       → HasEscapes (network t depth flits) × IsCycleBy (network t depth flits) (answers_of replies) channels
   ready_cycle looks channels c a depth flits = (
     ready_escapes depth flits,
-    cycle t replies shaped are none down waits has depth flits looks channels c a,
+    cycle t replies shaped are none down held holds waits has depth flits looks channels c a,
   )
 
   pub ready_numbers : (numbers : List ℕ) → IsPermutationBelow (length t.kinds) numbers
@@ -260,5 +260,5 @@ module _ (t : ChoiceTable) (replies : List Reply) (shaped : IsShaped t) (are : A
   ready_numbers numbers p up depth flits = (
     ready_escapes depth flits,
     p.size,
-    rising t replies shaped are none down waits has depth flits numbers p up,
+    rising t replies shaped are none down held holds waits has depth flits numbers p up,
   )

@@ -10,7 +10,7 @@ use Rattle.network_judge.specs.Marks.{is_marked_at}
 use Rattle.network_judge.specs.Table.{kind_of, joins_of, is_sender, is_receiver}
 use Rattle.network_judge.proofs.Firsts.{any, any_at}
 use Rattle.network_adaptive.proofs.Reach.{or_cases}
-use Rattle.network_adaptive.specs.Spread.{Stop, Go, names}
+use Rattle.network_adaptive.specs.Spread.{Stop, Go, names, marks_to}
 use Rattle.network_adaptive.specs.Choosing.{ChoiceTable, table, base_of, chooses_of, IsWritten, IsShaped}
 use Rattle.network_adaptive.specs.Travel.{GoesRoundAt}
 
@@ -77,6 +77,10 @@ marked x k e other = elim (marked_or_hop x (slice_get_within lists.kinds x k e))
   | inr is ↦ is
 ]
 
+-- the row of the one ejection channel
+row_is : (j x : ℕ) → kind_of (table lists) j ≡ Some Ejection → is_marked_at lists.marks x ≡ true → is_marked_at (marks_to lists.kinds lists.marks j) x ≡ true
+row_is j x e up = subst (λ z. is_marked_at (marks_to lists.kinds lists.marks z) x ≡ true) (sym (end_at j e)) up
+
 -- so the lists have the shape that the judge asks for
 shaped : IsShaped lists
 shaped = record {
@@ -93,8 +97,8 @@ shaped = record {
         (or_right (is_sender (kind_of (table lists) y)) (is_receiver (kind_of (table lists) y) && not (y == j))
         (and_from (is_receiver (kind_of (table lists) y)) (not (y == j)) (ap is_receiver is) (ap not (ne_eqb y j other)))))))
   ];
-  marked = λ x e. marked x Ejection e (λ f. cc);
-  sends = λ x e. marked x Injection e (λ f. cc);
+  marked = λ j x to e. row_is j x to (marked x Ejection e (λ f. cc));
+  sends = λ j x to e. row_is j x to (marked x Injection e (λ f. cc));
 }
 
 -- with a choice from channel 1 to channel 2, and one back, packets to channel 3 can go round

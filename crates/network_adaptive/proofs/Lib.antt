@@ -2,6 +2,7 @@ pub mod Flags
 pub mod Listed
 pub mod Spreading
 pub mod Bases
+pub mod Rows
 pub mod Begins
 pub mod Pairs
 pub mod Lowered

@@ -84,7 +84,7 @@ module _ (t : ChoiceTable) (fit : ChoicesFit t.kinds t.choices t.ways (length t.
       let same : slice_index t.choices (base_of t j + x * t.ways + k.0) ≡ y = eqb-true (slice_index t.choices (base_of t j + x * t.ways + k.0)) y k.2 in
       subst (λ z. misfit_of t.kinds x j z ≡ None) same (fit j (slice_get_within t.kinds j Ejection w.1) w.1 x w.0 k.0 k.1)
 
-  pub shaped : count_by ejects t.kinds * (length t.kinds * t.ways) ≤ length t.choices → length t.marks ≡ length t.kinds → EndsAreMarked t.kinds t.marks
+  pub shaped : count_by ejects t.kinds * (length t.kinds * t.ways) ≤ length t.choices → length t.marks ≡ count_by ejects t.kinds * length t.kinds → EndsAreMarked t.kinds t.marks
       → PairsFit t.kinds t.joins (length t.joins) → IsShaped t
   shaped full size ends pairs = record {
     full = full;
@@ -96,8 +96,8 @@ module _ (t : ChoiceTable) (fit : ChoicesFit t.kinds t.choices t.ways (length t.
     apart = λ x j y w same. fits_apart t.kinds x j y (written x j y w) (sym same);
     outputs = λ x j y w. fits_output (slice_get t.kinds y) j y (fits_kind t.kinds x j y (written x j y w));
     ends = λ x j y w is. fits_end j y (subst (λ k. misfit_by_kind k j y ≡ None) is (fits_kind t.kinds x j y (written x j y w)));
-    marked = λ x is. ends x (or_right (is_sender (slice_get t.kinds x)) (is_receiver (slice_get t.kinds x)) (ap is_receiver is));
-    sends = λ x is. ends x (or_left (is_sender (slice_get t.kinds x)) (is_receiver (slice_get t.kinds x)) (ap is_sender is));
+    marked = λ j x to is. ends j x to (or_right (is_sender (slice_get t.kinds x)) (is_receiver (slice_get t.kinds x)) (ap is_receiver is));
+    sends = λ j x to is. ends j x to (or_left (is_sender (slice_get t.kinds x)) (is_receiver (slice_get t.kinds x)) (ap is_sender is));
   }
 
 -- one block more

@@ -15,7 +15,7 @@ use Rattle.network_adaptive.specs.Choices.{AdaptiveNet, Comes, IsChoice}
 use Rattle.network_adaptive.specs.declared.verdict.Dependency as dependency
 use Rattle.network_adaptive.specs.declared.verdict.How.{How}
 use Rattle.network_adaptive.specs.declared.verdict.How.TheVariants.{Over, Replied}
-use Rattle.network_adaptive.specs.Spread.{block_base, Path, names, leads_on, choice_step}
+use Rattle.network_adaptive.specs.Spread.{block_base, marks_to, Path, names, leads_on, choice_step}
 use Rattle.network_adaptive.specs.Flags.{ComesTo}
 
 -- a packet to ejection channel j in channel x can go on over these channels, one after the other and
@@ -92,11 +92,12 @@ IsWayBetween kinds choices base ways marks x (z ∷ over) y =
     (choice_step kinds choices base ways marks x z ≡ true)
     × IsWayBetween kinds choices base ways marks z over y
 
--- a packet to channel j holds channel x, and may wait for channel y
+-- a packet to channel j holds channel x, and may wait for channel y, which is marked for it
 pub record MayWaitTo (kinds : List Kind) (joins : List Join) (choices : List ℕ) (ways : ℕ)
     (marks none : List Bool) (j x y : ℕ) : Type 0 where
   pub comes : ComesTo joins (choice_step kinds choices (block_base kinds ways j) ways none) j x
-  pub leads : LeadsToWait kinds choices (block_base kinds ways j) ways marks x y
+  pub leads : LeadsToWait kinds choices (block_base kinds ways j) ways (marks_to kinds marks j) x y
+  pub marked : is_marked_at (marks_to kinds marks j) y ≡ true
 
 -- a packet to some channel does
 abbrev pub MayWait : List Kind → List Join → List ℕ → ℕ → List Bool → List Bool → ℕ → ℕ → Type 0
@@ -114,12 +115,14 @@ pub record IsWaitingLook (kinds : List Kind) (joins : List Join) (replies : List
         → MayWait kinds joins choices ways marks none look.node (edge_at waits look.column).to
 
 -- how channel x comes to wait for channel y: packets to channel j come to it, and go on over these
--- channels
+-- channels; and channel y is marked for them
 abbrev pub IsHowOver : {A : Type 0} → List Kind → List Join → List ℕ → ℕ → List Bool → List Bool
     → ℕ → ℕ → How A → Type 0
 IsHowOver kinds joins choices ways marks none x y (Over j over) = (j < length kinds)
     × ComesTo joins (choice_step kinds choices (block_base kinds ways j) ways none) j x
-    × IsWayBetween kinds choices (block_base kinds ways j) ways marks x over.items y
+    × IsWayBetween kinds choices (block_base kinds ways j) ways (marks_to kinds marks j) x
+    over.items y
+    × (is_marked_at (marks_to kinds marks j) y ≡ true)
 IsHowOver kinds joins choices ways marks none x y (Replied z) = ⊥
 
 -- how a channel leads on in a column: so to where the column's edge leads; or in a column behind the

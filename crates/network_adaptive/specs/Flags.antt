@@ -7,7 +7,8 @@ use Rattle.network_judge.specs.declared.table.Kind.{Kind}
 use Rattle.network_judge.specs.declared.table.Join.{Join}
 use Rattle.network_judge.specs.Table.{table_of, joins_of}
 use Rattle.network_judge.specs.Marks.{is_marked_at}
-use Rattle.network_adaptive.specs.Spread.{block_base, Path, opens, leads_on, choice_step, AreClosed}
+use Rattle.network_adaptive.specs.Spread.{block_base, marks_to, Path, opens, leads_on, choice_step}
+use Rattle.network_adaptive.specs.Spread.{AreClosed}
 use Rattle.network_adaptive.specs.declared.waits.Waits.{Waits}
 use Rattle.network_adaptive.specs.declared.waits.Waits.TheVariants.{Bare, Edges}
 
@@ -91,11 +92,12 @@ pub record IsAwaited (kinds : List Kind) (choices : List ℕ) (base ways : ℕ) 
   pub escape : escapes_to (length kinds) choices (base + slice_index held place * ways) ways marks y
       ≡ true
 
--- packets come to channel x, and one that holds it may wait for channel y
-pub record IsWait (kinds : List Kind) (choices : List ℕ) (base ways : ℕ) (marks : List Bool)
+-- packets come to channel x, which is marked for some packets, and one that holds it may wait for
+-- channel y
+pub record IsWait (kinds : List Kind) (choices : List ℕ) (base ways : ℕ) (holds marks : List Bool)
     (Comes : ℕ → Type 0) (x y : ℕ) : Type 0 where
   pub comes : Comes x
-  pub held : is_marked_at marks x ≡ true
+  pub held : is_marked_at holds x ≡ true
   pub head : ℕ
   pub path : Path (choice_step kinds choices base ways marks) x head
   pub leads : leads_on kinds head ≡ true
@@ -107,10 +109,10 @@ ComesTo joins step j x = (i : ℕ) × (joins_of (table_of [] joins []) i j ≡ t
 
 -- that of packets to some channel
 pub record IsWaitOf (kinds : List Kind) (joins : List Join) (choices : List ℕ) (ways : ℕ)
-    (marks none : List Bool) (x y : ℕ) : Type 0 where
+    (held marks none : List Bool) (x y : ℕ) : Type 0 where
   pub to : ℕ
   pub low : to < length kinds
-  pub wait : IsWait kinds choices (block_base kinds ways to) ways marks
+  pub wait : IsWait kinds choices (block_base kinds ways to) ways held (marks_to kinds marks to)
       (ComesTo joins (choice_step kinds choices (block_base kinds ways to) ways none) to) x y
 
 -- a channel that packets to channel j come to and go on from, without a choice that is marked
@@ -119,7 +121,8 @@ pub record IsBareTo (kinds : List Kind) (joins : List Join) (choices : List ℕ)
   pub comes : ComesTo joins (choice_step kinds choices (block_base kinds ways j) ways none) j x
   pub leads : leads_on kinds x ≡ true
   pub bare : (y : ℕ)
-      → escapes_to (length kinds) choices (block_base kinds ways j + x * ways) ways marks y
+      → escapes_to (length kinds) choices (block_base kinds ways j + x * ways) ways
+      (marks_to kinds marks j) y
       ≡ false
 
 -- the first such, by destination and then by channel
@@ -131,14 +134,14 @@ pub record IsFirstBareTo (kinds : List Kind) (joins : List Join) (choices : List
 
 -- the edges lead to what packets wait for, and no channel is bare
 pub record HasWaits (kinds : List Kind) (joins : List Join) (choices : List ℕ) (ways : ℕ)
-    (marks none : List Bool) (edges : List Edge) : Type 0 where
-  pub put : HasPut (IsWaitOf kinds joins choices ways marks none) [] edges
+    (held marks none : List Bool) (edges : List Edge) : Type 0 where
+  pub put : HasPut (IsWaitOf kinds joins choices ways held marks none) [] edges
   pub clear : (j x : ℕ) → j < length kinds → IsBareTo kinds joins choices ways marks none j x → ⊥
 
 -- what is found: the first channel without an escape, or what packets wait for
 abbrev pub AreWaits : {A : Type 0} → List Kind → List Join → List ℕ → ℕ → List Bool → List Bool
-    → Waits A → Type 0
-AreWaits kinds joins choices ways marks none (Bare f) =
+    → List Bool → Waits A → Type 0
+AreWaits kinds joins choices ways held marks none (Bare f) =
     IsFirstBareTo kinds joins choices ways marks none f.to f.at
-AreWaits kinds joins choices ways marks none (Edges edges) =
-    HasWaits kinds joins choices ways marks none edges.items
+AreWaits kinds joins choices ways held marks none (Edges edges) =
+    HasWaits kinds joins choices ways held marks none edges.items

@@ -9,7 +9,8 @@ use Rattle.network_judge.specs.declared.table.Reply.{Reply}
 use Rattle.network_judge.specs.declared.table.NoRoute as no_route
 use Rattle.network_judge.specs.declared.table.Why.{Why}
 use Rattle.network_judge.specs.declared.table.Why.TheVariants.{NoSender, NoReceiver}
-use Rattle.network_judge.specs.Table.{table_of, is_sender, is_receiver}
+use Rattle.std.specs.List.{count_by}
+use Rattle.network_judge.specs.Table.{table_of, joins_of, is_sender, is_receiver, ejects}
 use Rattle.network_judge.specs.Verdicts.{join_at}
 use Rattle.network_judge.specs.Marks.{is_marked_at}
 use Rattle.network_adaptive.specs.declared.accepting.JudgedNet.{JudgedNet}
@@ -18,7 +19,7 @@ use Rattle.network_adaptive.specs.declared.accepting.JudgedNet.TheVariants.{Judg
 use Rattle.network_adaptive.specs.declared.shape.Misfit.{Misfit}
 use Rattle.network_adaptive.specs.declared.shape.Misfit.TheVariants.{Itself, Injects, Ejects}
 use Rattle.network_adaptive.specs.declared.shape.NoChoice as no_choice
-use Rattle.network_adaptive.specs.Spread.{block_base}
+use Rattle.network_adaptive.specs.Spread.{block_base, marks_to}
 use Rattle.network_adaptive.specs.Choosing.{ChoiceTable, IsShaped}
 use Rattle.network_adaptive.specs.Judged.{IsAdaptiveVerdict, Promises}
 
@@ -101,17 +102,34 @@ pub record IsFirstWrongPair (kinds : List Kind) (joins : List Join) (r : no_rout
     pub why : pair_fault kinds r.join ≡ Some r.why
     pub before : PairsFit kinds joins place
 
--- escapes, and injection and ejection channels, are marked, and no others
-pub record AreMarksOf (kinds : List Kind) (escapes marks : List Bool) : Type 0 where
-  pub size : length marks ≡ length kinds
-  pub each : (x : ℕ) → x < length kinds → is_marked_at marks x
-      ≡ (is_marked_at escapes x || (is_sender (slice_get kinds x) || is_receiver (slice_get kinds x)))
+-- whether a channel is an injection or an ejection channel
+abbrev pub is_end : List Kind → ℕ → Bool
+is_end kinds x = is_sender (slice_get kinds x) || is_receiver (slice_get kinds x)
 
--- injection and ejection channels are marked
+-- escapes, and injection and ejection channels, are marked, and no others
+pub record AreMarkedEnds (kinds : List Kind) (escapes marks : List Bool) : Type 0 where
+  pub size : length marks ≡ length kinds
+  pub each : (x : ℕ) → x < length kinds
+      → is_marked_at marks x ≡ (is_marked_at escapes x || is_end kinds x)
+
+-- so are those that are escapes for packets to ejection channel j alone
+pub record AreMarksTo (kinds : List Kind) (escapes : List Bool) (own : List Join) (j : ℕ)
+    (row : List Bool) : Type 0 where
+  pub size : length row ≡ length kinds
+  pub each : (x : ℕ) → x < length kinds → is_marked_at row x
+      ≡ ((is_marked_at escapes x || is_end kinds x) || joins_of (table_of [] own []) x j)
+
+-- each ejection channel has such a row
+pub record AreMarksOf (kinds : List Kind) (escapes : List Bool) (own : List Join)
+    (marks : List Bool) : Type 0 where
+  pub size : length marks ≡ count_by ejects kinds * length kinds
+  pub each : (j : ℕ) → slice_get kinds j ≡ Some Ejection
+      → AreMarksTo kinds escapes own j (marks_to kinds marks j)
+
+-- in each row injection and ejection channels are marked
 abbrev pub EndsAreMarked : List Kind → List Bool → Type 0
-EndsAreMarked kinds marks = (x : ℕ)
-    → (is_sender (slice_get kinds x) || is_receiver (slice_get kinds x)) ≡ true
-    → is_marked_at marks x ≡ true
+EndsAreMarked kinds marks = (j x : ℕ) → slice_get kinds j ≡ Some Ejection
+    → is_end kinds x ≡ true → is_marked_at (marks_to kinds marks j) x ≡ true
 
 -- what is judged of any lists: the first pair with a wrong end; or with none, the first choice that
 -- can't stand; or with none, the verdict on the network, and what it promises

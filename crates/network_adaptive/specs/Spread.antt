@@ -1,6 +1,6 @@
 -- Flags that spread over steps from channel to channel.
 use Rattle.std.specs.Prelude.{◌≡◌, ◌⊎◌, ℕ, ◌+◌, ◌*◌, ◌<◌, ◌≤◌, zero, suc, ◌==◌, nat_lt, ◌&&◌, ◌||◌, not, Bool, true, false, List, length}
-use Rattle.std.specs.Prelude.{slice_get, slice_index, take}
+use Rattle.std.specs.Prelude.{slice_get, slice_index, slice_range, take}
 use Rattle.std.specs.List.{count_by}
 use Rattle.network_judge.specs.declared.table.Kind.{Kind}
 use Rattle.network_judge.specs.Table.{is_receiver, ejects}
@@ -15,6 +15,11 @@ pub data Path (step : ℕ → ℕ → Bool) (x : ℕ) : ℕ → Type 0 where
 abbrev pub block_base : List Kind → ℕ → ℕ → ℕ
 block_base kinds ways j = count_by ejects (take j kinds) * (length kinds * ways)
 
+-- the marks of escapes for packets to an ejection channel: a row for each, in channel order
+abbrev pub marks_to : List Kind → List Bool → ℕ → List Bool
+marks_to kinds marks j =
+    slice_range marks (block_base kinds 1 j) (block_base kinds 1 j + length kinds)
+
 -- whether a test passes below n
 abbrev pub any_below : (ℕ → Bool) → ℕ → Bool
 any_below p zero = false
@@ -28,6 +33,17 @@ names choices start ways y = any_below (λ k. slice_index choices (start + k) ==
 abbrev pub opens : ℕ → List ℕ → ℕ → ℕ → List Bool → ℕ → Bool
 opens count choices start ways shut y =
     nat_lt y count && (not (is_marked_at shut y) && names choices start ways y)
+
+-- whether channel y is marked for packets to some ejection channel
+abbrev pub is_held : List Kind → List Bool → ℕ → Bool
+is_held kinds marks y =
+    any_below (λ j. is_receiver (slice_get kinds j) && is_marked_at (marks_to kinds marks j) y)
+    (length kinds)
+
+-- flags of these channels
+pub record AreHeld (kinds : List Kind) (marks held : List Bool) : Type 0 where
+  pub size : length held ≡ length kinds
+  pub each : (y : ℕ) → is_marked_at held y ≡ is_held kinds marks y
 
 -- whether packets go on from a channel of this kind
 abbrev pub leads_on : List Kind → ℕ → Bool

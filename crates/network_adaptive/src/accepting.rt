@@ -5,7 +5,7 @@ ghost use Rattle.std.specs.List.{count_by};
 ghost use Rattle.network_judge.specs.Table.{ejects};
 ghost use Rattle.network_judge.specs.Replies.{AreReplies};
 ghost use Rattle.network_adaptive.specs.Choosing.{choosing_of, table};
-ghost use Rattle.network_adaptive.specs.Shape.{pair_fault, PairsFit, IsFirstWrongPair, AreMarksOf};
+ghost use Rattle.network_adaptive.specs.Shape.{pair_fault, PairsFit, IsFirstWrongPair};
 ghost use Rattle.network_adaptive.specs.Shape.{EndsAreMarked, IsJudgedNet};
 
 use crate::judging::judge;
@@ -54,26 +54,6 @@ pub fn first_wrong_pair(kinds: &[Kind], joins: &[Join]) -> Option<NoRoute>
     None
 }
 
-/// Flags of the escapes, and of the injection and ejection channels.
-///
-/// Errors: out of memory.
-pub fn marks_of<A: Allocator + Copy>(
-    alloc: A,
-    kinds: &[Kind],
-    escapes: &[bool],
-) -> Result<Vec<bool, A>, AllocError>
-    requires { length escapes.now ≡ length kinds.now }
-    ensures marks { IfOk result (λ marks. AreMarksOf kinds.now escapes.now marks.items) }
-    ensures ends { IfOk result (λ marks. EndsAreMarked kinds.now marks.items) }
-{
-    let mut marks = Vec::with_capacity(alloc, kinds.len())?;
-    for x in 0..kinds.len() {
-        let kind = kind_at(kinds, x);
-        marks.push(escapes[x] || (is_sender(kind) || is_receiver(kind)))?;
-    }
-    Ok(marks)
-}
-
 /// Judges lists as `judge` does, whatever pairs and choices they have.
 ///
 /// Errors: out of memory, and no other.
@@ -87,7 +67,7 @@ pub fn judge_lists<A: Allocator + Copy>(
     marks: &[bool],
 ) -> Result<JudgedNet<A>, AllocError>
     requires full { count_by ejects kinds.now * (length kinds.now * ways) ≤ length choices.now }
-    requires marks { length marks.now ≡ length kinds.now }
+    requires marks { length marks.now ≡ count_by ejects kinds.now * length kinds.now }
     requires ends { EndsAreMarked kinds.now marks.now }
     requires replies { AreReplies
         (table (choosing_of kinds.now joins.now ways choices.now marks.now)) replies.now }

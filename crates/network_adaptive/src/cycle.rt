@@ -13,6 +13,7 @@ ghost use Rattle.network_adaptive.specs.Edges.{pair_edge};
 
 use crate::between::{leads_to_wait, way_between};
 use crate::comes::comes_by;
+use crate::marks::marks_to;
 use crate::spread::base_of;
 use crate::verdict::{Dependency, How};
 use network_judge::walk::{is_receiver, kind_at};
@@ -21,8 +22,8 @@ use rising::chains::Chains;
 use rising::{Edge, Look};
 use std::alloc::{AllocError, Allocator};
 
-/// How a packet that holds a channel comes to wait for another: the first channel that such a packet
-/// goes to, and over which channels it goes.
+/// How a packet that holds a channel comes to wait for another, marked for it: the first channel that such a
+/// packet goes to, and over which channels it goes.
 ///
 /// Errors: out of memory.
 fn how_it_waits<'a, A: Allocator + Copy>(
@@ -38,7 +39,7 @@ fn how_it_waits<'a, A: Allocator + Copy>(
     y: usize,
 ) -> Result<How<A>, AllocError>
     requires room { count_by ejects kinds.now * (length kinds.now * ways) ≤ length choices.now }
-    requires marks { length marks.now ≡ length kinds.now }
+    requires marks { length marks.now ≡ count_by ejects kinds.now * length kinds.now }
     requires none { length none.now ≡ length kinds.now }
     requires pairs { pairs.now.edges.now ≡ map pair_edge joins.now }
     requires nodes { pairs.now.nodes ≡ length kinds.now }
@@ -59,8 +60,12 @@ fn how_it_waits<'a, A: Allocator + Copy>(
         if !seen[x] {
             continue;
         }
-        if leads_to_wait(alloc, kinds, choices, base, ways, marks, x, y)? {
-            let over = way_between(alloc, kinds, choices, base, ways, marks, x, y)?;
+        let row = marks_to(kinds, marks, to);
+        if !row[y] {
+            continue;
+        }
+        if leads_to_wait(alloc, kinds, choices, base, ways, row, x, y)? {
+            let over = way_between(alloc, kinds, choices, base, ways, row, x, y)?;
             return Ok(How::Over(to, over));
         }
     }
@@ -85,7 +90,7 @@ fn dependency_of<'a, A: Allocator + Copy>(
     look: Look,
 ) -> Result<Dependency<A>, AllocError>
     requires room { count_by ejects kinds.now * (length kinds.now * ways) ≤ length choices.now }
-    requires marks { length marks.now ≡ length kinds.now }
+    requires marks { length marks.now ≡ count_by ejects kinds.now * length kinds.now }
     requires none { length none.now ≡ length kinds.now }
     requires pairs { pairs.now.edges.now ≡ map pair_edge joins.now }
     requires nodes { pairs.now.nodes ≡ length kinds.now }
@@ -140,7 +145,7 @@ pub fn dependencies_of<'a, A: Allocator + Copy>(
     looks: &[Look],
 ) -> Result<Vec<Dependency<A>, A>, AllocError>
     requires room { count_by ejects kinds.now * (length kinds.now * ways) ≤ length choices.now }
-    requires marks { length marks.now ≡ length kinds.now }
+    requires marks { length marks.now ≡ count_by ejects kinds.now * length kinds.now }
     requires none { length none.now ≡ length kinds.now }
     requires pairs { pairs.now.edges.now ≡ map pair_edge joins.now }
     requires nodes { pairs.now.nodes ≡ length kinds.now }

@@ -5,11 +5,13 @@ ghost use Rattle.std.specs.Prelude.{IfOk};
 ghost use Rattle.network_judge.specs.Replies.{AreReplies};
 ghost use Rattle.network_adaptive.specs.Choosing.{choosing_of, table, IsShaped};
 ghost use Rattle.network_adaptive.specs.Flags.{AreDown, HasWaits};
+ghost use Rattle.network_adaptive.specs.Spread.{AreHeld};
 ghost use Rattle.network_adaptive.specs.Judged.{IsAdaptiveVerdict};
 ghost use Rattle.network_adaptive.specs.Edges.{pair_edge};
 
 use crate::cycle::dependencies_of;
 use crate::edges::{pair_edges, with_replies};
+use crate::marks::held_of;
 use crate::travel::travel_of;
 use crate::verdict::Verdict;
 use crate::waits::{Waits, waits_of};
@@ -30,6 +32,7 @@ fn judge_waits<'a, A: Allocator + Copy>(
     replies: &[Reply],
     ways: usize,
     choices: &[u32],
+    held: &[bool],
     marks: &[bool],
     none: &[bool],
     waits: &[Edge],
@@ -41,7 +44,9 @@ fn judge_waits<'a, A: Allocator + Copy>(
     requires down { AreDown none.now }
     requires pairs { pairs.now.edges.now ≡ map pair_edge joins.now }
     requires nodes { pairs.now.nodes ≡ length kinds.now }
-    requires waits { HasWaits kinds.now joins.now choices.now ways marks.now none.now waits.now }
+    requires held { AreHeld kinds.now marks.now held.now }
+    requires waits { HasWaits kinds.now joins.now choices.now ways held.now marks.now none.now
+        waits.now }
     ensures { IfOk result (IsAdaptiveVerdict
         (choosing_of kinds.now joins.now ways choices.now marks.now) replies.now) }
 {
@@ -63,10 +68,10 @@ fn judge_waits<'a, A: Allocator + Copy>(
 
 /// Judges a network by its lists: the kind of each channel, the source-destination pairs that packets go
 /// between, on which injection channels packets from an ejection channel are answered, the routers'
-/// choices, and which channels are escapes. The choices have a block for each ejection channel as destination,
+/// choices, and which of them are escapes. The choices have a block for each ejection channel as destination,
 /// in channel order, in it a row for each channel, and in it so many places: a number that is no channel's
-/// is no choice. A cycle is the shortest that searches in breadth find, which end where they came to many
-/// channels.
+/// is no choice. The marks of escapes have a row for each ejection channel, and in it one for each channel. A
+/// cycle is the shortest that searches in breadth find, which end where they came to many channels.
 ///
 /// Errors: out of memory, and no other.
 pub fn judge<A: Allocator + Copy>(
@@ -87,10 +92,13 @@ pub fn judge<A: Allocator + Copy>(
     let none = vec![in alloc; false; kinds.len()]?;
     let turned = pair_edges(alloc, joins)?;
     let pairs = chains_of(alloc, kinds.len(), &turned)?;
-    match waits_of(alloc, kinds, joins, &pairs, choices, ways, marks, &none)? {
+    let held = held_of(alloc, kinds, marks)?;
+    match waits_of(
+        alloc, kinds, joins, &pairs, choices, ways, &held, marks, &none,
+    )? {
         Waits::Bare(fault) => Ok(Verdict::NoEscape(fault)),
         Waits::Edges(waits) => judge_waits(
-            alloc, kinds, joins, &pairs, replies, ways, choices, marks, &none, &waits,
+            alloc, kinds, joins, &pairs, replies, ways, choices, &held, marks, &none, &waits,
         ),
     }
 }

@@ -11,6 +11,7 @@ ghost use Rattle.network_adaptive.specs.Edges.{pair_edge};
 
 use crate::comes::{comes_by, first_bare, reach_from, reach_none, reach_of_none};
 use crate::edges::{distinct, thinned};
+use crate::marks::marks_to;
 use crate::spread::{base_of, goes_on};
 use crate::verdict::NoEscape;
 use network_judge::walk::{cell, is_receiver, kind_at};
@@ -91,7 +92,7 @@ fn row_of<A: Allocator>(
     Ok(())
 }
 
-/// Adds edges to what packets wait for which hold a channel whose flag is up.
+/// Adds edges to what packets wait for which hold a channel whose flags are up.
 ///
 /// Errors: out of memory.
 fn rows_of<A: Allocator + Copy>(
@@ -100,14 +101,16 @@ fn rows_of<A: Allocator + Copy>(
     choices: &[u32],
     base: usize,
     ways: usize,
+    held: &[bool],
     marks: &[bool],
     seen: &[bool],
     edges: &mut Vec<Edge, A>,
 ) -> Result<(), AllocError>
     requires room { base + length kinds.now * ways ≤ length choices.now }
+    requires held { length held.now ≡ length kinds.now }
     requires marks { length marks.now ≡ length kinds.now }
     requires size { length seen.now ≡ length kinds.now }
-    ensures { OnOk result (HasPut (IsWait kinds.now choices.now base ways marks.now
+    ensures { OnOk result (HasPut (IsWait kinds.now choices.now base ways held.now marks.now
         (λ x. is_marked_at seen.now x ≡ true)) edges.old.items edges.new.items) }
 {
     let mut reach = reach_of_none(alloc, kinds.len())?;
@@ -115,7 +118,7 @@ fn rows_of<A: Allocator + Copy>(
         if !seen[e] {
             continue;
         }
-        if !marks[e] {
+        if !held[e] {
             continue;
         }
         reach_from(kinds, choices, base, ways, marks, e, &mut reach)?;
@@ -135,11 +138,13 @@ pub fn waits_of<'a, A: Allocator + Copy>(
     pairs: &Chains<'a, A>,
     choices: &[u32],
     ways: usize,
+    held: &[bool],
     marks: &[bool],
     none: &[bool],
 ) -> Result<Waits<A>, AllocError>
     requires room { count_by ejects kinds.now * (length kinds.now * ways) ≤ length choices.now }
-    requires marks { length marks.now ≡ length kinds.now }
+    requires held { length held.now ≡ length kinds.now }
+    requires marks { length marks.now ≡ count_by ejects kinds.now * length kinds.now }
     requires none { length none.now ≡ length kinds.now }
     requires pairs { pairs.now.edges.now ≡ map pair_edge joins.now }
     requires nodes { pairs.now.nodes ≡ length kinds.now }
@@ -147,7 +152,8 @@ pub fn waits_of<'a, A: Allocator + Copy>(
         → i < length kinds.now }
     requires receivers { (i j : ℕ) → joins_of (table_of [] joins.now []) i j ≡ true
         → slice_get kinds.now j ≡ Some Ejection }
-    ensures { IfOk result (AreWaits kinds.now joins.now choices.now ways marks.now none.now) }
+    ensures { IfOk result
+        (AreWaits kinds.now joins.now choices.now ways held.now marks.now none.now) }
 {
     let mut edges = Vec::new(alloc);
     let mut kept = kinds.len();
@@ -157,11 +163,14 @@ pub fn waits_of<'a, A: Allocator + Copy>(
         }
         let base = base_of(kinds, ways, to);
         let seen = comes_by(alloc, kinds, joins, pairs, choices, base, ways, none, to)?;
-        match first_bare(kinds, choices, base, ways, marks, &seen) {
+        let row = marks_to(kinds, marks, to);
+        match first_bare(kinds, choices, base, ways, row, &seen) {
             Some(at) => return Ok(Waits::Bare(NoEscape { to, at })),
             None => {}
         }
-        rows_of(alloc, kinds, choices, base, ways, marks, &seen, &mut edges)?;
+        rows_of(
+            alloc, kinds, choices, base, ways, held, row, &seen, &mut edges,
+        )?;
         edges = thinned(alloc, kinds.len(), edges, &mut kept)?;
     }
     Ok(Waits::Edges(distinct(alloc, kinds.len(), &edges)?))

@@ -34,7 +34,7 @@ def marks_of(net: Network, plan: Plan, verdict: Verdict) -> Marks:
 def marks_of_chosen(net: Network, found: AdaptiveVerdict) -> Marks:
     """The same of a network whose routers choose: the numbers of escapes; or the channels that fill up until nothing can go; or
     those of a cycle, and those over which they lead on."""
-    marks = net.escaping()
+    marks = net.escaping().some()
     loose = {x for x in range(len(net.kinds)) if x not in marks}
     held = {it for x, edge, _ in found.turns for it in (x, *edge.over)}
     answered = {(x, y) for x, edge, y in found.turns if edge.to is None}

@@ -2,7 +2,7 @@
 
 Duato, A new theory of deadlock-free adaptive routing in wormhole networks, IEEE TPDS 4(12), 1993: packets wait for
 escapes alone, and an extended dependency leads from an escape that a packet holds to each one that it may wait for
-then, behind channels that are no escapes. Nothing here is proved."""
+then, behind channels that are no escapes for these packets. Nothing here is proved."""
 from __future__ import annotations
 
 from collections import deque
@@ -89,6 +89,7 @@ class Walk:
 
     def __init__(self, net: Network) -> None:
         self.net, self.after, self.escapes = net, net.after, net.escaping()
+        self.held = self.escapes.some()
         self.starts: Dict[int, Set[int]] = {}
         for i, j in net.joins:
             self.starts.setdefault(j, set()).add(i)
@@ -104,7 +105,7 @@ class Walk:
         while queue:
             here = queue.popleft()
             for y in self.after(here, j):
-                if y not in self.escapes and y not in found:
+                if not self.escapes.has(y, j) and y not in found:
                     found[y] = (*found[here], y)
                     queue.append(y)
         return found
@@ -113,18 +114,18 @@ class Walk:
         """Whether a packet to an ejection channel that holds channel x can go on over these channels, none of them an
         escape, and then wait for channel y."""
         way = (x, *over, y)
-        held = j in self.starts and x in self.comes(j) and x in self.escapes and y in self.escapes and not self.escapes & set(over)
-        return held and all(b in self.after(a, j) for a, b in zip(way, way[1:]))
+        held = j in self.starts and x in self.comes(j) and x in self.held and self.escapes.has(y, j)
+        return held and not any(self.escapes.has(z, j) for z in over) and all(b in self.after(a, j) for a, b in zip(way, way[1:]))
 
     def edges(self) -> Dict[Tuple[int, int], Edge]:
         """The extended dependencies and replies, each with a way."""
         found: Dict[Tuple[int, int], Edge] = {}
         for j in sorted(self.starts):
             for x in self.comes(j):
-                if x in self.escapes:
+                if x in self.held:
                     for head, over in self.roams(x, j).items():
                         for y in self.after(head, j):
-                            if y in self.escapes:
+                            if self.escapes.has(y, j):
                                 found.setdefault((x, y), Edge(j, over))
         for x, y in self.net.replies:
             found.setdefault((x, y), Edge(None))
@@ -134,7 +135,7 @@ class Walk:
         """The verdict on the first channel without an escape, or without a choice, by destination."""
         for j in sorted(self.starts):
             for x in self.comes(j):
-                if self.net.kinds[x] != "eject" and not any(y in self.escapes for y in self.after(x, j)):
+                if self.net.kinds[x] != "eject" and not any(self.escapes.has(y, j) for y in self.after(x, j)):
                     return f"no {'escape' if self.after(x, j) else 'choice'} {x} {j}"
         return None
 

@@ -18,7 +18,7 @@ class DeadSets:
 
     def __init__(self, net: Network) -> None:
         self.net, self.walk, self.cases = net, Walk(net), list(cases(net))
-        self.marks = net.escaping()
+        self.escapes = net.escaping()
         self.goals: Dict[int, List[int]] = {x: [] for x in range(len(net.kinds))}
         for j in sorted(self.walk.starts):
             for x in self.walk.comes(j):
@@ -131,7 +131,7 @@ class DeadSets:
     def room(self, fill: Fill, depth: int) -> int:
         """How many packets fill a channel: one where they enter it by a choice that is no escape; and none goes on from an
         ejection channel to a latch."""
-        if fill.way and fill.at not in self.marks:
+        if fill.way and not self.escapes.has(fill.at, fill.to):
             return 1
         return depth if self.net.kinds[fill.at] == "eject" else depth + 1
 

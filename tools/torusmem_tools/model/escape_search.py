@@ -43,7 +43,7 @@ class EscapeSearch:
         """A shortest cycle of extended dependencies; empty where these rise."""
         # With no hop among them, one of the ends stands for all of them: without a line `escape` all channels are escapes.
         marks = set(escapes) or {min(self.ends)}
-        edges = Walk(replace(self.net, escapes=marks)).edges()
+        edges = Walk(replace(self.net, escapes=marks, own_escapes=set())).edges()
         return shortest_cycle(edges) if numbers(self.net, {edge: "" for edge in edges}) is None else []
 
     def search(self) -> Found:

@@ -30,6 +30,7 @@ def with_classes(net: Network, count: int, is_shared: bool) -> Network:
         for (x, j), ys in net.choices.items():
             made.choose(way[x], way[j], [way[y] for y in ys])
         made.escapes |= {way[y] for y in net.escapes}
+        made.own_escapes |= {(way[y], way[j]) for y, j in net.own_escapes}
     ends = [[x for x, kind in enumerate(net.kinds) if kind == it] for it in ("eject", "inject")]
     made.replies = [(ways[c][x], ways[d][y]) for x, y in zip(*ends) for c in range(count) for d in range(c + 1, count)]
     return made

@@ -31,15 +31,32 @@ class Link(NamedTuple):
     virtual: int = 0
 
 
+class Escapes(NamedTuple):
+    """The channels that are escapes for all packets, and those, with the ejection channel, that are one for packets to it alone."""
+
+    marks: Set[int]
+    own: Set[Pair]
+
+    def has(self, y: int, j: int) -> bool:
+        """Whether a channel is an escape for packets to an ejection channel."""
+        return y in self.marks or (y, j) in self.own
+
+    def some(self) -> Set[int]:
+        """The channels that are escapes for some packets."""
+        return self.marks | {y for y, _ in self.own}
+
+
 @dataclass
 class Network:
     """Channels with their kinds, pairs, choices and replies; routers, links and names, which change no verdict."""
 
     kinds: List[str] = field(default_factory=list)
     joins: List[Pair] = field(default_factory=list)
-    # The choices behind a channel for packets to an ejection channel; and the escapes that `escape` lines name.
+    # The choices behind a channel for packets to an ejection channel; and the escapes that `escape` lines name, for all packets or
+    # for those to an ejection channel alone.
     choices: Dict[Pair, List[int]] = field(default_factory=dict)
     escapes: Set[int] = field(default_factory=set)
+    own_escapes: Set[Pair] = field(default_factory=set)
     replies: List[Pair] = field(default_factory=list)
     routers: Dict[int, Router] = field(default_factory=dict)
     links: Dict[int, Link] = field(default_factory=dict)
@@ -97,12 +114,17 @@ class Network:
 
     def is_adaptive(self) -> bool:
         """Whether routers choose among several channels, or escapes are named."""
-        return bool(self.escapes) or self.chooses()
+        return self.names_escapes() or self.chooses()
 
-    def escaping(self) -> Set[int]:
+    def names_escapes(self) -> bool:
+        """Whether there is a line `escape`."""
+        return bool(self.escapes or self.own_escapes)
+
+    def escaping(self) -> Escapes:
         """The escapes: injection and ejection channels, and those that `escape` lines name; all where there is none."""
         every = range(len(self.kinds))
-        return self.escapes | {x for x in every if self.kinds[x] != "hop"} if self.escapes else set(every)
+        ends = {x for x in every if self.kinds[x] != "hop"}
+        return Escapes(self.escapes | ends, self.own_escapes) if self.names_escapes() else Escapes(set(every), set())
 
     def text(self, named: bool = False) -> str:
         """The text of the network; with its routers and links where they are asked for."""
@@ -118,6 +140,7 @@ class Network:
         lines += [f"join {i} {j}" for i, j in self.joins]
         lines += [f"next {x} {j} {y}" for x, j, y in self.steps()]
         lines += [f"escape {y}" for y in sorted(self.escapes)]
+        lines += [f"escape {y} {j}" for y, j in sorted(self.own_escapes)]
         lines += [f"reply {x} {y}" for x, y in self.replies]
         lines += [] if self.flits is None else [f"length {self.flits}"]
         return "\n".join(lines) + "\n"
@@ -128,7 +151,7 @@ def number_of(word: str) -> int:
     return int(word) if word.isascii() and word.isdigit() and len(word) <= 20 else -1
 
 
-SHAPES = {"channels": 1, "inject": 1, "eject": 1, "next": 3, "reply": 2, "escape": 1, "length": 1}
+SHAPES = {"channels": (1,), "inject": (1,), "eject": (1,), "next": (3,), "reply": (2,), "escape": (1, 2), "length": (1,)}
 # The lines that change no verdict: how many words each may have behind its first.
 NAMES = {"router": (2, 4), "link": (3, 4), "name": (2, 3, 4, 5)}
 
@@ -158,7 +181,7 @@ class Reader:
             self.join(*(["all", "all"] if words == ["all"] else words))
             return
         numbers = [number_of(word) for word in words]
-        if SHAPES.get(kind) != len(numbers) or min(numbers) < 0:
+        if len(numbers) not in SHAPES.get(kind, ()) or min(numbers) < 0:
             raise ValueError("no line of a network begins so, or it hasn't so many numbers")
         if (kind == "channels") == bool(self.net.kinds):
             raise ValueError("`channels` is the first line, and stands once")
@@ -246,9 +269,15 @@ class Reader:
             raise ValueError(f"the choice behind channel {x} for packets to channel {j} is given already")
         row.append(y)
 
-    def escape(self, y: int) -> None:
-        self.once("the escape", y)
-        self.net.escapes.add(y)
+    def escape(self, y: int, j: Optional[int] = None) -> None:
+        if j is None:
+            self.once("the escape", y)
+            self.net.escapes.add(y)
+            return
+        if self.net.kinds[j] != "eject":
+            raise ValueError(f"channel {j} is no ejection channel")
+        self.once("the escape", y, "for packets to", j)
+        self.net.own_escapes.add((y, j))
 
     def length(self, flits: int) -> None:
         self.once("the length of packets")

@@ -145,7 +145,8 @@ class Simulation:
         """The output that the flit in the latch behind a channel asks for, or none where none is free."""
         free = [y for y in self.machine.outputs(x) if not self.machine.no_put(x, y)]
         if len(free) > 1:
-            return behind([y for y in free if y not in self.machine.escapes] or free, self.taken.get(x))
+            latch = self.machine.channels[x].latch
+            return behind([y for y in free if latch and not self.machine.escapes.has(y, latch.goal)] or free, self.taken.get(x))
         return free[0] if free else None
 
     def enabled(self, number: int) -> List[Move]:

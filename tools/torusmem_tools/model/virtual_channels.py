@@ -18,6 +18,7 @@ def with_virtual_channels(net: Network, count: int) -> Network:
     made.joins = [(ways[i][0], ways[j][0]) for i, j in net.joins]
     made.replies = [(ways[x][0], ways[y][0]) for x, y in net.replies]
     made.escapes = {y for x in net.escapes for y in ways[x]}
+    made.own_escapes = {(y, ways[j][0]) for x, j in net.own_escapes for y in ways[x]}
     for (x, j), ys in net.choices.items():
         for it in ways[x]:
             made.choose(it, ways[j][0], [z for y in ys for z in ways[y]])

@@ -125,7 +125,7 @@ class Wormhole:
         owner = self.channels[y].owner
         if latch.head and owner is not None:
             return f"channel {y} belongs to a packet that comes from channel {owner}"
-        if latch.head and y not in self.escapes and not self.is_given(y):
+        if latch.head and not self.escapes.has(y, latch.goal) and not self.is_given(y):
             return f"channel {y} is no escape, and there is a flit in it or behind it"
         return self.no_credit(y)
 

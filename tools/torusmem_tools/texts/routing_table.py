@@ -105,17 +105,18 @@ def fits(row: Row, net: Network, x: int) -> bool:
 
 
 def widened(table: Table, names: Dict[int, str]) -> str:
-    """What the text makes of channels that only some of their rows call escapes, as a sentence; nothing where there are none."""
-    said: Dict[Tuple[int, int, int], Set[bool]] = {}
+    """What the text makes of channels that only some of their rows for one destination call escapes, as a sentence; nothing where
+    there are none."""
+    said: Dict[Tuple[int, int, int, int], Set[bool]] = {}
     for it in table.rows:
-        said.setdefault((it.router, it.after, it.virtual), set()).add(it.escapes)
+        said.setdefault((it.router, it.after, it.virtual, it.goal), set()).add(it.escapes)
     mixed = [hop for hop, both in said.items() if len(both) > 1]
     if not mixed:
         return ""
-    start, end, virtual = mixed[0]
-    first = f"from router {names[start]} to router {names[end]}, virtual channel {virtual},"
+    start, end, virtual, goal = mixed[0]
+    first = f"from router {names[start]} to router {names[end]}, virtual channel {virtual}, for router {names[goal]}"
     more = f" (and {len(mixed) - 1} more)" if mixed[1:] else ""
-    return f"{table.path}: some rows of the channel {first} say escape and others don't{more}: the text makes it one for all destinations"
+    return f"{table.path}: some rows of the channel {first} say escape and others don't{more}: the text makes it one for all of these packets"
 
 
 def from_table(text: str, path: str, say: Callable[[str], None]) -> Network:
@@ -129,15 +130,18 @@ def from_table(text: str, path: str, say: Callable[[str], None]) -> Network:
     inject, eject = ends(net, routers)
     net.routers = {r: Router(names[r]) for r in routers}
     hops: Dict[Tuple[int, int, int], int] = {}
-    escapes: Set[Tuple[int, int, int]] = set()
+    goals: Dict[int, Set[int]] = {}
+    escapes: Dict[int, Set[int]] = {}
     rows: Dict[Tuple[int, int], List[Row]] = {}
     for it in sorted(table.rows, key=lambda it: (it.router, it.goal)):
         hop = it.router, it.after, it.virtual
         if hop not in hops:
             hops[hop] = net.channel("hop", *hop)
-        escapes |= {hop} if it.escapes else set()
+        goals.setdefault(hops[hop], set()).add(it.goal)
+        escapes.setdefault(hops[hop], set()).update([it.goal] if it.escapes else [])
         rows.setdefault((it.router, it.goal), []).append(it)
-    net.escapes = {hops[it] for it in escapes}
+    net.escapes = {hop for hop, said in escapes.items() if said == goals[hop]}
+    net.own_escapes = {(hop, eject[goal]) for hop, said in escapes.items() if said != goals[hop] for goal in said}
     into = inputs(net, inject)
     for goal in routers:
         for r in routers:

@@ -7,24 +7,24 @@ use Rattle.network_adaptive.proofs.waits.rows_of.Goals as goal
 
 pub loop-e-init : goal.loop-e-init
 loop-e-init g c = record {
-  put = waits_begin c.args.kinds.now c.args.choices.now c.args.base c.args.ways c.args.marks.now c.args.seen.now c.args.edges.now.items;
+  put = waits_begin c.args.kinds.now c.args.choices.now c.args.base c.args.ways c.args.held.now c.args.marks.now c.args.seen.now c.args.edges.now.items;
   size = c.in_ok-reach.ensures.size;
   down = c.in_ok-reach.ensures.down;
 }
 
 pub loop-e-preserved-then-not-seen-e : goal.loop-e-preserved-then-not-seen-e
 loop-e-preserved-then-not-seen-e g c = record {
-  put = waits_skip c.args.kinds.now c.args.choices.now c.args.base c.args.ways c.args.marks.now c.args.seen.now c.loop-e.e (c.loop-e.e + 1)
+  put = waits_skip c.args.kinds.now c.args.choices.now c.args.base c.args.ways c.args.held.now c.args.marks.now c.args.seen.now c.loop-e.e (c.loop-e.e + 1)
       c.args.edges.now.items c.loop-e.edges.items (omega arith) (λ up mark. (let down = c.if-not-seen-e.true in let bad : true ≡ false = sym up ∙ down in cc))
       c.loop-e.invariant.put;
   size = c.loop-e.invariant.size;
   down = c.loop-e.invariant.down;
 }
 
-pub loop-e-preserved-then-not-marks-e : goal.loop-e-preserved-then-not-marks-e
-loop-e-preserved-then-not-marks-e g c = record {
-  put = waits_skip c.args.kinds.now c.args.choices.now c.args.base c.args.ways c.args.marks.now c.args.seen.now c.loop-e.e (c.loop-e.e + 1)
-      c.args.edges.now.items c.loop-e.edges.items (omega arith) (λ up mark. (let down = c.if-not-marks-e.true in let bad : true ≡ false = sym mark ∙ down in cc))
+pub loop-e-preserved-then-not-held-e : goal.loop-e-preserved-then-not-held-e
+loop-e-preserved-then-not-held-e g c = record {
+  put = waits_skip c.args.kinds.now c.args.choices.now c.args.base c.args.ways c.args.held.now c.args.marks.now c.args.seen.now c.loop-e.e (c.loop-e.e + 1)
+      c.args.edges.now.items c.loop-e.edges.items (omega arith) (λ up mark. (let down = c.if-not-held-e.true in let bad : true ≡ false = sym mark ∙ down in cc))
       c.loop-e.invariant.put;
   size = c.loop-e.invariant.size;
   down = c.loop-e.invariant.down;
@@ -42,9 +42,9 @@ row_of-requires-clause-held g c = λ k low.
 
 pub loop-e-preserved : goal.loop-e-preserved
 loop-e-preserved g c = record {
-  put = waits_put c.args.kinds.now c.args.choices.now c.args.base c.args.ways c.args.marks.now c.args.seen.now c.loop-e.e (c.loop-e.e + 1)
+  put = waits_put c.args.kinds.now c.args.choices.now c.args.base c.args.ways c.args.held.now c.args.marks.now c.args.seen.now c.loop-e.e (c.loop-e.e + 1)
       c.reach_from.new.reach.flags.items c.reach_from.new.reach.list.items c.args.edges.now.items c.loop-e.edges.items c.row_of.new.edges.items (omega arith)
-      c.if-not-seen-e.false c.if-not-marks-e.false c.in_ok-reach_from.ensures.flags c.in_ok-reach_from.ensures.list c.loop-e.invariant.put
+      c.if-not-seen-e.false c.if-not-held-e.false c.in_ok-reach_from.ensures.flags c.in_ok-reach_from.ensures.list c.loop-e.invariant.put
       (subst (λ (v : List ℕ). HasPut (IsAwaited c.args.kinds.now c.args.choices.now c.args.base c.args.ways c.args.marks.now v c.loop-e.e)
       c.loop-e.edges.items c.row_of.new.edges.items) c.deref.ensures.value c.in_ok-row_of.ensures);
   size = c.reach_none.ensures.size ∙ c.in_ok-reach_from.ensures.flags.size;
@@ -53,5 +53,5 @@ loop-e-preserved g c = record {
 
 pub returns : goal.returns
 returns g c =
-    waits_end c.args.kinds.now c.args.choices.now c.args.base c.args.ways c.args.marks.now c.args.seen.now c.loop-e.e
+    waits_end c.args.kinds.now c.args.choices.now c.args.base c.args.ways c.args.held.now c.args.marks.now c.args.seen.now c.loop-e.e
     c.args.edges.now.items c.loop-e.edges.items (omega arith) c.requires.size c.loop-e.invariant.put
