@@ -8,18 +8,18 @@ use Rattle.network_adaptive.specs.declared.accepting.JudgedNet.TheVariants.{Judg
 use Rattle.network_adaptive.specs.declared.verdict.Verdict.{Verdict}
 use Rattle.network_adaptive.specs.declared.verdict.Verdict.TheVariants.{Rising, NoEscape, Cycle}
 use Rattle.network_text.specs.Choosing.{ChoosingText}
-use Rattle.network_text.specs.ChoiceLists.{choice_list, AreEscapesOf}
+use Rattle.network_text.specs.ChoiceLists.{choice_list, own_escapes, AreEscapesOf}
 
 -- the lists of a text with these marks
 abbrev pub choice_table : ChoosingText → List Bool → ChoiceTable
 choice_table t marks =
     choosing_of t.fixed.table.kinds t.fixed.table.joins (t.layers + 1) (choice_list t) marks
 
--- flags of the escapes, and of the injection and ejection channels
+-- marks of the escapes for packets to each ejection channel, and of the injection and ejection channels
 pub record AreMarks (t : ChoosingText) (marks : List Bool) : Type 0 where
   pub flags : List Bool
   pub escapes : AreEscapesOf t flags
-  pub are : AreMarksOf t.fixed.table.kinds flags marks
+  pub are : AreMarksOf t.fixed.table.kinds flags (own_escapes t.escapes) marks
 
 -- what is judged of the lists of a text with these marks
 pub record IsMarkedJudgement {A : Type 0} (t : ChoosingText) (marks : List Bool) (judged : JudgedNet A)

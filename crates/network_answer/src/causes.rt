@@ -16,6 +16,7 @@ use network_adaptive::accepting::JudgedNet;
 use network_adaptive::shape::NoChoice as WrongChoice;
 use network_adaptive::{Dependency, How, NoEscape, Round, Travel, Verdict as Chosen};
 use network_judge::{By, Join, Link, Verdict};
+use network_text::choosing::Escape;
 use network_text::reading::Reading;
 use std::alloc::{AllocError, Allocator};
 
@@ -244,7 +245,7 @@ fn judged_causes<A: Allocator + Copy>(
 /// That routers choose, and that all channels are escapes, where no line of a text names one.
 ///
 /// Errors: out of memory.
-fn escape_words<A: Allocator>(alloc: A, escapes: &[u32]) -> Result<Vec<Cause, A>, AllocError>
+fn escape_words<A: Allocator>(alloc: A, escapes: &[Escape]) -> Result<Vec<Cause, A>, AllocError>
     ensures { IfOk result (λ causes. causes.items ≡ escape_words (are_none escapes.now)) }
 {
     let mut causes = one_cause(alloc, Cause::Chooses)?;
@@ -261,7 +262,7 @@ fn escape_words<A: Allocator>(alloc: A, escapes: &[u32]) -> Result<Vec<Cause, A>
 pub fn choosing_causes<A: Allocator + Copy>(
     alloc: A,
     network: &Reading<A>,
-    escapes: &[u32],
+    escapes: &[Escape],
     judged: &JudgedNet<A>,
 ) -> Result<Vec<Cause, A>, AllocError>
     requires { IsRead network.now }

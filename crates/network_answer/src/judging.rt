@@ -7,7 +7,8 @@ ghost use Rattle.network_answer.specs.Judging.{IsMarkedJudgement};
 ghost use Rattle.network_answer.specs.Judging.{judgement_rises, verdict_rises};
 
 use network_adaptive::Verdict;
-use network_adaptive::accepting::{JudgedNet, judge_lists, marks_of};
+use network_adaptive::accepting::{JudgedNet, judge_lists};
+use network_adaptive::marks::marks_of;
 use network_text::choosing::Choosing;
 use std::alloc::{AllocError, Allocator};
 
@@ -38,7 +39,8 @@ pub(crate) fn judgement_of<A: Allocator + Copy>(
 {
     let ways = network.layers + 1;
     let flags = network.escape_flags(alloc)?;
-    let marks = marks_of(alloc, &network.fixed.kinds, &flags)?;
+    let own = network.own_escapes(alloc)?;
+    let marks = marks_of(alloc, &network.fixed.kinds, &flags, &own)?;
     let choices = network.choices(alloc)?;
     network.further = Vec::new(alloc);
     let fixed = &network.fixed;

@@ -1,7 +1,6 @@
 -- A text of fixed routes is read alike, whether routers may choose or not.
 use Rattle.std.proofs.Common.{◌≡◌, ◌⊎◌, inl, inr, ℕ, zero, suc, ◌+◌, Bool, true, false, List, [], ◌∷◌, ◌++◌, refl, sym, ◌∙◌, ap, subst, arith, eq-eqb}
 use Rattle.std.specs.Prelude.{⊤, Result, Ok, Err, Option, Some, None, option_map, ok_or, if◌then◌else◌, not, nat_lt, ◌==◌, ◌&&◌, ◌*◌, codes, slice_index, slice_get, slice_set}
-use Rattle.std.specs.List.{list_any}
 use Rattle.std.specs.Str.{bytes_eq}
 use Rattle.std.proofs.lemmas.Bool.{ne_eqb, eqb-true}
 use Rattle.std.proofs.lemmas.Slice.Eq.{bytes_eq-Decides}
@@ -14,10 +13,11 @@ use Rattle.network_text.specs.declared.reason.Keyword.TheVariants as key
 use Rattle.network_text.specs.declared.reason.NetworkReason.{NetworkReason}
 use Rattle.network_text.specs.declared.reason.NetworkReason.TheVariants as reason
 use Rattle.network_text.specs.declared.choosing.Second.{Second}
+use Rattle.network_text.specs.declared.choosing.Escape.{Escape}
 use Rattle.network_text.specs.declared.choosing.Routers.TheVariants.{OneChoice, AnyChoices}
-use Rattle.network_text.specs.Shapes.{unless, number_at, after_one, after_three}
+use Rattle.network_text.specs.Shapes.{unless, number_at, after_three}
 use Rattle.network_text.specs.Network.{Reading, NetworkSpec, count_of, lacks, begun, cell_of, taken_cell, after_choice, after_next, after_words, network_or_why}
-use Rattle.network_text.specs.Choosing.{ChoosingText, choosing_with, nothing_chosen, are_none, is_fixed, fixed_network, cells_of, layer_with, free_layer, put_at, after_further, after_escape, with_fixed}
+use Rattle.network_text.specs.Choosing.{ChoosingText, choosing_with, nothing_chosen, are_none, is_fixed, fixed_network, cells_of, layer_with, free_layer, put_at, after_further, has_escape, after_escape, after_own_escape, after_escape_words, with_fixed}
 use Rattle.network_text.specs.Choosing.{second_by, second_of, after_second, after_choosing_words, text_from, text_or_why}
 use Rattle.network_text.specs.Routing.{Routing, Fixed, Chosen, routing_by, routing_or_why}
 use Rattle.network_text.proofs.Begun.{begun_same}
@@ -119,19 +119,27 @@ and_left : (a b : Bool) → (a && b) ≡ true → a ≡ true
 and_left true b is = refl
 and_left false b is = absurd (cc)
 
-put_empty : (xs : List ℕ) (y : ℕ) → are_none (xs ++ y ∷ []) ≡ false
+put_empty : (xs : List Escape) (y : Escape) → are_none (xs ++ y ∷ []) ≡ false
 put_empty [] y = refl
 put_empty (x ∷ xs) y = refl
 
 escape_unfixed : (t : ChoosingText) (y : ℕ) → Unfixed (after_escape t y)
 escape_unfixed t y =
-    unfixed_unless (lacks t.fixed 1 y) _ (unfixed_if (list_any (λ e. e == y) t.escapes) _ _ tt
-    (ap (λ b. (t.layers == 0) && b) (put_empty t.escapes y) ∙ and_false (t.layers == 0)))
+    unfixed_unless (lacks t.fixed 1 y) _ (unfixed_if (has_escape t.escapes (record { channel = y; to = None })) _ _ tt
+    (ap (λ b. (t.layers == 0) && b) (put_empty t.escapes (record { channel = y; to = None })) ∙ and_false (t.layers == 0)))
 
-escape_words : (t : ChoosingText) (ws : List (List ℕ)) → Unfixed (after_one key.Escape (after_escape t) ws)
+own_unfixed : (t : ChoosingText) (y j : ℕ) → Unfixed (after_own_escape t y j)
+own_unfixed t y j =
+    unfixed_unless (lacks t.fixed 1 y) _ (unfixed_unless (lacks t.fixed 2 j) _
+    (unfixed_if (not (is_receiver (slice_get t.fixed.table.kinds j))) _ _ tt
+    (unfixed_if (has_escape t.escapes (record { channel = y; to = Some j })) _ _ tt
+    (ap (λ b. (t.layers == 0) && b) (put_empty t.escapes (record { channel = y; to = Some j })) ∙ and_false (t.layers == 0)))))
+
+escape_words : (t : ChoosingText) (ws : List (List ℕ)) → Unfixed (after_escape_words t ws)
 escape_words t [] = tt
 escape_words t (a ∷ []) = unfixed_bind (number_at 1 a) (after_escape t) (escape_unfixed t)
-escape_words t (a ∷ b ∷ more) = tt
+escape_words t (a ∷ b ∷ []) = unfixed_bind (number_at 1 a) _ (λ y. unfixed_bind (number_at 2 b) (after_own_escape t y) (own_unfixed t y))
+escape_words t (a ∷ b ∷ c ∷ more) = tt
 
 abbrev put_either : (t : ChoosingText) (cell y layer : ℕ) → Bool → ChoosingText
 put_either t cell y layer true = choosing_with t.fixed (t.layers + 1) (t.further ++ layer_with t cell y) t.escapes
@@ -219,7 +227,7 @@ second_alike t w ws (Some s) second next is =
     (unfixed_unless (lacks t.fixed 3 s.next) _ (further_unfixed t s.cell s.next (inl (fixed_none t is))))
 
 words_by : (t : ChoosingText) (w : List ℕ) (ws : List (List ℕ)) (b c : Bool) → bytes_eq w (codes "escape") ≡ b → bytes_eq w (codes "next") ≡ c → is_fixed t ≡ true
-    → Alike (with_fixed t (after_words t.fixed (w ∷ ws))) (if b then after_one key.Escape (after_escape t) ws
+    → Alike (with_fixed t (after_words t.fixed (w ∷ ws))) (if b then after_escape_words t ws
     else (if c then after_second t (w ∷ ws) (second_of t.fixed ws) else with_fixed t (after_words t.fixed (w ∷ ws))))
 words_by t w ws true c e n is =
     refused_alike t (after_words t.fixed (w ∷ ws)) _ (escape_no t.fixed w ws ((bytes_eq-Decides w (codes "escape")).0 e)) (escape_words t ws)

@@ -5,23 +5,22 @@ use Rattle.std.specs.Str.{bytes_eq}
 use Rattle.lexer.specs.Words.{words_of}
 use Rattle.lexer.specs.declared.refusal.Refusal.{Refusal}
 use Rattle.lexer.specs.Outcome.{then_lines, refusal_at}
-use Rattle.network_text.specs.declared.reason.Keyword.TheVariants as key
 use Rattle.network_text.specs.declared.reason.NetworkReason.{NetworkReason}
-use Rattle.network_text.specs.Shapes.{after_one}
 use Rattle.network_text.specs.Network.{Reading}
 use Rattle.network_text.proofs.SevenWords.{words_seven}
 use Rattle.network_text.specs.declared.choosing.Second.{Second}
 use Rattle.network_text.specs.declared.choosing.Routers.{Routers}
 use Rattle.network_text.specs.declared.choosing.Routers.TheVariants.{OneChoice, AnyChoices}
-use Rattle.network_text.specs.Choosing.{ChoosingText, after_escape, after_second, second_of, with_fixed, after_choosing_words, after_line, text_from}
+use Rattle.network_text.specs.Choosing.{ChoosingText, after_escape_words, after_second, second_of, with_fixed, after_choosing_words, after_line, text_from}
 
 abbrev Read : Type 0
 Read = Result ChoosingText NetworkReason
 
-escape_six : (t : ChoosingText) (ws : List (List ℕ)) → after_one key.Escape (after_escape t) (take 6 ws) ≡ after_one key.Escape (after_escape t) ws
+escape_six : (t : ChoosingText) (ws : List (List ℕ)) → after_escape_words t (take 6 ws) ≡ after_escape_words t ws
 escape_six t [] = refl
 escape_six t (a ∷ []) = refl
-escape_six t (a ∷ b ∷ more) = refl
+escape_six t (a ∷ b ∷ []) = refl
+escape_six t (a ∷ b ∷ c ∷ more) = refl
 
 second_six : (r : Reading) (ws : List (List ℕ)) → second_of r (take 6 ws) ≡ second_of r ws
 second_six r [] = refl

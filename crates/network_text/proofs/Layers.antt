@@ -1,7 +1,7 @@
 -- Layers of further choices.
 use Rattle.std.proofs.Common.{◌≡◌, inl, inr, ℕ, suc, ◌+◌, ◌*◌, ◌<◌, true, false, List, [], ◌∷◌, refl, sym, ◌∙◌, ap, arith}
-use Rattle.std.specs.Prelude.{Result, Ok, Err, Option, Some, None, option_map, if◌then◌else◌, ◌==◌}
-use Rattle.std.specs.List.{list_any}
+use Rattle.network_judge.specs.Table.{is_receiver}
+use Rattle.std.specs.Prelude.{slice_get, Result, Ok, Err, Option, Some, None, option_map, if◌then◌else◌, ◌==◌}
 use Rattle.std.proofs.lemmas.Bool.{cases_Bool}
 use Rattle.std.proofs.lemmas.Nat.{mul-add-lt}
 use Rattle.network_text.specs.declared.reason.NetworkReason.{NetworkReason}
@@ -10,7 +10,7 @@ use Rattle.lexer.specs.Outcome.{Makes}
 use Rattle.lexer.specs.Numbers.{index_of}
 use Rattle.network_text.specs.Network.{Reading, count_of, lacks, taken_cell}
 use Rattle.network_text.specs.declared.choosing.Second.{Second}
-use Rattle.network_text.specs.Choosing.{ChoosingText, choosing_with, free_layer, further_at, with_fixed, after_escape, second_by, second_of}
+use Rattle.network_text.specs.Choosing.{ChoosingText, choosing_with, free_layer, further_at, with_fixed, has_escape, after_escape, after_own_escape, second_by, second_of}
 
 -- a place of a layer
 pub place_low : (layers cells layer cell size : ℕ) → size ≡ layers * cells → layer < layers → cell < cells → layer * cells + cell < size
@@ -49,9 +49,14 @@ pub place_end : (t : ChoosingText) (cell y layer n : ℕ) → n ≡ 0 → free_l
 place_end t cell y layer n is = ap (free_layer t cell y layer) is
 
 -- a channel that is an escape already
-pub escape_twice : (t : ChoosingText) (y : ℕ) → lacks t.fixed 1 y ≡ None → list_any (λ e. e == y) t.escapes ≡ true
+pub escape_twice : (t : ChoosingText) (y : ℕ) → lacks t.fixed 1 y ≡ None → has_escape t.escapes (record { channel = y; to = None }) ≡ true
     → after_escape t y ≡ Err reason.EscapeTwice
 escape_twice t y there given = rw there (rw given refl)
+
+pub own_escape_twice : (t : ChoosingText) (y j : ℕ) → lacks t.fixed 1 y ≡ None → lacks t.fixed 2 j ≡ None
+    → is_receiver (slice_get t.fixed.table.kinds j) ≡ true → has_escape t.escapes (record { channel = y; to = Some j }) ≡ true
+    → after_own_escape t y j ≡ Err reason.OwnEscapeTwice
+own_escape_twice t y j there end ejects given = rw there (rw end (rw ejects (rw given refl)))
 
 -- a second choice is one where choices are given
 taken_begun : (r : Reading) (x j c : ℕ) → taken_cell r x j ≡ Some c → r.begun ≡ true

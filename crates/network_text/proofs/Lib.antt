@@ -16,6 +16,7 @@ pub mod Without
 pub mod Kept
 pub mod ChoosingWords
 pub mod Layers
+pub mod Own
 pub mod Fixed
 pub mod Placed
 pub mod Tiles

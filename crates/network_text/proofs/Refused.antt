@@ -41,6 +41,7 @@ at_line reason.LinkTwice n = inr refl
 at_line reason.NameTwice n = inr refl
 at_line reason.SameChoice n = inr refl
 at_line reason.EscapeTwice n = inr refl
+at_line reason.OwnEscapeTwice n = inr refl
 at_line reason.LengthTwice n = inr refl
 at_line reason.LengthLimits n = inr refl
 at_line reason.Memory n = inl refl

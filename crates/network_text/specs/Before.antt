@@ -1,6 +1,6 @@
 -- The line of a network text before a refused one that gave already what it gives.
 use Rattle.std.specs.Prelude.{ℕ, ◌&&◌, ◌==◌, Bool, true, false, List, [], ◌∷◌, Option, Some, None}
-use Rattle.std.specs.Prelude.{unwrap_or}
+use Rattle.std.specs.Prelude.{length, unwrap_or}
 use Rattle.lexer.specs.Words.{first_words, line_at}
 use Rattle.lexer.specs.Spelled.{first_index, second_index}
 use Rattle.lexer.specs.Before.{line_that_gives}
@@ -34,11 +34,18 @@ numbers_give (wanted.Router r) Router a b c = a == r
 numbers_give (wanted.Link x) Link a b c = a == x
 numbers_give (wanted.Name x) Name a b c = a == x
 numbers_give (wanted.Same x j y) Next a b c = (a == x) && ((b == j) && (c == y))
-numbers_give (wanted.Escape x) Escape a b c = a == x
 numbers_give _ _ a b c = false
+
+-- whether a line of these words behind `escape` gives what is wanted
+abbrev pub escape_gives : Wanted → List (List ℕ) → Bool
+escape_gives (wanted.Escape x) values = length values == 1 && first_index values == x
+escape_gives (wanted.OwnEscape x j) values =
+    length values == 2 && (first_index values == x && second_index values == j)
+escape_gives _ values = false
 
 -- whether a line of a keyword gives what is wanted
 abbrev pub keyword_gives : Wanted → Keyword → List (List ℕ) → Bool
+keyword_gives w Escape values = escape_gives w values
 keyword_gives w keyword values =
     numbers_give w keyword (first_index values) (second_index values) (third_index values)
 
@@ -69,6 +76,8 @@ wanted_of reason.NameTwice values = Some (wanted.Name (first_index values))
 wanted_of reason.SameChoice values =
     Some (wanted.Same (first_index values) (second_index values) (third_index values))
 wanted_of reason.EscapeTwice values = Some (wanted.Escape (first_index values))
+wanted_of reason.OwnEscapeTwice values =
+    Some (wanted.OwnEscape (first_index values) (second_index values))
 wanted_of _ values = None
 
 -- the number of the first line before the line `stop` that gave what is wanted; 0 where none did

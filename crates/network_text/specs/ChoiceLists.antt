@@ -1,12 +1,13 @@
 -- The lists of a network whose routers choose, as they are judged.
 use Rattle.std.specs.Prelude.{◌≡◌, ℕ, ◌+◌, ◌-◌, ◌<◌, ◌==◌, Bool, true, List, [], ◌∷◌}
-use Rattle.std.specs.Prelude.{length, slice_get, slice_index, if◌then◌else◌}
-use Rattle.std.specs.List.{list_any}
+use Rattle.std.specs.Prelude.{length, slice_get, slice_index, Option, Some, None, if◌then◌else◌}
 use Rattle.network_judge.specs.Table.{is_receiver}
 use Rattle.network_judge.specs.Marks.{is_marked_at}
 use Rattle.network_text.specs.Network.{count_of, cell_of}
 use Rattle.network_text.specs.Lines.{first_lines}
-use Rattle.network_text.specs.Choosing.{ChoosingText, further_at}
+use Rattle.network_text.specs.Choosing.{ChoosingText, further_at, has_escape}
+use Rattle.network_text.specs.declared.choosing.Escape.{Escape}
+use Rattle.network_judge.specs.declared.table.Join.{Join}
 
 -- the choice that comes after so many others, in the order of the text
 abbrev pub listed_choice : ChoosingText → ℕ → ℕ → ℕ
@@ -32,12 +33,23 @@ block_toward t j = if is_receiver (slice_get t.fixed.table.kinds j) then block_o
 abbrev pub choice_list : ChoosingText → List ℕ
 choice_list t = first_lines (block_toward t) (count_of t.fixed)
 
--- whether a channel is an escape: one that a line makes one, and any where no line does
-abbrev pub is_made_escape : List ℕ → ℕ → Bool
+-- whether a channel is an escape for all packets: one that a line makes one, and any where no line is
+-- of escapes
+abbrev pub is_made_escape : List Escape → ℕ → Bool
 is_made_escape [] x = true
-is_made_escape (e ∷ escapes) x = list_any (λ f. f == x) (e ∷ escapes)
+is_made_escape (e ∷ escapes) x = has_escape (e ∷ escapes) (record { channel = x; to = None })
 
--- flags of the escapes
+-- what a line gives of escapes for packets to one ejection channel: a pair of the escape and it
+abbrev pub own_by : ℕ → Option ℕ → List Join → List Join
+own_by y None pairs = pairs
+own_by y (Some j) pairs = record { from = y; to = j } ∷ pairs
+
+-- what all lines give
+abbrev pub own_escapes : List Escape → List Join
+own_escapes [] = []
+own_escapes (e ∷ escapes) = own_by e.channel e.to (own_escapes escapes)
+
+-- flags of the escapes for all packets
 pub record AreEscapesOf (t : ChoosingText) (flags : List Bool) : Type 0 where
   pub size : length flags ≡ count_of t.fixed
   pub each : (x : ℕ) → x < count_of t.fixed → is_marked_at flags x ≡ is_made_escape t.escapes x

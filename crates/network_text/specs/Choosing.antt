@@ -1,8 +1,8 @@
 -- The network text whose routers choose: what each line makes of what the lines before it made, and
 -- what the whole text is (this project's own format).
-use Rattle.std.specs.Prelude.{ℕ, ◌+◌, ◌*◌, ◌==◌, ◌&&◌, Bool, true, false, List, [], ◌∷◌, ◌++◌}
+use Rattle.std.specs.Prelude.{ℕ, ◌+◌, ◌*◌, ◌==◌, ◌&&◌, not, Bool, true, false, List, [], ◌∷◌, ◌++◌}
 use Rattle.std.specs.Prelude.{zero, suc}
-use Rattle.std.specs.Prelude.{length, replicate, slice_index, slice_set, codes}
+use Rattle.std.specs.Prelude.{length, replicate, slice_get, slice_index, slice_set, codes}
 use Rattle.std.specs.Prelude.{Result, Ok, Err, Option, Some, None, option_map, if◌then◌else◌}
 use Rattle.std.specs.List.{list_any}
 use Rattle.std.specs.Str.{bytes_eq}
@@ -13,28 +13,30 @@ use Rattle.lexer.specs.Outcome.{◌>>=◌, then_lines}
 use Rattle.network_text.specs.declared.reason.Keyword.TheVariants as key
 use Rattle.network_text.specs.declared.reason.NetworkReason.{NetworkReason}
 use Rattle.network_text.specs.declared.reason.NetworkReason.TheVariants as reason
-use Rattle.network_text.specs.Shapes.{unless, after_one}
+use Rattle.network_judge.specs.Table.{is_receiver}
+use Rattle.network_text.specs.Shapes.{unless, number_at}
 use Rattle.network_text.specs.Network.{Reading, nothing_read, count_of, lacks, begun, taken_cell}
 use Rattle.network_text.specs.Network.{after_words, NetworkSpec}
 use Rattle.network_text.specs.declared.choosing.Routers.{Routers}
 use Rattle.network_text.specs.declared.choosing.Routers.TheVariants.{OneChoice, AnyChoices}
 use Rattle.network_text.specs.declared.choosing.Second.{Second}
+use Rattle.network_text.specs.declared.choosing.Escape.{Escape}
 
 -- what is read so far: the first choice behind each channel for each ejection channel, as in a text
 -- of fixed routes; so many layers of further choices, each with a place for every first one; and
--- the channels that are escapes
+-- the channels that lines make escapes
 pub record ChoosingText : Type 0 where
   pub fixed : Reading
   pub layers : ℕ
   pub further : List ℕ
-  pub escapes : List ℕ
+  pub escapes : List Escape
 
-abbrev pub choosing_with : Reading → ℕ → List ℕ → List ℕ → ChoosingText
+abbrev pub choosing_with : Reading → ℕ → List ℕ → List Escape → ChoosingText
 choosing_with fixed layers further escapes =
     record { fixed = fixed; layers = layers; further = further; escapes = escapes }
 
 -- whether a list has no entry
-abbrev pub are_none : List ℕ → Bool
+abbrev pub are_none : {A : Type 0} → List A → Bool
 are_none [] = true
 are_none (x ∷ xs) = false
 
@@ -75,11 +77,40 @@ after_further t cell y =
     if slice_index t.fixed.table.choices cell == y then Err reason.SameChoice
     else (free_layer t cell y 0 t.layers >>= λ layer. Ok (put_at t cell y layer))
 
--- a channel is made an escape, once
+-- whether two escapes are for packets to the same ejection channel, or both for all
+abbrev pub is_same_end : Option ℕ → Option ℕ → Bool
+is_same_end None None = true
+is_same_end None (Some j) = false
+is_same_end (Some i) None = false
+is_same_end (Some i) (Some j) = i == j
+
+-- whether a list has this escape
+abbrev pub has_escape : List Escape → Escape → Bool
+has_escape escapes made =
+    list_any (λ (e : Escape). e.channel == made.channel && is_same_end e.to made.to) escapes
+
+-- a channel is made an escape for all packets, once
 abbrev pub after_escape : ChoosingText → ℕ → Result ChoosingText NetworkReason
 after_escape t y = unless (lacks t.fixed 1 y)
-    (if list_any (λ e. e == y) t.escapes then Err reason.EscapeTwice
-    else Ok (choosing_with t.fixed t.layers t.further (t.escapes ++ y ∷ [])))
+    (if has_escape t.escapes (record { channel = y; to = None }) then Err reason.EscapeTwice
+    else Ok (choosing_with t.fixed t.layers t.further
+    (t.escapes ++ record { channel = y; to = None } ∷ [])))
+
+-- it is made one for packets to an ejection channel, once
+abbrev pub after_own_escape : ChoosingText → ℕ → ℕ → Result ChoosingText NetworkReason
+after_own_escape t y j = unless (lacks t.fixed 1 y) (unless (lacks t.fixed 2 j)
+    (if not (is_receiver (slice_get t.fixed.table.kinds j)) then Err (reason.NotEjection 2)
+    else (if has_escape t.escapes (record { channel = y; to = Some j })
+    then Err reason.OwnEscapeTwice
+    else Ok (choosing_with t.fixed t.layers t.further
+    (t.escapes ++ record { channel = y; to = Some j } ∷ [])))))
+
+-- what the words behind `escape` make: one number, or two
+abbrev pub after_escape_words : ChoosingText → List (List ℕ) → Result ChoosingText NetworkReason
+after_escape_words t [] = Err (reason.NumberCount key.Escape)
+after_escape_words t (a ∷ []) = number_at 1 a >>= after_escape t
+after_escape_words t (a ∷ b ∷ []) = number_at 1 a >>= λ y. number_at 2 b >>= after_own_escape t y
+after_escape_words t (a ∷ b ∷ c ∷ more) = Err (reason.NumberCount key.Escape)
 
 -- what a line of a text of fixed routes makes
 abbrev pub with_fixed : ChoosingText → Result Reading NetworkReason
@@ -113,7 +144,7 @@ after_second t words (Some s) = unless (lacks t.fixed 3 s.next) (after_further t
 abbrev pub after_choosing_words : ChoosingText → List (List ℕ) → Result ChoosingText NetworkReason
 after_choosing_words t [] = Ok t
 after_choosing_words t (word ∷ values) =
-    if bytes_eq word (codes "escape") then after_one key.Escape (after_escape t) values
+    if bytes_eq word (codes "escape") then after_escape_words t values
     else (if bytes_eq word (codes "next")
     then after_second t (word ∷ values) (second_of t.fixed values)
     else with_fixed t (after_words t.fixed (word ∷ values)))

@@ -39,6 +39,7 @@ network_fault_of reason.LinkTwice = fault.Setting
 network_fault_of reason.NameTwice = fault.Setting
 network_fault_of reason.SameChoice = fault.Setting
 network_fault_of reason.EscapeTwice = fault.Setting
+network_fault_of reason.OwnEscapeTwice = fault.Setting
 network_fault_of reason.LengthTwice = fault.Setting
 network_fault_of reason.LengthLimits = fault.Range
 network_fault_of reason.Memory = fault.Memory

@@ -2,7 +2,8 @@
 
 ghost use Rattle.std.specs.Prelude.{◌≡◌, map};
 ghost use Rattle.std.specs.Str.Lines.{lines};
-ghost use Rattle.network_text.specs.Before.{numbers_give, keyword_gives, third_index, wanted_of};
+ghost use Rattle.network_text.specs.Before.{numbers_give, escape_gives, keyword_gives};
+ghost use Rattle.network_text.specs.Before.{third_index, wanted_of};
 ghost use Rattle.network_text.specs.Before.{line_giving, earlier_by_words, earlier_line};
 
 use crate::reason::{Keyword, NetworkReason};
@@ -31,8 +32,10 @@ pub(crate) enum Wanted {
     Name(u32),
     /// This choice behind a channel for packets to an ejection channel.
     Same(u32, u32, u32),
-    /// That a channel is an escape.
+    /// That a channel is an escape for all packets.
     Escape(u32),
+    /// That it is one for packets to an ejection channel.
+    OwnEscape(u32, u32),
 }
 
 /// The number that the third of some words spells.
@@ -67,12 +70,28 @@ impl Wanted {
     fn keyword_gives(self, keyword: Keyword, values: &[&[u8]]) -> bool
         ensures { result ≡ keyword_gives self keyword (map (λ value. value.now) values.now) }
     {
-        self.numbers_give(
-            keyword,
-            first_index(values),
-            second_index(values),
-            third_index(values),
-        )
+        match keyword {
+            Keyword::Escape => self.escape_gives(values),
+            _ => self.numbers_give(
+                keyword,
+                first_index(values),
+                second_index(values),
+                third_index(values),
+            ),
+        }
+    }
+
+    /// Whether a line of these words behind `escape` gives it.
+    fn escape_gives(self, values: &[&[u8]]) -> bool
+        ensures { result ≡ escape_gives self (map (λ value. value.now) values.now) }
+    {
+        match self {
+            Wanted::Escape(x) => values.len() == 1 && first_index(values) == x,
+            Wanted::OwnEscape(x, j) => {
+                values.len() == 2 && (first_index(values) == x && second_index(values) == j)
+            }
+            _ => false,
+        }
     }
 
     /// Whether a line of a keyword and these first numbers gives it.
@@ -119,10 +138,7 @@ impl Wanted {
                 Wanted::Name(x) => a == x,
                 _ => false,
             },
-            Keyword::Escape => match self {
-                Wanted::Escape(x) => a == x,
-                _ => false,
-            },
+            Keyword::Escape => false,
         }
     }
 }
@@ -146,6 +162,7 @@ fn wanted_of(reason: NetworkReason, values: &[&[u8]]) -> Option<Wanted>
         NetworkReason::NameTwice => Some(Wanted::Name(a)),
         NetworkReason::SameChoice => Some(Wanted::Same(a, b, third_index(values))),
         NetworkReason::EscapeTwice => Some(Wanted::Escape(a)),
+        NetworkReason::OwnEscapeTwice => Some(Wanted::OwnEscape(a, b)),
         _ => None,
     }
 }

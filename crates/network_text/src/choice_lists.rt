@@ -4,11 +4,12 @@ ghost use Rattle.std.specs.Prelude.{◌≡◌, ◌+◌, ◌*◌, ◌<◌, ◌≤
 ghost use Rattle.network_text.specs.Network.{count_of};
 ghost use Rattle.network_text.specs.ChoosingRead.{choosing_text_of, IsChoosingRead};
 ghost use Rattle.network_text.specs.ChoiceLists.{choice_toward, choice_row, block_toward, choice_list};
-ghost use Rattle.network_text.specs.ChoiceLists.{is_made_escape, AreEscapesOf};
+ghost use Rattle.network_text.specs.ChoiceLists.{is_made_escape, own_escapes, AreEscapesOf};
 ghost use Rattle.network_text.specs.Tiles.{IsTileFor};
 
-use crate::choosing::{Choosing, is_escape};
+use crate::choosing::{Choosing, Escape, has_escape};
 use crate::tile::Tile;
+use network_judge::Join;
 use std::alloc::{AllocError, Allocator};
 
 impl<A: Allocator + Copy> Choosing<A> {
@@ -86,17 +87,17 @@ impl<A: Allocator + Copy> Choosing<A> {
         Ok(out)
     }
 
-    /// Whether a channel is an escape.
+    /// Whether a channel is an escape for all packets.
     fn is_made_escape(&self, channel: u32) -> bool
         ensures { result ≡ is_made_escape self.now.escapes.items channel }
     {
         if self.escapes.is_empty() {
             return true;
         }
-        is_escape(&self.escapes, channel)
+        has_escape(&self.escapes, Escape { channel, to: None })
     }
 
-    /// Flags of the escapes.
+    /// Flags of the escapes for all packets.
     ///
     /// Errors: out of memory.
     pub fn escape_flags(&self, alloc: A) -> Result<Vec<bool, A>, AllocError>
@@ -108,5 +109,23 @@ impl<A: Allocator + Copy> Choosing<A> {
             flags.push(self.is_made_escape(x as u32))?;
         }
         Ok(flags)
+    }
+    /// The escapes for packets to one ejection channel alone, each with it.
+    ///
+    /// Errors: out of memory.
+    pub fn own_escapes(&self, alloc: A) -> Result<Vec<Join, A>, AllocError>
+        ensures { IfOk result (λ v. v.items ≡ own_escapes self.now.escapes.items) }
+    {
+        let mut own = Vec::new(alloc);
+        for k in 0..self.escapes.len() {
+            let escape = self.escapes[k];
+            if let Some(to) = escape.to {
+                own.push(Join {
+                    from: escape.channel as usize,
+                    to: to as usize,
+                })?;
+            }
+        }
+        Ok(own)
     }
 }

@@ -1,10 +1,9 @@
 //! What the lines of a network text gave so far whose routers choose.
 
 ghost use Rattle.std.specs.Prelude.{◌≡◌, ◌<◌, length, map, IfSome};
-ghost use Rattle.std.specs.List.{list_any};
-ghost use Rattle.std.specs.Prelude.{◌==◌};
 ghost use Rattle.network_text.specs.Reading.{reading_of, IsRead};
 ghost use Rattle.network_text.specs.Choosing.{is_fixed, nothing_chosen, second_of};
+ghost use Rattle.network_text.specs.Choosing.{is_same_end, has_escape};
 ghost use Rattle.network_text.specs.ChoosingRead.{choosing_text_of, IsChoosingRead};
 
 use crate::reading::Reading;
@@ -20,6 +19,15 @@ pub enum Routers {
     AnyChoices,
 }
 
+/// A channel that a line makes an escape.
+#[derive(Clone, Copy)]
+pub struct Escape {
+    /// The channel.
+    pub channel: u32,
+    /// The ejection channel that the packets go to; none where it is one for all packets.
+    pub to: Option<u32>,
+}
+
 /// A network as the lines of its text give it.
 #[derive(Drop)]
 pub struct Choosing<A: Allocator = Global> {
@@ -31,7 +39,7 @@ pub struct Choosing<A: Allocator = Global> {
     /// of channels.
     pub further: Vec<u32, A>,
     /// The channels that are made escapes, in the order of the text; none where every channel is one.
-    pub escapes: Vec<u32, A>,
+    pub escapes: Vec<Escape, A>,
 }
 
 /// A choice where another one is given.
@@ -43,16 +51,23 @@ pub struct Second {
     pub next: u32,
 }
 
-/// Whether a channel is among these.
-pub(crate) fn is_escape(escapes: &[u32], channel: u32) -> bool
-    ensures { result ≡ list_any (λ e. e == channel) escapes.now }
+/// Whether two escapes are for packets to the same ejection channel, or both for all.
+fn is_same_end(to: Option<u32>, other: Option<u32>) -> bool
+    ensures { result ≡ is_same_end to other }
 {
-    for escape in escapes {
-        if *escape == channel {
-            return true;
-        }
+    match (to, other) {
+        (None, None) => true,
+        (None, Some(_)) => false,
+        (Some(_), None) => false,
+        (Some(i), Some(j)) => i == j,
     }
-    false
+}
+
+/// Whether a list has this escape.
+pub(crate) fn has_escape(escapes: &[Escape], made: Escape) -> bool
+    ensures { result ≡ has_escape escapes.now made }
+{
+    escapes.iter().any(|escape| escape.channel == made.channel && is_same_end(escape.to, made.to))
 }
 
 /// The choice of the words behind `next`, where another one is given in its place.

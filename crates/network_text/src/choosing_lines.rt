@@ -4,13 +4,13 @@ ghost use Rattle.std.specs.Prelude.{◌≡◌, ◌<◌, ◌≤◌, true, [], len
 ghost use Rattle.lexer.specs.Outcome.{Makes};
 ghost use Rattle.network_text.specs.declared.reason.NetworkReason.{NetworkReason};
 ghost use Rattle.network_text.specs.declared.reason.Keyword.{Keyword};
-ghost use Rattle.network_text.specs.Shapes.{after_one};
 ghost use Rattle.network_text.specs.Network.{after_words};
-ghost use Rattle.network_text.specs.Choosing.{after_choosing_words, after_escape, after_line, after_second};
+ghost use Rattle.network_text.specs.Choosing.{after_choosing_words, after_escape, after_own_escape};
+ghost use Rattle.network_text.specs.Choosing.{after_escape_words, after_line, after_second};
 ghost use Rattle.network_text.specs.Choosing.{free_layer, put_at, second_of, with_fixed};
 ghost use Rattle.network_text.specs.ChoosingRead.{choosing_text_of, IsChoosingRead};
 
-use crate::choosing::{Choosing, Routers, Second, is_escape, second_of};
+use crate::choosing::{Choosing, Escape, Routers, Second, has_escape, second_of};
 use crate::lines::number_at;
 use crate::reason::{Keyword, NetworkReason};
 use std::alloc::{AllocError, Allocator};
@@ -122,7 +122,7 @@ impl<A: Allocator + Copy> Choosing<A> {
         }
     }
 
-    /// Makes a channel an escape.
+    /// Makes a channel an escape for all packets.
     fn take_escape(&mut self, channel: u32) -> Result<(), NetworkReason>
         requires { IsChoosingRead self.old }
         ensures value { Makes NetworkReason.Memory (choosing_text_of self.new) result
@@ -132,20 +132,50 @@ impl<A: Allocator + Copy> Choosing<A> {
         if let Some(reason) = self.fixed.lacks(1, channel as usize) {
             return Err(reason);
         }
-        if is_escape(&self.escapes, channel) {
+        let made = Escape { channel, to: None };
+        if has_escape(&self.escapes, made) {
             return Err(NetworkReason::EscapeTwice);
         }
-        if self.escapes.push(channel).is_err() {
+        if self.escapes.push(made).is_err() {
             return Err(NetworkReason::Memory);
         }
         Ok(())
     }
 
-    /// Takes the number behind `escape`.
+    /// Makes a channel an escape for packets to an ejection channel.
+    fn take_own_escape(&mut self, channel: u32, to: u32) -> Result<(), NetworkReason>
+        requires { IsChoosingRead self.old }
+        ensures value { Makes NetworkReason.Memory (choosing_text_of self.new) result
+            (after_own_escape (choosing_text_of self.old) channel to) }
+        ensures read { OnOk result (IsChoosingRead self.new) }
+    {
+        if let Some(reason) = self.fixed.lacks(1, channel as usize) {
+            return Err(reason);
+        }
+        if let Some(reason) = self.fixed.lacks(2, to as usize) {
+            return Err(reason);
+        }
+        if !self.fixed.ejects(to as usize) {
+            return Err(NetworkReason::NotEjection(2));
+        }
+        let made = Escape {
+            channel,
+            to: Some(to),
+        };
+        if has_escape(&self.escapes, made) {
+            return Err(NetworkReason::OwnEscapeTwice);
+        }
+        if self.escapes.push(made).is_err() {
+            return Err(NetworkReason::Memory);
+        }
+        Ok(())
+    }
+
+    /// Takes the numbers behind `escape`: one, or two.
     fn escape_line(&mut self, values: &[&[u8]]) -> Result<(), NetworkReason>
         requires { IsChoosingRead self.old }
         ensures value { Makes NetworkReason.Memory (choosing_text_of self.new) result
-            (after_one Keyword.Escape (after_escape (choosing_text_of self.old))
+            (after_escape_words (choosing_text_of self.old)
             (map (λ value. value.now) values.now)) }
         ensures read { OnOk result (IsChoosingRead self.new) }
     {
@@ -153,6 +183,11 @@ impl<A: Allocator + Copy> Choosing<A> {
             [a] => match number_at(1, a) {
                 Ok(channel) => self.take_escape(channel),
                 Err(reason) => Err(reason),
+            },
+            [a, b] => match (number_at(1, a), number_at(2, b)) {
+                (Ok(channel), Ok(to)) => self.take_own_escape(channel, to),
+                (Err(reason), _) => Err(reason),
+                (Ok(_), Err(reason)) => Err(reason),
             },
             _ => Err(NetworkReason::NumberCount(Keyword::Escape)),
         }

@@ -76,8 +76,10 @@ pub enum NetworkReason {
     NameTwice,
     /// The choice behind the channel for the ejection channel is given already.
     SameChoice,
-    /// The channel is made an escape already.
+    /// The channel is made an escape for all packets already.
     EscapeTwice,
+    /// The channel is made an escape for packets to the ejection channel already.
+    OwnEscapeTwice,
     /// The number of flits of each packet is given already.
     LengthTwice,
     /// The number of flits of each packet is not 1 to 2147483647.
@@ -119,6 +121,7 @@ impl Reason for NetworkReason {
             NetworkReason::NameTwice => Fault::Setting,
             NetworkReason::SameChoice => Fault::Setting,
             NetworkReason::EscapeTwice => Fault::Setting,
+            NetworkReason::OwnEscapeTwice => Fault::Setting,
             NetworkReason::LengthTwice => Fault::Setting,
             NetworkReason::LengthLimits => Fault::Range,
             NetworkReason::Memory => Fault::Memory,

@@ -79,7 +79,7 @@ fn numbers_text(keyword: Keyword) -> &'static str {
         Keyword::Router => "stand a number, a name of one word, and a place of two numbers or none",
         Keyword::Link => "stand a channel, two routers, and a virtual channel or none",
         Keyword::Name => "stand a channel and one to four words",
-        Keyword::Escape => "stands one channel",
+        Keyword::Escape => "stand a channel, and an ejection channel or none",
     }
 }
 
@@ -118,6 +118,7 @@ fn text_of(reason: NetworkReason) -> &'static str {
         NetworkReason::NameTwice => "name B: it is given at line N already",
         NetworkReason::SameChoice => "next B C W: it is given at line N already",
         NetworkReason::EscapeTwice => "escape B: it is given at line N already",
+        NetworkReason::OwnEscapeTwice => "escape B C: it is given at line N already",
         NetworkReason::LengthTwice => "length: it is given at line N already",
         NetworkReason::LengthLimits => "length B: packets have 1 to 2147483647 flits",
         NetworkReason::Memory => "a request for memory was refused while it was read",

@@ -4,6 +4,7 @@ use Rattle.std.proofs.lemmas.Bool.Decides.{nat_tests}
 use Rattle.network_text.specs.Reading.{IsRead, reading_of}
 use Rattle.network_text.specs.ChoiceLists.{choice_list}
 use Rattle.network_text.specs.ChoosingRead.{choosing_text_of}
+use Rattle.network_text.specs.declared.choosing.Escape.{Escape}
 use Rattle.network_text.specs.Choosing.{are_none}
 use Rattle.network_answer.specs.Causes.{escape_words, judged_causes}
 use Rattle.network_answer.specs.Routing.{judgement_text, has_circuit, may_text, can_go_on}
@@ -68,7 +69,7 @@ returns g c =
       rising = c.never_locks_up-rising.ensures;
       causes = c.in_ok-causes.ensures
           ∙ (ap (λ e. escape_words (are_none e) ++ judged_causes (reading_of c.judgement_of.new.network.fixed) judged)
-          (c.deref-7.ensures.value ∙ ap (λ (e : Vec ℕ g.row.A.Denot). e.items) c.in_ok-it.ensures.escapes)
+          (c.deref-7.ensures.value ∙ ap (λ (e : Vec Escape g.row.A.Denot). e.items) c.in_ok-it.ensures.escapes)
           ∙ ap (λ f. escape_words (are_none n.escapes.items) ++ judged_causes (reading_of f) judged) c.in_ok-it.ensures.fixed);
       kinds = c.in_ok-kinds.ensures.items ∙ (c.deref-8.ensures.value ∙ ap (λ f. (reading_of f).table.kinds) c.in_ok-it.ensures.fixed);
     })
