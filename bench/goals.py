@@ -35,6 +35,7 @@ GOALS = (
     ("`model --model rvwmo`, times plain Rust, in processor time", "models", r"\| RISC-V", -1, MOST, 1.5),
     ("`steps`, times `round`", "schedules", r"\| `steps`", -1, MOST, 1.5),
     ("`round --clocked`, times `round`", "schedules", r"\| `round --clocked`", -1, MOST, 1.5),
+    ("`network --explain` on a refused text, times `network`", "refusals", r"\| `network --explain`", -1, MOST, 1.1),
     ("a step by a call from C, times one inside", "library", r"\| (an attempt|a move)", 3, MOST, 1.3),
     ("memory of a machine before its operations, times that before", "memory", r"\| 64 tiles", -1, MOST, 0.5),
 )

@@ -3,9 +3,9 @@ use Rattle.std.proofs.Common.{◌≡◌, ◌⊎◌, ⊎_elim, inl, inr, refl, �
 use Rattle.std.proofs.Common.{slice_get}
 use Rattle.std.specs.Prelude.{nat_lt, not, Result, Ok, Err, ok_or, if◌then◌else◌}
 use Rattle.std.specs.List.{slice_index_or}
-use Rattle.script.specs.declared.fault.LineFault.{LineFault}
+use Rattle.lexer.specs.declared.fault.LineFault.{LineFault}
 use Rattle.lexer.specs.Outcome.{line_of_fault}
-use Rattle.script.specs.Outcome.{then_lines}
+use Rattle.lexer.specs.Faults.{then_lines}
 use Rattle.trace_laws.specs.declared.event.Event.{Event}
 use Rattle.torus.specs.declared.fault.Fault.{Fault}
 use Rattle.torus.specs.declared.fault.Fault.TheVariants as fault

@@ -15,8 +15,8 @@ use Rattle.packet.specs.Kinds.{code_of, is_store}
 use Rattle.trace_laws.specs.declared.event.Event.{Event}
 use Rattle.trace_laws.specs.declared.event.Event.TheVariants.{Issue, Answer}
 use Rattle.lexer.specs.Outcome.{◌>>=◌}
-use Rattle.script.specs.declared.fault.LineFault.{LineFault}
-use Rattle.script.specs.Outcome.{then_lines}
+use Rattle.lexer.specs.declared.fault.LineFault.{LineFault}
+use Rattle.lexer.specs.Faults.{then_lines}
 use Rattle.trace_text.specs.IssueNumbers.{no_numbers, numbers_of, with_number}
 use Rattle.c_handles.specs.declared.record.EventRecord.{EventRecord}
 use Rattle.c_handles.specs.Numbered.{op_numbered, reply_numbered}

@@ -3,7 +3,7 @@
 ghost use Rattle.std.specs.Prelude.{◌≡◌};
 ghost use Rattle.lexer.specs.Outcome.{line_of_fault};
 
-use script::LineFault;
+use lexer::LineFault;
 use torus::Fault;
 
 /// A fault that was found at the record of a place; `Fault::Memory` at 0.

@@ -1,14 +1,14 @@
 //! The trace that records are.
 
 ghost use Rattle.std.specs.Prelude.{◌≡◌, ◌<◌, IfOk, Some, length, slice_get};
-ghost use Rattle.script.specs.Outcome.{Gives};
+ghost use Rattle.lexer.specs.Faults.{Gives};
 ghost use Rattle.trace_laws.specs.Traces.{IsTrace};
 ghost use Rattle.c_handles.specs.Gathered.{trace_of_records};
 
 use crate::fault::fault_at;
 use crate::gathering::Gathering;
 use crate::record::EventRecord;
-use script::LineFault;
+use lexer::LineFault;
 use std::alloc::Allocator;
 use torus::Fault;
 use trace_laws::Event;

@@ -5,7 +5,7 @@ use Rattle.torus.specs.Shape.{Shape, dims_of, tiles_of}
 use Rattle.torus.specs.declared.fault.Fault.{Fault}
 use Rattle.torus.specs.declared.fault.Fault.TheVariants as fault
 use Rattle.lexer.specs.Words.{begins_comment}
-use Rattle.script.specs.Outcome.{◌>>=◌}
+use Rattle.lexer.specs.Outcome.{◌>>=◌}
 use Rattle.script.specs.Scripts.{line_for}
 use Rattle.script.specs.Settings.{an_index}
 use Rattle.command_live.specs.Step.{step_asked}

@@ -6,8 +6,8 @@ ghost use Rattle.command_live.specs.Text.{told_text, yes_or_no};
 use crate::told::Told;
 use arrayvec::ArrayString;
 use itoa::Buffer;
+use lexer::LineFault;
 use packet::Reply;
-use script::LineFault;
 
 /// The text of an answer, with its line feed.
 pub type ToldText = ArrayString<96>;

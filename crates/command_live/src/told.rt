@@ -1,5 +1,5 @@
+use lexer::LineFault;
 use packet::Reply;
-use script::LineFault;
 use torus::Fault;
 
 /// What is answered to a line of a dialogue, but for a report.

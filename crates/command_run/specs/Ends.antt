@@ -1,6 +1,6 @@
 -- What whoever is shown the end of a run by workers gets to see (this project's own format).
 use Rattle.std.specs.Prelude.{◌≡◌, ℕ, List, Bool, Result, Ok}
-use Rattle.script.specs.declared.fault.LineFault.{LineFault}
+use Rattle.lexer.specs.declared.fault.LineFault.{LineFault}
 use Rattle.one_order.specs.Load.{Load}
 use Rattle.core_laws.specs.Machine.{Core, core_after_load}
 use Rattle.report_lines.specs.Line.{text_of}

@@ -8,7 +8,7 @@ use Rattle.torus.specs.declared.step.Step.{Step}
 use Rattle.torus.specs.Shape.{Shape, IsAccepted, tiles_of, dims_of}
 use Rattle.lexer.specs.Words.{words_of as cut}
 use Rattle.script_lines.specs.Machine.{MachineSpec}
-use Rattle.script.specs.Outcome.{by_fault}
+use Rattle.lexer.specs.Faults.{by_fault}
 use Rattle.script.specs.Reasons.{fault_of}
 use Rattle.script.specs.Steps.{after_words, steps_from, steps_of}
 use Rattle.command_schedule.specs.declared.line.ScheduleLine.{ScheduleLine}

@@ -1,7 +1,7 @@
 -- What is loaded for three texts, before the first step (this project's own format).
 use Rattle.std.specs.Prelude.{◌≡◌, List, [], Result, Ok}
 use Rattle.torus.specs.declared.step.Step.{Step}
-use Rattle.script.specs.declared.fault.LineFault.{LineFault}
+use Rattle.lexer.specs.declared.fault.LineFault.{LineFault}
 use Rattle.core_laws.specs.Machine.{Core, IsAfter}
 use Rattle.machine_core.specs.Run.{AskedRun}
 

@@ -2,7 +2,7 @@
 use Rattle.std.specs.Prelude.{◌≡◌, ℕ, zero, suc, ◌≤◌, ◌%◌, Bool, true, false, List, [], ◌∷◌, filter, length, Result, Ok}
 use Rattle.std.specs.Prelude.{Option, Some, None, IfSome, is_some, slice_get, unwrap_or}
 use Rattle.torus.specs.declared.step.Step.{Step}
-use Rattle.script.specs.declared.fault.LineFault.{LineFault}
+use Rattle.lexer.specs.declared.fault.LineFault.{LineFault}
 use Rattle.one_order.specs.Load.{Load}
 use Rattle.core_laws.specs.Core.{step, round}
 use Rattle.core_laws.specs.ProgressMoves.{most_moves}

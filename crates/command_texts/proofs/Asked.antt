@@ -1,7 +1,7 @@
 -- What three texts ask for, and the report of it.
 use Rattle.std.proofs.Common.{◌≡◌, ℕ, List, Bool, Result, Ok, Err, refl, ap, subst, ◌∙◌}
 use Rattle.torus.specs.declared.step.Step.{Step}
-use Rattle.script.specs.declared.fault.LineFault.{LineFault}
+use Rattle.lexer.specs.declared.fault.LineFault.{LineFault}
 use Rattle.script_lines.specs.Machine.{MachineSpec}
 use Rattle.script.specs.Machine.{machine_of}
 use Rattle.script_lines.specs.Lines.{ScriptsSpec}

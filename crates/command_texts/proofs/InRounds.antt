@@ -1,7 +1,7 @@
 -- The report of a machine that has made rounds.
 use Rattle.std.proofs.Common.{◌≡◌, ℕ, List, Bool, Result, Ok, refl}
 use Rattle.torus.specs.declared.step.Step.{Step}
-use Rattle.script.specs.declared.fault.LineFault.{LineFault}
+use Rattle.lexer.specs.declared.fault.LineFault.{LineFault}
 use Rattle.one_order.specs.Load.{Load}
 use Rattle.core_laws.specs.Machine.{Core, IsAfter, core_after_load}
 use Rattle.machine_core.specs.Loading.{HasLoaded}

@@ -1,7 +1,7 @@
 -- Whoever watches a run in rounds hears of one round after the other, and of the end; of a list of steps, of its end.
 use Rattle.std.proofs.Common.{◌≡◌, ℕ, suc, ◌+◌, ◌-◌, ◌++◌, List, [], ◌∷◌, Bool, Result, Ok, Err, refl, sym, ap, subst, arith, inl, inr, append_assoc, append-nil}
 use Rattle.torus.specs.declared.step.Step.{Step}
-use Rattle.script.specs.declared.fault.LineFault.{LineFault}
+use Rattle.lexer.specs.declared.fault.LineFault.{LineFault}
 use Rattle.one_order.specs.Load.{Load}
 use Rattle.core_laws.specs.ProgressMoves.{most_moves, moves_made}
 use Rattle.core_laws.specs.Machine.{Core, IsAfter, core_after_load}

@@ -1,7 +1,7 @@
 -- What whoever is shown the end of a run by steps or in rounds gets to see (this project's own
 -- format).
 use Rattle.std.specs.Prelude.{◌≡◌, ℕ, List, Bool, Result, Ok}
-use Rattle.script.specs.declared.fault.LineFault.{LineFault}
+use Rattle.lexer.specs.declared.fault.LineFault.{LineFault}
 use Rattle.one_order.specs.Load.{Load}
 use Rattle.core_laws.specs.Machine.{Core}
 use Rattle.report_lines.specs.Line.{text_of}

@@ -1,7 +1,7 @@
 -- What two texts ask for that is run in rounds, and what is printed of it (this project's own
 -- format).
 use Rattle.std.specs.Prelude.{◌≡◌, ℕ, List, Bool, Result, Ok}
-use Rattle.script.specs.declared.fault.LineFault.{LineFault}
+use Rattle.lexer.specs.declared.fault.LineFault.{LineFault}
 use Rattle.one_order.specs.Load.{Load}
 use Rattle.core_laws.specs.Machine.{Core, IsAfter}
 use Rattle.fair_rounds.specs.declared.pacing.Pace.{Pace}

@@ -1,7 +1,7 @@
 -- What the three texts of a run ask for, and what is printed of it (this project's own format).
 use Rattle.std.specs.Prelude.{◌≡◌, ℕ, List, Bool, Result, Ok, IsTrue, ◌↔◌, length}
 use Rattle.torus.specs.declared.step.Step.{Step}
-use Rattle.script.specs.declared.fault.LineFault.{LineFault}
+use Rattle.lexer.specs.declared.fault.LineFault.{LineFault}
 use Rattle.one_order.specs.Load.{Load}
 use Rattle.core_laws.specs.Core.{run_of}
 use Rattle.core_laws.specs.ProgressMoves.{moves_made}

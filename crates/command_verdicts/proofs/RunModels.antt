@@ -4,7 +4,7 @@ use Rattle.std.specs.Prelude.{Result, Ok, Err}
 use Rattle.torus.specs.declared.fault.Fault.TheVariants as fault
 use Rattle.script_lines.specs.Machine.{MachineSpec}
 use Rattle.script.specs.Machine.{machine_of}
-use Rattle.script.specs.Outcome.{fault_of_refusal}
+use Rattle.lexer.specs.Faults.{fault_of_refusal}
 use Rattle.script_lines.specs.Lines.{ScriptsSpec}
 use Rattle.script.specs.Scripts.{scripts_of}
 use Rattle.model_text.specs.Reasons.{log_fault_of}

@@ -3,7 +3,7 @@ use Rattle.std.specs.Prelude.{◌≡◌, ◌⊎◌, ℕ, List, Result, Ok, Err}
 use Rattle.std.specs.Str.Lines.{lines}
 use Rattle.std.proofs.Common.{inl, inr, refl, subst, sym}
 use Rattle.torus.specs.declared.fault.Fault.TheVariants as fault
-use Rattle.script.specs.declared.fault.LineFault.{LineFault}
+use Rattle.lexer.specs.declared.fault.LineFault.{LineFault}
 use Rattle.program_fault.specs.declared.fault.ProgramFault.{ProgramFault}
 use Rattle.program_fault.specs.declared.fault.ProgramFault.TheVariants as program
 use Rattle.program_fault.specs.Done.{Output, Does, Refused}

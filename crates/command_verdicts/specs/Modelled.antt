@@ -5,7 +5,7 @@ use Rattle.torus.specs.declared.fault.Fault.TheVariants as fault
 use Rattle.report_check.specs.Good.{FirstBad}
 use Rattle.report_model.specs.declared.answer.NoReportAnswer.TheVariants.{NoOrder, Unjudged}
 use Rattle.report_model.specs.Answers.{HasNoRunAnswer, IsAnswerToReport}
-use Rattle.script.specs.declared.fault.LineFault.{LineFault}
+use Rattle.lexer.specs.declared.fault.LineFault.{LineFault}
 use Rattle.model_answer.specs.declared.answer.NoAnswer.TheVariants.{Refused, Wrong as WrongAnswer}
 use Rattle.lexer.specs.declared.refusal.Refusal.{Refusal}
 use Rattle.model_text.specs.declared.reason.LogReason.{LogReason}
@@ -14,7 +14,7 @@ use Rattle.model_text.specs.Reasons.{log_fault_of}
 use Rattle.model_answer.specs.declared.answer.Answer.{Answer}
 use Rattle.model_answer.specs.declared.answer.Options.{Options}
 use Rattle.model_answer.specs.Answer.{IsAnswerTo, IsWrongIn}
-use Rattle.script.specs.Outcome.{by_fault, fault_of_refusal}
+use Rattle.lexer.specs.Faults.{by_fault, fault_of_refusal}
 use Rattle.program_fault.specs.declared.fault.ProgramFault.{ProgramFault}
 use Rattle.program_fault.specs.declared.fault.ProgramFault.TheVariants as program
 use Rattle.program_fault.specs.Done.{Does, Output}

@@ -10,6 +10,7 @@ use Rattle.network_answer.specs.Routing.{TellsRouting}
 use Rattle.program_fault.specs.declared.fault.ProgramFault.{ProgramFault}
 use Rattle.program_fault.specs.declared.fault.ProgramFault.TheVariants as program
 use Rattle.program_fault.specs.Done.{Does, Output}
+use Rattle.torus.specs.declared.fault.Fault.TheVariants as fault
 
 -- a text is that of an answer, what is judged of the network that the lines of a text give, of fixed
 -- routes or of routers that choose, and why it is so
@@ -60,6 +61,14 @@ IsRoutingFault lines _ = ⊥
 abbrev pub IsNetworkFault : List (List ℕ) → ProgramFault → Type 0
 IsNetworkFault lines (program.Line found) = network_of lines ≡ Err found
 IsNetworkFault lines _ = ⊥
+
+-- the network of a text of these lines, of fixed routes or of routers that choose, was judged; or the
+-- text has a fault, or memory was refused
+abbrev pub AnswersRead : {A : Type 0} → List (List ℕ) → Result (Answer A) ProgramFault → Type 0
+AnswersRead lines (Ok answer) =
+    (n : Routing) × (routing_of lines ≡ Ok n) × TellsRouting n answer
+AnswersRead lines (Err (program.Fault which)) = which ≡ fault.Memory
+AnswersRead lines (Err e) = IsRoutingFault lines e
 
 -- the verdict on a network was printed, with which it is answered why it is so
 abbrev pub AnswersNetwork : (A : Type 0) → List (List ℕ) → Output → Output

@@ -2,10 +2,10 @@
 use Rattle.std.specs.Prelude.{◌≡◌, ◌⊎◌, List, [], ℕ, Bool, true, Result, Ok, Err}
 use Rattle.torus.specs.declared.fault.Fault.TheVariants as fault
 use Rattle.lexer.specs.declared.refusal.Refusal.{Refusal}
-use Rattle.script.specs.declared.fault.LineFault.{LineFault}
+use Rattle.lexer.specs.declared.fault.LineFault.{LineFault}
 use Rattle.script_lines.specs.Machine.{MachineSpec}
 use Rattle.script.specs.Machine.{machine_of}
-use Rattle.script.specs.Outcome.{fault_of_refusal}
+use Rattle.lexer.specs.Faults.{fault_of_refusal}
 use Rattle.script_lines.specs.Lines.{ScriptsSpec}
 use Rattle.script.specs.Scripts.{scripts_of}
 use Rattle.report_check.specs.Good.{FirstBad}

@@ -1,6 +1,6 @@
 -- What the command prints that judges a log by its replies alone (this project's own format).
 use Rattle.std.specs.Prelude.{◌≡◌, ℕ, List, [], Result, Err}
-use Rattle.script.specs.Outcome.{by_fault}
+use Rattle.lexer.specs.Faults.{by_fault}
 use Rattle.model_text.specs.Reasons.{log_fault_of}
 use Rattle.model_answer.specs.declared.model.MemoryModel.{MemoryModel}
 use Rattle.model_replies.specs.declared.answer.NoValueAnswer.TheVariants as none

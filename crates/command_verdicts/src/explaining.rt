@@ -12,7 +12,7 @@ use model_replies::read_values;
 use model_text::{LogReason, read_log};
 use network_rounds::TrafficSentence;
 use network_run::{RunSentence, replay_text};
-use network_text::{NetworkSentence, read_network, routing_sentence};
+use network_text::{NetworkReason, NetworkSentence, read_network, routing_sentence};
 use network_traffic::read_packets;
 use program_fault::{
     Kind, Names, ProgramFault, Texts, explain, explain_by, is_of_texts, named, told,
@@ -38,6 +38,28 @@ fn choosing_line(fault: &ProgramFault, sentence: &Option<NetworkSentence<'_>>) -
     }
 }
 
+/// Says why the text of a network has the fault that the command answers, by where and why it is refused;
+/// where it isn't, and memory was refused, that this was behind the text.
+pub fn explain_refused<R: Eprint>(
+    rt: &R,
+    name: &str,
+    network: &[u8],
+    fault: &ProgramFault,
+    refusal: Option<Refusal<NetworkReason>>,
+) {
+    if is_of_texts(fault) {
+        let sentence = refusal.map(|refusal| NetworkSentence {
+            name,
+            text: network,
+            refusal,
+        });
+        explain_by(rt, fault, sentence);
+        if begins_anynet(network) {
+            let _ = eprintln!(rt; "tools/network from-booksim {name} makes a network text of it");
+        }
+    }
+}
+
 /// Says why the text of a network has the fault that the command answers, where that can be found.
 pub fn explain_network<R: Eprint + AllocGlobal>(
     rt: &R,
@@ -49,12 +71,8 @@ pub fn explain_network<R: Eprint + AllocGlobal>(
         let sentence = routing_sentence(rt.alloc(), named(name, network));
         match choosing_line(fault, &sentence) {
             None => {
-                explain_by(rt, fault, sentence);
-                if begins_anynet(network) {
-                    let _ = eprintln!(rt;
-                        "tools/network from-booksim {name} makes a network text of it"
-                    );
-                }
+                let refusal = sentence.map(|sentence| sentence.refusal);
+                explain_refused(rt, name, network, fault, refusal);
             }
             Some(line) => {
                 let _ = eprintln!(rt;

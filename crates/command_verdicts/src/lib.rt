@@ -23,8 +23,8 @@ pub mod watched_table;
 
 pub use command::{Judged, linearize_text};
 pub use explaining::{
-    explain_models, explain_network, explain_no_order, explain_other_run, explain_replay,
-    explain_run_models, explain_simulation, explain_trace, explain_values,
+    explain_models, explain_network, explain_no_order, explain_other_run, explain_refused,
+    explain_replay, explain_run_models, explain_simulation, explain_trace, explain_values,
 };
 pub use explaining_network::explain_verdict;
 pub use hints::begins_table;

@@ -7,13 +7,13 @@ ghost use Rattle.command_verdicts.specs.Modelled.{PrintsModels, PrintsModelsOfRe
 ghost use Rattle.command_verdicts.specs.Modelled.{is_report_text};
 ghost use Rattle.command_verdicts.specs.Modelled.{options_of};
 
+use lexer::LineFault;
 use model_answer::{NoAnswer, Obeys, Options, WeakAnswer, model_answer};
 use model_text::WrongReply;
 use program_fault::ProgramFault;
 use report_lines::Out;
 use report_lines::output::put_all;
 use report_model::{NoReportAnswer, answer_to_report};
-use script::LineFault;
 use std::alloc::Allocator;
 use torus::Fault;
 

@@ -2,13 +2,18 @@
 
 ghost use Rattle.std.specs.Prelude.{◌≡◌, IfOk, IfErr};
 ghost use Rattle.std.specs.Str.Lines.{lines};
+ghost use Rattle.network_text.specs.Choosing.{text_or_why};
 ghost use Rattle.program_fault.specs.Done.{output};
+ghost use Rattle.program_fault.specs.Refused.{by_fault_alone, IsRefusalOf};
 ghost use Rattle.command_verdicts.specs.Printed.{is_chosen, named_text};
-ghost use Rattle.command_verdicts.specs.Printed.{AnswersNamed, AnswersNetwork, PrintsNetwork};
+ghost use Rattle.command_verdicts.specs.Printed.{AnswersNamed, AnswersNetwork, AnswersRead, PrintsNetwork};
 
-use network_answer::{Answer, Cause, routing_answer, routing_answer_once};
+use network_answer::{Answer, Cause, answered_routing, routing_answer_once};
 use network_names::named_verdict;
-use program_fault::ProgramFault;
+use network_text::NetworkReason;
+use network_text::choosing::Routers;
+use network_text::choosing_text::read_text_or_why;
+use program_fault::{ProgramFault, Refused};
 use report_lines::Out;
 use report_lines::output::put_all;
 use std::alloc::Allocator;
@@ -17,6 +22,21 @@ use torus::Fault;
 /// Routers and channels have numbers below this.
 const MOST_NUMBERS: usize = 65536;
 
+/// Reads the text of a network, and judges the network.
+///
+/// Errors: where and why the text is refused, or out of memory.
+fn judged<A: Allocator + Copy>(
+    alloc: A,
+    network: &[u8],
+) -> Result<Answer<A>, Refused<NetworkReason>>
+    ensures value { AnswersRead (lines network.now) (by_fault_alone result) }
+    ensures why { IfErr result (IsRefusalOf NetworkReason.Memory
+        (text_or_why Routers.AnyChoices (lines network.now))) }
+{
+    let read = read_text_or_why(alloc, network, Routers::AnyChoices)?;
+    Ok(answered_routing(alloc, read)?)
+}
+
 /// Judges the network of a text, and prints the verdict: the numbers of its channels if they can rise, so
 /// that it never deadlocks; or the first pair without a route; or a cycle of channels, and behind it the
 /// channels that fill up where the network deadlocks. Where routers choose among several channels,
@@ -24,17 +44,20 @@ const MOST_NUMBERS: usize = 65536;
 /// channel without an escape, or the first choice that can't stand. Answers with what was printed, whether
 /// the numbers rise, and why the verdict is so.
 ///
-/// Errors: the text's first fault, or out of memory; and nothing was written then. If the output
-/// fails, a beginning was written.
+/// Errors: the text's first fault, with where and why the text is refused, or out of memory; and nothing
+/// was written then. If the output fails, a beginning was written.
 pub fn network_text<A: Allocator + Copy, W: Out>(
     alloc: A,
     network: &[u8],
     out: &mut W,
-) -> Result<Answer<A>, ProgramFault>
-    ensures { AnswersNetwork A (lines network.now) (output (W.taken out.old) (W.failures out.old))
-        (output (W.taken out.new) (W.failures out.new)) result }
+) -> Result<Answer<A>, Refused<NetworkReason>>
+    ensures value { AnswersNetwork A (lines network.now)
+        (output (W.taken out.old) (W.failures out.old))
+        (output (W.taken out.new) (W.failures out.new)) (by_fault_alone result) }
+    ensures why { IfErr result (IsRefusalOf NetworkReason.Memory
+        (text_or_why Routers.AnyChoices (lines network.now))) }
 {
-    let answer = routing_answer(alloc, network)?;
+    let answer = judged(alloc, network)?;
     put_all(out, &answer.text)?;
     Ok(answer)
 }
@@ -72,17 +95,20 @@ fn named_text<A: Allocator + Copy>(
 /// Prints the verdict on the network of a text as `network_text` does, and behind each number of a channel
 /// what the text calls it. Answers as that does.
 ///
-/// Errors: the text's first fault, or out of memory; and nothing was written then. If the output
-/// fails, a beginning was written.
+/// Errors: the text's first fault, with where and why the text is refused, or out of memory; and nothing
+/// was written then. If the output fails, a beginning was written.
 pub fn named_network_text<A: Allocator + Copy, W: Out>(
     alloc: A,
     network: &[u8],
     out: &mut W,
-) -> Result<Answer<A>, ProgramFault>
-    ensures { AnswersNamed A (lines network.now) (output (W.taken out.old) (W.failures out.old))
-        (output (W.taken out.new) (W.failures out.new)) result }
+) -> Result<Answer<A>, Refused<NetworkReason>>
+    ensures value { AnswersNamed A (lines network.now)
+        (output (W.taken out.old) (W.failures out.old))
+        (output (W.taken out.new) (W.failures out.new)) (by_fault_alone result) }
+    ensures why { IfErr result (IsRefusalOf NetworkReason.Memory
+        (text_or_why Routers.AnyChoices (lines network.now))) }
 {
-    let answer = routing_answer(alloc, network)?;
+    let answer = judged(alloc, network)?;
     let text = named_text(alloc, network, &answer)?;
     put_all(out, &text)?;
     Ok(answer)

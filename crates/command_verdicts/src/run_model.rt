@@ -7,12 +7,13 @@ ghost use Rattle.command_verdicts.specs.RunModelled.{PrintsModelsOfRun, PrintsMo
 ghost use Rattle.command_verdicts.specs.RunModelled.{unanswered};
 
 use crate::{AskedModels, Modelled};
+use lexer::LineFault;
 use model_answer::{NoAnswer, Options};
 use program_fault::ProgramFault;
 use report_lines::Out;
 use report_lines::output::put_all;
 use report_model::{NoReportAnswer, NoTextsAnswer, answer_to_report_of};
-use script::{LineFault, MachineText, Scripts, read_machine, read_scripts};
+use script::{MachineText, Scripts, read_machine, read_scripts};
 use std::alloc::Allocator;
 use torus::Fault;
 

@@ -9,13 +9,13 @@ ghost use Rattle.command_verdicts.specs.SmallLogs.{PrintsUnbroken, text_unless};
 
 use crate::model::{AskedModels, Modelled, is_report, report_models_text};
 use crate::smallest::tell_left;
+use lexer::LineFault;
 use model_answer::{
     AskedModel, NoAnswer, Options, SmallLogText, model_answer, smallest_answer, weakest_told,
 };
 use program_fault::ProgramFault;
 use report_lines::Out;
 use report_lines::output::put_all;
-use script::LineFault;
 use state_search::Ending;
 use state_search::parts::kept_count;
 use std::alloc::{Allocator, Global};

@@ -5,13 +5,13 @@ ghost use Rattle.std.specs.Str.Lines.{lines};
 ghost use Rattle.program_fault.specs.Done.{output};
 ghost use Rattle.command_verdicts.specs.Valued.{PrintsDecisions, decided_status};
 
+use lexer::LineFault;
 use model_answer::MemoryModel;
 use model_replies::{Decision, Decisions, NoValueAnswer, ValueOptions, value_answer};
 use model_text::Logged;
 use program_fault::ProgramFault;
 use report_lines::Out;
 use report_lines::output::put_all;
-use script::LineFault;
 use std::alloc::Allocator;
 use torus::Fault;
 

@@ -5,9 +5,8 @@ ghost use Rattle.command_verdicts.specs.Watched.{line_fault_of, watched_verdict}
 
 use crate::Judged;
 use command_watch::{End, Stop};
-use lexer::Reason;
+use lexer::{LineFault, Reason};
 use program_fault::ProgramFault;
-use script::LineFault;
 use torus::Fault;
 
 /// A fault of the line of a number.

@@ -6,6 +6,7 @@ pub mod First
 pub mod Lengths
 pub mod Neighbours
 pub mod Rings
+pub mod Stepped
 pub mod Tiles
 pub mod Walks
 mod WrongOnes

@@ -1,7 +1,7 @@
 //! One hop at a time: what a router does with a packet.
 
-ghost use Rattle.std.specs.Prelude.{◌≡◌, ◌<◌};
-ghost use Rattle.torus.specs.Shape.{tiles_of, dims_of};
+ghost use Rattle.std.specs.Prelude.{◌≡◌, ◌<◌, ℕ};
+ghost use Rattle.torus.specs.Shape.{digit_of, tiles_of, dims_of};
 ghost use Rattle.dateline_route.specs.Next.{came_on_one, is_dateline_hop, hop_to, next_of};
 
 use crate::ring::{dateline_out_of, shorter_way};
@@ -29,13 +29,13 @@ pub(crate) fn is_dateline_hop(torus: &Torus, at: u32, dim: u32, dir: Dir) -> boo
     torus.digit(at, dim) == dateline_out_of(dir, torus.radix_of(dim), torus.dateline_of(dim))
 }
 
-/// The hop out of tile `at` in this dimension and direction, with its bit.
-fn hop_to(torus: &Torus, at: u32, came: Input, dim: u32, dir: Dir) -> Output
-    requires tile { at < tiles_of torus.now }
+/// The hop in this dimension and direction, with its bit, out of a tile whose digit there is `here`.
+fn hop_to(torus: &Torus, here: u32, came: Input, dim: u32, dir: Dir) -> Output
     requires dimension { dim < dims_of torus.now }
-    ensures { result ≡ hop_to torus.now at came dim dir }
+    ensures { (t : ℕ) → digit_of torus.now t dim ≡ here → result ≡ hop_to torus.now t came dim dir }
 {
-    let bit = is_dateline_hop(torus, at, dim, dir) || came.came_on_one(dim);
+    let dateline = dateline_out_of(dir, torus.radix_of(dim), torus.dateline_of(dim));
+    let bit = here == dateline || came.came_on_one(dim);
     Output::Hop { dim, dir, bit }
 }
 
@@ -48,13 +48,17 @@ pub fn next(torus: &Torus, at: u32, came: Input, dst: u32, _class: Class) -> Out
     requires dst { dst < tiles_of torus.now }
     ensures { result ≡ next_of torus.now at came dst }
 {
+    let mut here = at;
+    let mut there = dst;
     for dim in 0..torus.dims() {
-        let here = torus.digit(at, dim);
-        let there = torus.digit(dst, dim);
-        if here != there {
-            let dir = shorter_way(torus.radix_of(dim), here, there);
-            return hop_to(torus, at, came, dim, dir);
+        let radix = torus.radix_of(dim);
+        let from = here % radix;
+        let to = there % radix;
+        if from != to {
+            return hop_to(torus, from, came, dim, shorter_way(radix, from, to));
         }
+        here /= radix;
+        there /= radix;
     }
     Output::Eject
 }

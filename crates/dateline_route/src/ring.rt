@@ -12,9 +12,14 @@ pub(crate) fn hops_by(dir: Dir, radix: u32, from: u32, to: u32) -> u32
     requires small { radix ≤ 8 }
     ensures { result ≡ hops_by dir radix from to }
 {
-    match dir {
-        Dir::Plus => (to + (radix - from)) % radix,
-        Dir::Minus => (from + (radix - to)) % radix,
+    let (behind, before) = match dir {
+        Dir::Plus => (from, to),
+        Dir::Minus => (to, from),
+    };
+    if behind <= before {
+        before - behind
+    } else {
+        before + (radix - behind)
     }
 }
 
@@ -40,6 +45,7 @@ pub(crate) fn dateline_out_of(dir: Dir, radix: u32, dateline: u32) -> u32
 {
     match dir {
         Dir::Plus => dateline,
-        Dir::Minus => (dateline + 1) % radix,
+        Dir::Minus if dateline + 1 == radix => 0,
+        Dir::Minus => dateline + 1,
     }
 }

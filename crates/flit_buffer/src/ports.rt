@@ -53,6 +53,7 @@ impl<A: Allocator> Ports<A> {
 
     /// The operation by which a want is tried; None exactly where it wants to put and no credit is
     /// held, or wants a credit and all are held. The input or output is there.
+    #[inline(always)]
     pub fn op(&self, want: Want) -> Option<WordOp>
         requires { HasPort self.now want }
         ensures { result ≡ want_op self.now want }
@@ -83,6 +84,7 @@ impl<A: Allocator> Ports<A> {
     /// Takes the word that the operation of a want found, and answers what the agent learns; None
     /// exactly where the word doesn't grant the want, and then nothing changes. A store learns
     /// nothing, which is 0, and so does a put or a credit.
+    #[inline(always)]
     pub fn absorb(&mut self, want: Want, got: u64) -> Option<u64>
         requires port { HasPort self.old want }
         requires tried { IsSome (want_op self.old want) }

@@ -1,4 +1,5 @@
 pub mod Before
+pub mod Faults
 pub mod Joined
 pub mod Named
 pub mod Numbers

@@ -3,6 +3,7 @@
 #![tactic(auto)]
 
 pub mod before;
+pub mod fault;
 pub mod filled;
 pub mod lines;
 pub mod named;
@@ -13,6 +14,7 @@ pub mod spelled;
 pub mod words;
 
 pub use before::{Before, Sought};
+pub use fault::LineFault;
 pub use filled::Filled;
 pub use lines::{line_at, next_line};
 pub use named::Named;

@@ -1,7 +1,7 @@
 -- What two texts ask for, and the machine that is loaded for them (this project's own format).
 use Rattle.std.specs.Prelude.{◌≡◌, ◌⊎◌, ℕ, List, [], Result, Ok, Err}
 use Rattle.torus.specs.declared.fault.Fault.TheVariants as fault
-use Rattle.script.specs.declared.fault.LineFault.{LineFault}
+use Rattle.lexer.specs.declared.fault.LineFault.{LineFault}
 use Rattle.script.specs.Machine.{machine_of}
 use Rattle.script.specs.Scripts.{scripts_of}
 use Rattle.machine_parts.specs.Load.{Load, load_of}

@@ -1,7 +1,7 @@
 -- What three texts of a run ask for (this project's own format).
 use Rattle.std.specs.Prelude.{ℕ, List, Result, Ok}
 use Rattle.torus.specs.declared.step.Step.{Step}
-use Rattle.script.specs.declared.fault.LineFault.{LineFault}
+use Rattle.lexer.specs.declared.fault.LineFault.{LineFault}
 use Rattle.script.specs.Machine.{machine_of}
 use Rattle.script.specs.Scripts.{scripts_of}
 use Rattle.script.specs.Steps.{steps_of}

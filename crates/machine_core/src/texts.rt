@@ -5,7 +5,8 @@ ghost use Rattle.machine_parts.specs.Machine.{IsAfter};
 ghost use Rattle.machine_core.specs.Loading.{HasLoaded, IsLoadFault, load_by};
 
 use crate::Machine;
-use script::{LineFault, read_machine, read_scripts};
+use lexer::LineFault;
+use script::{read_machine, read_scripts};
 use std::alloc::Allocator;
 
 /// Loads the machine of a text, whose processors follow the scripts of a text: it has made no step.

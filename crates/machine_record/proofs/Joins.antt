@@ -6,7 +6,7 @@ use Rattle.std.specs.Prelude.{if◌then◌else◌, option_and_then, slice_get, s
 use Rattle.std.specs.Str.Lines.{lines}
 use Rattle.torus.specs.Shape.{Shape}
 use Rattle.torus.specs.declared.step.Step.{Step}
-use Rattle.script.specs.declared.fault.LineFault.{LineFault}
+use Rattle.lexer.specs.declared.fault.LineFault.{LineFault}
 use Rattle.machine_parts.specs.Core.{Load, round}
 use Rattle.machine_parts.specs.Machine.{core_after}
 use Rattle.machine_core.specs.Loading.{load_by}

@@ -13,7 +13,7 @@ use Rattle.torus.specs.declared.step.Step.{Step}
 use Rattle.torus.specs.declared.step.Stepped.{Stepped}
 use Rattle.torus.specs.declared.step.Stepped.TheVariants.{Moved, Idle}
 use Rattle.channel_number.specs.Ports.{port_count}
-use Rattle.script.specs.declared.fault.LineFault.{LineFault}
+use Rattle.lexer.specs.declared.fault.LineFault.{LineFault}
 use Rattle.script_lines.specs.declared.line.Line.{Line as ScriptLine}
 use Rattle.script_lines.specs.declared.line.Line.TheVariants as line
 use Rattle.machine_parts.specs.Core.{Load, State, round, step}

@@ -6,7 +6,7 @@ use Rattle.torus.specs.declared.fault.Fault.{Fault}
 use Rattle.torus.specs.declared.step.Step.{Step}
 use Rattle.torus.specs.declared.step.Stepped.{Stepped}
 use Rattle.torus.specs.declared.step.Stepped.TheVariants.{Moved, Idle}
-use Rattle.script.specs.declared.fault.LineFault.{LineFault}
+use Rattle.lexer.specs.declared.fault.LineFault.{LineFault}
 use Rattle.script_lines.specs.declared.line.Line.{Line as ScriptLine}
 use Rattle.machine_parts.specs.Core.{Load, step}
 use Rattle.machine_parts.specs.Handed.{handed, refused}

@@ -26,8 +26,9 @@ ghost use Rattle.machine_record.specs.Machine.{KeepsRecord, KeepsLine, KeepsStep
 use crate::keeping::{keep, keep_line, keep_rounds};
 use crate::replay::make_rounds;
 use crate::{Action, Record, begun, begun_without_scripts};
+use lexer::LineFault;
 use machine_asked::{AskedMachine, Machine, OpenedMachine};
-use script::{Line, LineFault};
+use script::Line;
 use std::alloc::{AllocError, Allocator, Global};
 use std::marker::Model;
 use torus::{Fault, Step, Stepped, Torus};

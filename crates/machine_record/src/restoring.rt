@@ -10,8 +10,8 @@ ghost use Rattle.machine_record.specs.Calls.{IsLoaded, IsMadeAgain, IsRestored, 
 use crate::recorded::RecordedMachine;
 use crate::replay::replay;
 use crate::{Record, Unread, bytes_of, copied, record_of};
+use lexer::LineFault;
 use machine_asked::AskedMachine;
-use script::LineFault;
 use std::alloc::{AllocError, Allocator};
 use torus::Fault;
 

@@ -4,7 +4,7 @@ use Rattle.std.specs.Prelude.{◌≡◌, ◌⊎◌, ℕ, ◌+◌, ◌-◌, ◌<�
 use Rattle.std.specs.Prelude.{if◌then◌else◌, List, [], ◌∷◌, ◌++◌, length, slice_index, Vec}
 use Rattle.std.specs.Prelude.{Result, Ok, Err, Option, Some, None, IsSomeAnd, codes, decimal, nat_le, ◌≤◌}
 use Rattle.torus.specs.declared.fault.Fault.TheVariants as fault
-use Rattle.script.specs.declared.fault.LineFault.{LineFault}
+use Rattle.lexer.specs.declared.fault.LineFault.{LineFault}
 use Rattle.network_judge.specs.declared.table.By.{By}
 use Rattle.network_judge.specs.declared.table.By.TheVariants.{To, Replied}
 use Rattle.network_judge.specs.declared.table.Join.{Join}

@@ -6,7 +6,7 @@ use Rattle.std.specs.Prelude.{List, [], ◌∷◌, ◌++◌}
 use Rattle.std.specs.Prelude.{length, slice_index}
 use Rattle.std.specs.Prelude.{Result, Ok, Err, Option, Some, None, codes, decimal}
 use Rattle.torus.specs.declared.fault.Fault.TheVariants as fault
-use Rattle.script.specs.declared.fault.LineFault.{LineFault}
+use Rattle.lexer.specs.declared.fault.LineFault.{LineFault}
 use Rattle.network_answer.specs.declared.answer.Answer.{Answer}
 use Rattle.network_text.specs.Network.{Reading, taken_cell}
 use Rattle.network_answer.specs.Answer.{pair_line, number_line, no_route_line}

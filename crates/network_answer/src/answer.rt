@@ -7,9 +7,9 @@ ghost use Rattle.network_answer.specs.Answer.{Answers, SaysNoPair, TellsFixedRou
 
 use crate::causes::{Cause, one_cause, verdict_causes};
 use crate::jam::judged_text;
+use lexer::LineFault;
 use network_judge::{Kind, Verdict, judge};
 use network_text::network::{Network, read_network};
-use script::LineFault;
 use std::alloc::{AllocError, Allocator, Global};
 use torus::Fault;
 

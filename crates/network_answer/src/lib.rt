@@ -20,6 +20,6 @@ pub use answer::{Answer, judge_network, network_answer};
 pub use cause_sentence::CauseSentence;
 pub use causes::{Cause, Wait, verdict_causes};
 pub use jam::judged_text;
-pub use routing::{routing_answer, routing_answer_once};
+pub use routing::{answered_routing, routing_answer, routing_answer_once};
 pub use totals::{Totals, totals_of};
 pub use verdict::verdict_text;

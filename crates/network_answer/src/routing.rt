@@ -14,12 +14,11 @@ use crate::going::last_text;
 use crate::judgement::{has_circuit, judgement_text, put_may};
 use crate::judging::{judgement_of, never_locks_up};
 use crate::one_flit::{behind_text, is_free};
-use lexer::Refusal;
+use lexer::{LineFault, Refusal};
 use network_text::NetworkReason;
 use network_text::choosing::{Choosing, Routers};
 use network_text::choosing_text::read_text_or_why;
 use network_text::network::network_read;
-use script::LineFault;
 use std::alloc::{AllocError, Allocator};
 use torus::Fault;
 
@@ -66,10 +65,11 @@ fn answered_choosing<A: Allocator + Copy>(
     })
 }
 
-/// Judges the network of a text, and makes the text of what is judged.
+/// Judges the network that a text gives, of fixed routes or of routers that choose, and makes the text of
+/// what is judged.
 ///
 /// Errors: out of memory.
-fn answered_routing<A: Allocator + Copy>(
+pub fn answered_routing<A: Allocator + Copy>(
     alloc: A,
     network: Choosing<A>,
 ) -> Result<Answer<A>, AllocError>

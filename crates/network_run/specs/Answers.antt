@@ -2,8 +2,8 @@
 use Rattle.std.specs.Prelude.{◌≡◌, ◌⊎◌, ℕ, Bool, true, false, List, Result, Ok, Err}
 use Rattle.torus.specs.declared.fault.Fault.TheVariants as fault
 use Rattle.lexer.specs.declared.refusal.Refusal.{Refusal}
-use Rattle.script.specs.declared.fault.LineFault.{LineFault}
-use Rattle.script.specs.Outcome.{fault_of_refusal}
+use Rattle.lexer.specs.declared.fault.LineFault.{LineFault}
+use Rattle.lexer.specs.Faults.{fault_of_refusal}
 use Rattle.network_text.specs.Network.{NetworkSpec, network_of}
 use Rattle.network_answer.specs.declared.answer.Answer.{Answer}
 use Rattle.network_machine.specs.declared.moves.Ending.TheVariants as ending

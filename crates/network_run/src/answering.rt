@@ -8,10 +8,10 @@ ghost use Rattle.network_run.specs.Answers.{TellsReplayed, is_sound};
 use crate::replaying::{Replayed, replay_text};
 use crate::running::run_text;
 use crate::writing::replayed_text;
+use lexer::LineFault;
 use network_answer::Answer;
 use network_machine::Ending;
 use network_text::read_network;
-use script::LineFault;
 use std::alloc::{Allocator, Global};
 use torus::Fault;
 

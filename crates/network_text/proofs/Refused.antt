@@ -9,7 +9,7 @@ use Rattle.network_text.specs.declared.reason.NetworkReason.{NetworkReason}
 use Rattle.network_text.specs.declared.reason.NetworkReason.TheVariants as reason
 use Rattle.lexer.specs.declared.refusal.Refusal.{Refusal}
 use Rattle.lexer.specs.Outcome.{line_of_fault, refusal_at}
-use Rattle.script.specs.Outcome.{fault_of_refusal, by_fault}
+use Rattle.lexer.specs.Faults.{fault_of_refusal, by_fault}
 use Rattle.network_text.specs.Reasons.{network_fault_of}
 use Rattle.network_text.specs.Network.{NetworkSpec}
 

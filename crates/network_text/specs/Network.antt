@@ -8,8 +8,8 @@ use Rattle.std.specs.List.{list_any}
 use Rattle.lexer.specs.Words.{words_of, begins_comment}
 use Rattle.lexer.specs.declared.refusal.Refusal.{Refusal}
 use Rattle.lexer.specs.Outcome.{then_lines}
-use Rattle.script.specs.declared.fault.LineFault.{LineFault}
-use Rattle.script.specs.Outcome.{by_fault}
+use Rattle.lexer.specs.declared.fault.LineFault.{LineFault}
+use Rattle.lexer.specs.Faults.{by_fault}
 use Rattle.network_text.specs.declared.reason.Keyword.{Keyword}
 use Rattle.network_text.specs.declared.reason.Keyword.TheVariants as key
 use Rattle.network_text.specs.declared.reason.NetworkReason.{NetworkReason}

@@ -4,8 +4,8 @@ use Rattle.std.specs.Prelude.{List}
 use Rattle.std.specs.Prelude.{Result, Ok, Err, Option, Some, None, is_ok}
 use Rattle.lexer.specs.declared.refusal.Refusal.{Refusal}
 use Rattle.lexer.specs.Outcome.{refusal_at}
-use Rattle.script.specs.declared.fault.LineFault.{LineFault}
-use Rattle.script.specs.Outcome.{by_fault}
+use Rattle.lexer.specs.declared.fault.LineFault.{LineFault}
+use Rattle.lexer.specs.Faults.{by_fault}
 use Rattle.network_text.specs.declared.reason.NetworkReason.{NetworkReason}
 use Rattle.network_text.specs.declared.reason.NetworkReason.TheVariants as reason
 use Rattle.network_text.specs.Reasons.{network_fault_of}

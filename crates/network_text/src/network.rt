@@ -5,7 +5,7 @@ ghost use Rattle.std.specs.Str.Lines.{lines};
 ghost use Rattle.network_judge.specs.Table.{IsFull};
 ghost use Rattle.network_judge.specs.Replies.{AreReplies};
 ghost use Rattle.lexer.specs.Outcome.{Gives as GivesOrWhy};
-ghost use Rattle.script.specs.Outcome.{Gives};
+ghost use Rattle.lexer.specs.Faults.{Gives};
 ghost use Rattle.network_text.specs.Network.{network_of, network_or_why};
 ghost use Rattle.network_text.specs.Choosing.{fixed_network};
 ghost use Rattle.network_text.specs.ChoosingRead.{choosing_text_of, IsChoosingRead};
@@ -13,9 +13,8 @@ ghost use Rattle.network_text.specs.ChoosingRead.{choosing_text_of, IsChoosingRe
 use crate::choosing::{Choosing, Routers};
 use crate::choosing_text::read_text_or_why;
 use crate::reason::NetworkReason;
-use lexer::Refusal;
+use lexer::{LineFault, Refusal};
 use network_judge::{Join, Kind, Reply};
-use script::LineFault;
 use std::alloc::{Allocator, Global};
 use std::marker::Model;
 

@@ -4,8 +4,8 @@ use Rattle.std.specs.List.{range_with_len}
 use Rattle.torus.specs.declared.fault.Fault.TheVariants as fault
 use Rattle.lexer.specs.declared.refusal.Refusal.{Refusal}
 use Rattle.lexer.specs.Outcome.{refusal_at}
-use Rattle.script.specs.declared.fault.LineFault.{LineFault}
-use Rattle.script.specs.Outcome.{fault_of_refusal}
+use Rattle.lexer.specs.declared.fault.LineFault.{LineFault}
+use Rattle.lexer.specs.Faults.{fault_of_refusal}
 use Rattle.network_judge.specs.declared.table.Join.{Join}
 use Rattle.network_judge.specs.declared.table.NoRoute as no_route
 use Rattle.network_judge.specs.Table.{channels_of}

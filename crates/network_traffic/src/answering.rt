@@ -13,7 +13,7 @@ use crate::course::run_packets;
 use crate::plan::open_plan;
 use crate::running::Extent;
 use crate::writing::report_text;
-use lexer::Refusal;
+use lexer::{LineFault, Refusal};
 use network_answer::{judge_network, verdict_text};
 use network_judge::{NoRoute, Verdict};
 use network_machine::{Ending, Machine};
@@ -22,7 +22,6 @@ use network_rounds::{
     Arbiter, Timed, Traffic, TrafficReason, check_joined, groups_of, queues_of, read_traffic,
 };
 use network_text::{Network, read_network};
-use script::LineFault;
 use std::alloc::{AllocError, Allocator, Global};
 use torus::Fault;
 

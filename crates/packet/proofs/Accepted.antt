@@ -7,7 +7,8 @@ use Rattle.packet.specs.declared.kinds.Code.TheVariants as code
 use Rattle.packet.specs.declared.kinds.Packet.{Packet}
 use Rattle.packet.specs.Kinds.{code_of, IsReplyOf}
 use Rattle.packet.specs.Flit.{field, Heading, IsHeadFlit, IsPayloadFlit, operation_told}
-use Rattle.packet.specs.Spelling.{code_number, values_of_op, values_of_reply, values_of, heading_of, IsSound, SpellsWith, Spells}
+use Rattle.packet.specs.Numbers.{code_number}
+use Rattle.packet.specs.Spelling.{values_of_op, values_of_reply, values_of, heading_of, IsSound, SpellsWith, Spells}
 use Rattle.packet.specs.Refusal.{flits_of_request, flits_of_reply, flits_told}
 use Rattle.packet.specs.Reading.{heading_told, code_numbered, op_with, reply_with, packet_with, value_at, packet_told, IsAcceptedHead, IsAcceptedPayload}
 use Rattle.packet.proofs.Fields.{field_below}

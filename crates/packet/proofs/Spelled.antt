@@ -11,7 +11,8 @@ use Rattle.packet.specs.declared.kinds.Reply.TheVariants.{Old, Ok as Stored}
 use Rattle.packet.specs.declared.kinds.Packet.{Packet}
 use Rattle.packet.specs.declared.kinds.Packet.TheVariants.{Request, Response}
 use Rattle.packet.specs.Flit.{Heading, IsPayloadFlit}
-use Rattle.packet.specs.Spelling.{code_number, values_of_op, values_of_reply, values_of, heading_of, SpellsWith, Spells, IsSpellable, word_or_place, code_in}
+use Rattle.packet.specs.Numbers.{code_number}
+use Rattle.packet.specs.Spelling.{values_of_op, values_of_reply, values_of, heading_of, SpellsWith, Spells, IsSpellable, word_or_place, code_in}
 use Rattle.packet.specs.Written.{head_flit, flits_for, IsOfWords}
 use Rattle.packet.specs.Flits.{flits_of}
 use Rattle.packet.proofs.FlitBits.{FitsHead, IsHeadFlit-written, IsPayloadFlit-written, same_head, same_payload, FitsHead-told, value_below}

@@ -10,7 +10,8 @@ use Rattle.packet.specs.declared.kinds.Packet.{Packet}
 use Rattle.packet.specs.declared.kinds.Packet.TheVariants.{Request, Response}
 use Rattle.packet.specs.Kinds.{code_of, IsReplyOf}
 use Rattle.packet.specs.Flit.{field, Heading, IsHeadFlit}
-use Rattle.packet.specs.Spelling.{code_number, values_of_op, values_of_reply, heading_of, SpellsWith, Spells}
+use Rattle.packet.specs.Numbers.{code_number}
+use Rattle.packet.specs.Spelling.{values_of_op, values_of_reply, heading_of, SpellsWith, Spells}
 use Rattle.packet.specs.Reading.{heading_told, code_numbered, op_with, reply_with, packet_with, value_at, packet_told}
 
 pub code_numbered-code_number : (c : Code) → code_numbered (code_number c) ≡ c

@@ -7,4 +7,5 @@ pub mod Reading
 pub mod Refusal
 pub mod Spelling
 pub mod Names
+pub mod Numbers
 pub mod Written

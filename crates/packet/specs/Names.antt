@@ -5,7 +5,8 @@ use Rattle.packet.specs.declared.kinds.Code.{Code}
 use Rattle.packet.specs.declared.kinds.Code.TheVariants as code
 use Rattle.packet.specs.declared.kinds.Values.{Values}
 use Rattle.packet.specs.declared.kinds.Values.TheVariants as values
-use Rattle.packet.specs.Reading.{op_with}
+pub use Rattle.packet.specs.Numbers.{every_code}
+use Rattle.packet.specs.Kinds.{op_with}
 use Rattle.packet.specs.Spelling.{values_of_op}
 
 -- the word that names an operation in every text (this project's own format)
@@ -20,11 +21,6 @@ code_word code.Or = codes "or"
 code_word code.Xor = codes "xor"
 code_word code.Max = codes "max"
 code_word code.Min = codes "min"
-
--- every operation
-abbrev pub every_code : List Code
-every_code = code.Load ∷ code.Store ∷ code.Swap ∷ code.Cas ∷ code.Add ∷ code.And ∷ code.Or
-    ∷ code.Xor ∷ code.Max ∷ code.Min ∷ []
 
 -- the operation that a word names
 abbrev pub code_named : List ℕ → Option Code

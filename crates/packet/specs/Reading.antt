@@ -1,14 +1,14 @@
 -- What flits carry.
-use Rattle.std.specs.Prelude.{◌≡◌, ℕ, ◌+◌, ◌*◌, ◌^◌, ◌<◌, ◌≤◌, ◌==◌, if◌then◌else◌, List, [], ◌∷◌, length, slice_index}
+use Rattle.std.specs.Prelude.{◌≡◌, ℕ, ◌+◌, ◌*◌, ◌^◌, ◌<◌, ◌≤◌, ◌==◌, if◌then◌else◌, List, [], ◌∷◌, length, slice_index, unwrap_or}
 use Rattle.std.specs.List.{AllByRecursion}
-use Rattle.packet.specs.declared.kinds.Op.{Op}
-use Rattle.packet.specs.declared.kinds.Op.TheVariants.{Load, Store, Swap, Cas, Add, And, Or, Xor, Max, Min}
 use Rattle.packet.specs.declared.kinds.Code.{Code}
 use Rattle.packet.specs.declared.kinds.Code.TheVariants as code
 use Rattle.packet.specs.declared.kinds.Reply.{Reply}
 use Rattle.packet.specs.declared.kinds.Reply.TheVariants.{Old, Ok as Stored}
 use Rattle.packet.specs.declared.kinds.Packet.{Packet}
 use Rattle.packet.specs.declared.kinds.Packet.TheVariants.{Request, Response}
+pub use Rattle.packet.specs.Kinds.{op_with}
+use Rattle.packet.specs.Numbers.{code_of_number}
 use Rattle.packet.specs.Flit.{field, Heading, IsPayloadFlit, operation_told}
 use Rattle.packet.specs.Refusal.{flits_told}
 
@@ -24,33 +24,9 @@ heading_told h =
       place = field h 0 32;
     }
 
--- the operation of a number from 0 to 9 (this project's own format)
+-- the operation that a number from 0 to 9 says (this project's own format)
 abbrev pub code_numbered : ℕ → Code
-code_numbered n =
-    if n == 0 then code.Load
-    else if n == 1 then code.Store
-    else if n == 2 then code.Swap
-    else if n == 3 then code.Cas
-    else if n == 4 then code.Add
-    else if n == 5 then code.And
-    else if n == 6 then code.Or
-    else if n == 7 then code.Xor
-    else if n == 8 then code.Max
-    else code.Min
-
--- the operation of this name that brings these values, as many of them as it takes (this project's
--- own format)
-abbrev pub op_with : Code → ℕ → ℕ → Op
-op_with code.Load v w = Load
-op_with code.Store v w = Store v
-op_with code.Swap v w = Swap v
-op_with code.Cas v w = Cas v w
-op_with code.Add v w = Add v
-op_with code.And v w = And v
-op_with code.Or v w = Or v
-op_with code.Xor v w = Xor v
-op_with code.Max v w = Max v
-op_with code.Min v w = Min v
+code_numbered n = unwrap_or (code_of_number n) code.Min
 
 -- the reply to an operation of this name that found v (this project's own format)
 abbrev pub reply_with : Code → ℕ → Reply

@@ -1,9 +1,8 @@
 -- Which flits spell a packet.
-use Rattle.std.specs.Prelude.{◌≡◌, ◌≢◌, ℕ, ◌/◌, ◌%◌, ◌^◌, ◌<◌, List, [], ◌∷◌, ◌++◌}
+use Rattle.std.specs.Prelude.{◌≡◌, ◌≢◌, ℕ, ◌/◌, ◌%◌, ◌^◌, ◌<◌, List, [], ◌∷◌, ◌++◌, slice_index}
 use Rattle.packet.specs.declared.kinds.Op.{Op}
 use Rattle.packet.specs.declared.kinds.Op.TheVariants.{Load, Store, Swap, Cas, Add, And, Or, Xor, Max, Min}
 use Rattle.packet.specs.declared.kinds.Code.{Code}
-use Rattle.packet.specs.declared.kinds.Code.TheVariants as code
 use Rattle.packet.specs.declared.kinds.Reply.{Reply}
 use Rattle.packet.specs.declared.kinds.Reply.TheVariants.{Old, Ok as Stored}
 use Rattle.packet.specs.declared.kinds.Packet.{Packet}
@@ -11,20 +10,8 @@ use Rattle.packet.specs.declared.kinds.Packet.TheVariants.{Request, Response}
 use Rattle.torus.specs.declared.shape.Class.{Class}
 use Rattle.torus.specs.declared.shape.Class.TheVariants as class
 use Rattle.packet.specs.Kinds.{code_of, IsReplyOf}
+use Rattle.packet.specs.Numbers.{code_number}
 use Rattle.packet.specs.Flit.{field, Heading, IsHeadFlit, IsPayloadFlit, class_number, class_numbered}
-
--- the number of an operation in a head flit (this project's own format)
-abbrev pub code_number : Code → ℕ
-code_number code.Load = 0
-code_number code.Store = 1
-code_number code.Swap = 2
-code_number code.Cas = 3
-code_number code.Add = 4
-code_number code.And = 5
-code_number code.Or = 6
-code_number code.Xor = 7
-code_number code.Max = 8
-code_number code.Min = 9
 
 -- the values that an operation brings (this project's own format)
 abbrev pub values_of_op : Op → List ℕ
@@ -39,10 +26,22 @@ values_of_op (Xor v) = v ∷ []
 values_of_op (Max v) = v ∷ []
 values_of_op (Min v) = v ∷ []
 
+-- the first value that an operation brings, 0 if it brings none
+abbrev pub first_value : Op → ℕ
+first_value op = slice_index (values_of_op op) 0
+
+-- the second value that an operation brings, 0 if it brings fewer
+abbrev pub second_value : Op → ℕ
+second_value op = slice_index (values_of_op op) 1
+
 -- the values that a reply brings (this project's own format)
 abbrev pub values_of_reply : Reply → List ℕ
 values_of_reply Stored = []
 values_of_reply (Old w) = w ∷ []
+
+-- the old word that a reply brings, 0 for `ok`
+abbrev pub old_word : Reply → ℕ
+old_word reply = slice_index (values_of_reply reply) 0
 
 -- the values that a packet brings (this project's own format)
 abbrev pub values_of : Packet → List ℕ

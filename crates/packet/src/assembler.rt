@@ -175,7 +175,7 @@ fn packet_told(flits: &[u64]) -> Packet
     let source = field(head, 45, 6) as u32;
     let tag = Tag(field(head, 41, 4) as u32);
     let place = field(head, 0, 32) as u32;
-    let code = code_numbered(operation_told(head));
+    let code = code_numbered(operation_told(head) as u32);
     let value = value_at(flits, 1);
     if field(head, 57, 1) == 0 {
         Packet::Request(Request {
@@ -197,22 +197,11 @@ fn packet_told(flits: &[u64]) -> Packet
     }
 }
 
-/// The operation of a number from 0 to 9.
-fn code_numbered(number: u64) -> Code
+/// The operation that a number from 0 to 9 says.
+fn code_numbered(number: u32) -> Code
     ensures { result ≡ code_numbered number }
 {
-    match number {
-        0 => Code::Load,
-        1 => Code::Store,
-        2 => Code::Swap,
-        3 => Code::Cas,
-        4 => Code::Add,
-        5 => Code::And,
-        6 => Code::Or,
-        7 => Code::Xor,
-        8 => Code::Max,
-        _ => Code::Min,
-    }
+    Code::numbered(number).unwrap_or(Code::Min)
 }
 
 /// The reply to an operation of this name that found `word`.

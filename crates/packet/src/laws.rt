@@ -1,9 +1,10 @@
-//! Laws of the one sequential memory and of the operations' words, each the contract of a function
-//! that does nothing.
+//! Laws of the one sequential memory, and of the operations' words and numbers, each the contract of
+//! a function that does nothing.
 
 ghost use Rattle.std.specs.Prelude.{◌≡◌, ◌≢◌, ◌<◌, ◌^◌, ℕ, List, ◌++◌, length, slice_index, All};
 ghost use Rattle.std.specs.Prelude.{Some};
 ghost use Rattle.packet.specs.Names.{code_word, code_named};
+ghost use Rattle.packet.specs.Numbers.{code_number, code_of_number};
 ghost use Rattle.packet.specs.Memory.{new_word, reply_to, memory_after_one, memory_after, replies};
 ghost use Rattle.packet.specs.Spelling.{values_of_op, values_of_reply};
 ghost use Rattle.packet.specs.declared.kinds.Code.{Code};
@@ -48,4 +49,9 @@ pub fn operations_leave_words()
 /// The word of an operation names it, and so no two operations have the same word.
 pub fn words_name_operations()
     ensures { (code : Code) → code_named (code_word code) ≡ Some code }
+{}
+
+/// The number of an operation names it, and so no two operations have the same number.
+pub fn numbers_name_operations()
+    ensures { (code : Code) → code_of_number (code_number code) ≡ Some code }
 {}

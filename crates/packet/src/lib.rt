@@ -10,6 +10,7 @@ pub mod kinds;
 pub mod laws;
 pub mod memory;
 pub mod names;
+pub mod numbers;
 pub mod spelling;
 
 pub use assembler::{Assembler, Kind, Offered};

@@ -3,7 +3,8 @@
 ghost use Rattle.std.specs.Prelude.{◌≡◌, ℕ, ◌<◌, ◌≤◌, ◌+◌, ◌^◌, ◌++◌, List, length, All};
 ghost use Rattle.arrayvec.specs.ArrayVec.{array_vec_len};
 ghost use Rattle.packet.specs.Flit.{class_number};
-ghost use Rattle.packet.specs.Spelling.{Spells, IsSpellable, code_number, values_of, heading_of, word_or_place};
+ghost use Rattle.packet.specs.Numbers.{code_number};
+ghost use Rattle.packet.specs.Spelling.{Spells, IsSpellable, values_of, heading_of, word_or_place};
 ghost use Rattle.packet.specs.Flits.{flits_of};
 ghost use Rattle.packet.specs.Written.{head_flit, value_flits, flits_for};
 
@@ -120,7 +121,7 @@ fn head_flit(class: Class, code: Code, destination: u32, source: u32, tag: Tag, 
     ensures below { result < 2 ^ 63 + 2 ^ 62 }
     ensures place { place < 2 ^ 32 }
 {
-    let operation = code_number(code);
+    let operation = u64::from(code.number());
     HEAD + FLIT
         + (operation % 8 << 58)
         + (class_number(class) << 57)
@@ -129,25 +130,6 @@ fn head_flit(class: Class, code: Code, destination: u32, source: u32, tag: Tag, 
         + (u64::from(tag.0) << 41)
         + (operation / 8 << 40)
         + u64::from(place)
-}
-
-/// The number of an operation in a head flit.
-fn code_number(code: Code) -> u64
-    ensures value { result ≡ code_number code }
-    ensures below { result < 10 }
-{
-    match code {
-        Code::Load => 0,
-        Code::Store => 1,
-        Code::Swap => 2,
-        Code::Cas => 3,
-        Code::Add => 4,
-        Code::And => 5,
-        Code::Or => 6,
-        Code::Xor => 7,
-        Code::Max => 8,
-        Code::Min => 9,
-    }
 }
 
 /// The number of a class in a head flit.

@@ -7,3 +7,4 @@ pub mod EndLines
 pub mod FaultLines
 pub mod LinesUnread
 pub mod Origins
+pub mod Refused

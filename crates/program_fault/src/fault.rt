@@ -2,9 +2,9 @@ ghost use Rattle.std.specs.Prelude.{◌≡◌};
 ghost use Rattle.program_fault.specs.Outcome.{finished_of, status_of};
 
 use crate::message::fault_text;
+use lexer::LineFault;
 use report_check::CheckFault;
 use report_lines::OutputFailed;
-use script::LineFault;
 use std::error::Error;
 use std::fmt;
 use torus::Fault;

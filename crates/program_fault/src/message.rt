@@ -6,7 +6,7 @@ ghost use Rattle.program_fault.specs.Message.{fault_text_of, line_text_of};
 use crate::ProgramFault;
 use arrayvec::ArrayString;
 use itoa::Buffer;
-use script::LineFault;
+use lexer::LineFault;
 use torus::Fault;
 
 /// A line that the program prints for a fault, without its line feed.

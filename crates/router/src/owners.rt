@@ -119,6 +119,7 @@ impl Owners {
     }
 
     /// An input gives its output back, if it owns one.
+    #[inline(always)]
     pub(crate) fn free(&mut self, input: u32)
         requires { input < length self.old }
         ensures { self.new ≡ slice_set self.old input None }
@@ -130,6 +131,7 @@ impl Owners {
     }
 
     /// An input becomes the owner of an output that no input owns.
+    #[inline(always)]
     pub(crate) fn give(&mut self, input: u32, output: u32)
         requires input { input < length self.old }
         requires output { output < length self.old }
@@ -142,6 +144,7 @@ impl Owners {
     }
 
     /// Whether an input owns an output.
+    #[inline(always)]
     fn owns(&self, input: u32, output: u32) -> bool
         requires { input < length self.now }
         ensures { result ≡ is_output (slice_index_or self.now input None) output }

@@ -8,13 +8,14 @@ use Rattle.torus.specs.Shape.{Shape, IsAccepted}
 use Rattle.lexer.specs.Words.{words_of, begins_comment}
 use Rattle.lexer.specs.Outcome.{◌>>=◌, then_lines}
 use Rattle.lexer.specs.declared.refusal.Refusal.{Refusal}
-use Rattle.script.specs.declared.fault.LineFault.{LineFault}
+use Rattle.lexer.specs.declared.fault.LineFault.{LineFault}
 use Rattle.script.specs.declared.reason.Keyword.{Keyword}
 use Rattle.script.specs.declared.reason.Keyword.TheVariants as key
 use Rattle.script.specs.declared.reason.TextReason.{TextReason}
 use Rattle.script.specs.declared.reason.TextReason.TheVariants as reason
 use Rattle.script_lines.specs.Machine.{MachineSpec}
-use Rattle.script.specs.Outcome.{unless, by_fault}
+use Rattle.lexer.specs.Faults.{by_fault}
+use Rattle.script.specs.Outcome.{unless}
 use Rattle.script.specs.Reasons.{fault_of, setting_named}
 use Rattle.script.specs.Settings.{Settings, no_settings, number_at, value_at, one_index, few_indexes, spread, last_digits}
 use Rattle.script.specs.Settings.{after_radix, after_dims, after_datelines, after_depth, after_tags}

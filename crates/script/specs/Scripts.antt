@@ -5,13 +5,14 @@ use Rattle.std.specs.Prelude.{Option, Some, None, Result, Ok, Err, if◌then◌e
 use Rattle.torus.specs.declared.fault.Fault.{Fault}
 use Rattle.torus.specs.Shape.{tiles_of}
 use Rattle.lexer.specs.Words.{words_of, begins_comment}
-use Rattle.script.specs.declared.fault.LineFault.{LineFault}
+use Rattle.lexer.specs.declared.fault.LineFault.{LineFault}
 use Rattle.script_lines.specs.declared.line.Line.{Line}
 use Rattle.lexer.specs.Outcome.{◌>>=◌, then_lines}
 use Rattle.lexer.specs.declared.refusal.Refusal.{Refusal}
 use Rattle.script.specs.declared.reason.TextReason.{TextReason}
 use Rattle.script.specs.declared.reason.TextReason.TheVariants as reason
-use Rattle.script.specs.Outcome.{unless, by_fault, line_by_fault}
+use Rattle.lexer.specs.Faults.{by_fault}
+use Rattle.script.specs.Outcome.{unless, line_by_fault}
 use Rattle.script.specs.Reasons.{fault_of}
 use Rattle.script.specs.Settings.{number_at}
 use Rattle.script.specs.Form.{form_of, line_of_form}

@@ -8,7 +8,7 @@ use Rattle.torus.specs.declared.step.Choice.{Choice}
 use Rattle.torus.specs.declared.step.Choice.TheVariants as choice
 use Rattle.torus.specs.Shape.{tiles_of, dims_of}
 use Rattle.lexer.specs.Words.{words_of, begins_comment}
-use Rattle.script.specs.declared.fault.LineFault.{LineFault}
+use Rattle.lexer.specs.declared.fault.LineFault.{LineFault}
 use Rattle.script.specs.declared.attempt.ChoiceWord.{ChoiceWord}
 use Rattle.script.specs.declared.attempt.ChoiceWord.TheVariants.{Send, Take, Put, Credit, Serve, Done, Look}
 use Rattle.script.specs.declared.attempt.Attempt.{Attempt}
@@ -18,7 +18,7 @@ use Rattle.script.specs.declared.reason.Agent.{Agent}
 use Rattle.script.specs.declared.reason.Agent.TheVariants.{Processor, Router, Bank}
 use Rattle.script.specs.declared.reason.TextReason.{TextReason}
 use Rattle.script.specs.declared.reason.TextReason.TheVariants as reason
-use Rattle.script.specs.Outcome.{by_fault}
+use Rattle.lexer.specs.Faults.{by_fault}
 use Rattle.script.specs.Reasons.{fault_of, kind_of_agent}
 use Rattle.script.specs.Settings.{number_at}
 use Rattle.script_lines.specs.Machine.{MachineSpec}

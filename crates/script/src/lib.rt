@@ -2,7 +2,6 @@
 #![tactic(auto)]
 
 mod attempt;
-pub mod fault;
 mod few;
 pub mod form;
 pub mod laws;
@@ -17,8 +16,8 @@ pub mod scripts;
 mod settings;
 pub mod steps;
 
-pub use fault::LineFault;
 pub use form::{line_or_why, read_line};
+pub use lexer::LineFault;
 pub use machine::{MachineText, read_machine, read_machine_or_why};
 pub use number::an_index;
 pub use reason::{Agent, Keyword, TextReason};

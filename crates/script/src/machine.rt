@@ -6,7 +6,7 @@ ghost use Rattle.script_lines.specs.Machine.{MachineSpec, IsAcceptedMachine};
 ghost use Rattle.script.specs.Machine.{machine_of, machine_or_why};
 ghost use Rattle.script.specs.Machine.{machine_with};
 ghost use Rattle.script.specs.MachineViews.{reading_of, IsChecked};
-ghost use Rattle.script.specs.Outcome.{Gives};
+ghost use Rattle.lexer.specs.Faults.{Gives};
 
 use crate::LineFault;
 use crate::reading::Reading;

@@ -2,7 +2,7 @@ ghost use Rattle.std.specs.Prelude.{◌≡◌, ◌≤◌, ◌↔◌, IsTrue, IfO
 ghost use Rattle.std.specs.Option.{option_copied};
 ghost use Rattle.std.specs.Str.Lines.{lines};
 ghost use Rattle.lexer.specs.Outcome.{Gives as GivesOrWhy};
-ghost use Rattle.script.specs.Outcome.{Gives};
+ghost use Rattle.lexer.specs.Faults.{Gives};
 ghost use Rattle.script_lines.specs.Lines.{ScriptsSpec, AreAcceptedScripts, Fit, fits};
 ghost use Rattle.script.specs.Scripts.{scripts_of, scripts_or_why, scripts_from};
 ghost use Rattle.script_lines.specs.Views.{lists_of};

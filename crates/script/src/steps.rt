@@ -2,7 +2,7 @@ ghost use Rattle.std.specs.Prelude.{◌≡◌, ◌≤◌, ◌<◌, ◌∷◌, []
 ghost use Rattle.std.specs.Str.Lines.{lines};
 ghost use Rattle.lexer.specs.Words.{words_of};
 ghost use Rattle.lexer.specs.Outcome.{Gives as GivesOrWhy, Makes};
-ghost use Rattle.script.specs.Outcome.{Gives};
+ghost use Rattle.lexer.specs.Faults.{Gives};
 ghost use Rattle.script.specs.Steps.{after_words, take_step, steps_from, steps_of, steps_or_why};
 ghost use Rattle.script.specs.Plain.{first_line, after_attempt};
 

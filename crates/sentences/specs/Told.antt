@@ -9,7 +9,7 @@ use Rattle.lexer.specs.declared.named.Named.{Named}
 use Rattle.lexer.specs.declared.refusal.Refusal.{Refusal}
 use Rattle.lexer.specs.Named.{IsAbout}
 use Rattle.lexer.specs.Outcome.{◌>>=◌, refusal_at}
-use Rattle.script.specs.declared.fault.LineFault.{LineFault}
+use Rattle.lexer.specs.declared.fault.LineFault.{LineFault}
 use Rattle.script.specs.declared.reason.TextReason.{TextReason}
 use Rattle.script.specs.declared.reason.TextReason.TheVariants as reason
 use Rattle.script.specs.Reasons.{fault_of}

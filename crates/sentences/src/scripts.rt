@@ -8,8 +8,9 @@ ghost use Rattle.sentences.specs.Ended.{IsEndInTextOrder, IsScriptsFault};
 
 use crate::spins::{ScriptEnd, SpentSpin};
 use crate::text::end_at_lines;
+use lexer::LineFault;
 use one_order::Answer;
-use script::{LineFault, Scripts, read_machine, read_scripts};
+use script::{Scripts, read_machine, read_scripts};
 use std::alloc::{AllocError, Allocator};
 use torus::Fault;
 

@@ -9,10 +9,9 @@ ghost use Rattle.sentences.specs.Told.{scripts_read, steps_read, scripts_or_why_
 ghost use Rattle.sentences.specs.Told.{steps_or_why_of};
 
 use crate::sentence::{Sentence, TileSentence};
-use lexer::{Named, Refusal};
+use lexer::{LineFault, Named, Refusal};
 use script::{
-    LineFault, TextReason, read_machine, read_machine_or_why, read_scripts_or_why,
-    read_steps_or_why,
+    TextReason, read_machine, read_machine_or_why, read_scripts_or_why, read_steps_or_why,
 };
 use std::alloc::Allocator;
 use torus::Fault;

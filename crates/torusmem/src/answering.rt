@@ -15,11 +15,13 @@ use command_verdicts::{
     AskedModels, Decided, Judged, Modelled, judged_models_text, lock_up_text, network_text,
     replay_network_text, simulate_text, texts_models_text, unbroken_models_text, values_text,
 };
+use lexer::Refusal;
 use model_answer::{AskedModel, MemoryModel};
 use model_replies::ValueOptions;
 use network_answer::Answer;
 use network_rounds::Arbiter;
-use program_fault::{ProgramFault, Texts};
+use network_text::NetworkReason;
+use program_fault::{ProgramFault, Refused, Texts};
 use report_lines::Out;
 use std::alloc::Global;
 use std::rt::Clock;
@@ -55,8 +57,18 @@ pub(crate) enum Outcome {
     Reached(ReachEnd),
 }
 
-/// The answer of the job; `ending` is shown what a run reached, and what a network is judged to be stands in
-/// `told` then.
+/// What a job says of the text of a network.
+#[derive(Drop)]
+pub(crate) enum NetworkTold {
+    Nothing,
+    /// What the network is judged to be.
+    Answered(Answer<Global>),
+    /// Where and why the text is refused.
+    Refused(Refusal<NetworkReason>),
+}
+
+/// The answer of the job; `ending` is shown what a run reached, and what is said of the text of a network
+/// stands in `told` then.
 pub(crate) fn answer<R: Eprint + Clock + AllocGlobal + Threads + Wait + Sync, W: Out, E: Ending>(
     rt: &R,
     job: &Job,
@@ -64,7 +76,7 @@ pub(crate) fn answer<R: Eprint + Clock + AllocGlobal + Threads + Wait + Sync, W:
     is_seen: bool,
     out: &mut W,
     ending: &mut E,
-    told: &mut Option<Answer<Global>>,
+    told: &mut NetworkTold,
 ) -> Result<Outcome, ProgramFault>
     requires { AreJobLimits job.now }
 {
@@ -80,7 +92,8 @@ pub(crate) fn answer<R: Eprint + Clock + AllocGlobal + Threads + Wait + Sync, W:
             network_sound(judged, told)
         }
         Job::LockUp { depth, .. } => {
-            network_sound(lock_up_text(alloc, first, u64::from(depth), out), told)
+            let judged = lock_up_text(alloc, first, u64::from(depth), out);
+            network_sound(judged.map_err(|fault| fault.into()), told)
         }
         Job::Replay { depth, .. } => {
             let run = texts.second.as_slice();
@@ -169,15 +182,24 @@ fn place_of(number: Option<u64>) -> Option<usize> {
     Some(number? as usize)
 }
 
-/// The answer of a job that judges a network, which stands in `told` then.
+/// The answer of a job that judges a network; what is said of its text stands in `told` then.
 fn network_sound(
-    answer: Result<Answer<Global>, ProgramFault>,
-    told: &mut Option<Answer<Global>>,
+    answer: Result<Answer<Global>, Refused<NetworkReason>>,
+    told: &mut NetworkTold,
 ) -> Result<Outcome, ProgramFault> {
-    let answer = answer?;
-    let rising = answer.rising;
-    *told = Some(answer);
-    Ok(Outcome::Sound(rising))
+    match answer {
+        Ok(answer) => {
+            let rising = answer.rising;
+            *told = NetworkTold::Answered(answer);
+            Ok(Outcome::Sound(rising))
+        }
+        Err(refused) => {
+            if let Some(refusal) = refused.refusal {
+                *told = NetworkTold::Refused(refusal);
+            }
+            Err(refused.fault)
+        }
+    }
 }
 
 /// The answer of a job that replays a run of a network or sends packets over one.

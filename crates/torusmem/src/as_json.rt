@@ -2,7 +2,7 @@
 
 ghost use Rattle.command_line.specs.Job.{AreJobLimits};
 
-use crate::answering::{Outcome, answer};
+use crate::answering::{NetworkTold, Outcome, answer};
 use crate::judging::Judging;
 use crate::telling::{OutcomeLine, explain_fault, explain_outcome, outcome_status};
 use command_jobs::{RunEnd, all_printed, fault_told, texts_read, unread_told};
@@ -11,7 +11,6 @@ use command_schedule::{outcomes_status, reach_status};
 use command_verdicts::{
     Verdict, decided_status, json_object, judged_verdict, model_verdict, verdict_of_status,
 };
-use network_answer::Answer;
 use program_fault::{Failure, ProgramFault, Texts, Unread, explain_unread, fault_text, status_of};
 use report_lines::Piped;
 use std::alloc::{AllocError, Global};
@@ -114,7 +113,7 @@ fn gathered<R: Eprint + Clock + AllocGlobal + Threads + Wait + Sync>(
     texts: &Texts,
     is_seen: bool,
     text: &mut Vec<u8, Global>,
-    told: &mut Option<Answer<Global>>,
+    told: &mut NetworkTold,
 ) -> Result<Outcome, ProgramFault>
     requires { AreJobLimits job.now }
 {
@@ -171,7 +170,7 @@ fn texts_as_json<R: Print + Eprint + Clock + AllocGlobal + Threads + Wait + Sync
 {
     let is_explained = request.explain || is_seen;
     let mut text = Vec::new(rt.alloc());
-    let mut told = None;
+    let mut told = NetworkTold::Nothing;
     match gathered(rt, &request.job, texts, is_seen, &mut text, &mut told) {
         Ok(outcome) => {
             let status = outcome_status(&outcome);
@@ -184,7 +183,7 @@ fn texts_as_json<R: Print + Eprint + Clock + AllocGlobal + Threads + Wait + Sync
         Err(fault) => {
             let status = fault_said(rt, Some(command), &fault);
             if is_explained {
-                explain_fault(rt, &request.job, texts, &fault);
+                explain_fault(rt, &request.job, texts, &fault, &told);
             }
             status
         }

@@ -13,7 +13,7 @@ mod telling;
 mod watching;
 mod within;
 
-use answering::{Outcome, answer};
+use answering::{NetworkTold, Outcome, answer};
 use as_json::judged_as_json;
 use command_jobs::{
     RunEnd, commands_told, done, fault_told, flushed, tell_end_of, texts_of, version_told, writer,
@@ -22,7 +22,6 @@ use command_line::{Job, Request, asks_commands, asks_version, name_of, request_t
 use command_verdicts::network_text_once;
 use judging::Judging;
 use model_answer::AskedModel;
-use network_answer::Answer;
 use network_rounds::Arbiter;
 use program_fault::{ProgramFault, Texts};
 use report_lines::Piped;
@@ -148,7 +147,7 @@ fn other_done<R: Files + Input + Print + Eprint + Clock + AllocGlobal + Threads 
     {
         return network_told(rt, texts.first);
     }
-    let mut told = None;
+    let mut told = NetworkTold::Nothing;
     match printed(rt, request, &texts, is_seen, &mut told) {
         Ok(outcome) => {
             let status = status_told(rt, &outcome);
@@ -160,7 +159,7 @@ fn other_done<R: Files + Input + Print + Eprint + Clock + AllocGlobal + Threads 
         Err(fault) => {
             let status = fault_told(rt, &fault);
             if is_explained {
-                explain_fault(rt, &request.job, &texts, &fault);
+                explain_fault(rt, &request.job, &texts, &fault, &told);
             }
             status
         }
@@ -196,15 +195,15 @@ fn json_of(request: &Request) -> Option<&'static str> {
     }
 }
 
-/// The answer of the job, whose output was written to its last byte; what a network is judged to be stands in
-/// `told` then. How a run ended is printed behind its report, where that is asked for or standard error
+/// The answer of the job, whose output was written to its last byte; what is said of the text of a network
+/// stands in `told` then. How a run ended is printed behind its report, where that is asked for or standard error
 /// `is_seen`.
 fn printed<R: Input + Print + Eprint + Clock + AllocGlobal + Threads + Wait + Sync>(
     rt: &R,
     request: &Request,
     texts: &Texts,
     is_seen: bool,
-    told: &mut Option<Answer<Global>>,
+    told: &mut NetworkTold,
 ) -> Result<Outcome, ProgramFault>
     requires { AreJobLimits request.now.job }
 {

@@ -2,20 +2,18 @@
 
 ghost use Rattle.command_line.specs.Job.{AreJobLimits};
 
-use crate::answering::{Bounds, Outcome};
+use crate::answering::{Bounds, NetworkTold, Outcome};
 use command_jobs::{kind, names};
 use command_line::Job;
 use command_schedule::{MOST_OPERATIONS, OutcomesEnd, ReachEnd, outcomes_status, reach_status};
 use command_verdicts::{
     Decided, Judged, Modelled, decided_status, explain_models, explain_network, explain_no_order,
-    explain_other_run, explain_replay, explain_run_models, explain_simulation, explain_trace,
-    explain_values, explain_verdict, model_status, status, tried_text, verdict_text,
+    explain_other_run, explain_refused, explain_replay, explain_run_models, explain_simulation,
+    explain_trace, explain_values, explain_verdict, model_status, status, tried_text, verdict_text,
 };
 use model_answer::WrongSentence;
 use model_replies::{LostSentence, UnwrittenSentence};
-use network_answer::Answer;
 use program_fault::{ProgramFault, Texts, explain, status_of};
-use std::alloc::Global;
 use std::fmt;
 
 /// What standard error says of an answer: that a trace has no order or that it isn't decided, that
@@ -148,18 +146,20 @@ fn judged_trace<'a>(job: &Job<'a>) -> Option<&'a str> {
     }
 }
 
-/// Says why a trace has no order from a line on, or why the verdict on a network is as it is, of which this
-/// was told, where that is the answer.
+/// Says why a trace has no order from a line on, or why the verdict on a network is as it is, by what is said
+/// of its text, where that is the answer.
 pub(crate) fn explain_outcome<R: Eprint + AllocGlobal>(
     rt: &R,
     job: &Job,
     texts: &Texts,
     outcome: &Outcome,
-    told: &Option<Answer<Global>>,
+    told: &NetworkTold,
 ) {
-    if let (Job::Network { network, .. } | Job::LockUp { network, .. }, Some(answer)) = (
-        *job, told,
-    ) {
+    if let (
+        Job::Network { network, .. } | Job::LockUp { network, .. },
+        NetworkTold::Answered(answer),
+    ) = (*job, told)
+    {
         explain_verdict(rt, network, &texts.first, answer);
     }
     if let (Some(trace), Outcome::Judged(judged, bounds)) = (judged_trace(job), *outcome)
@@ -187,13 +187,17 @@ pub(crate) fn explain_fault<R: Eprint + AllocGlobal>(
     job: &Job,
     texts: &Texts,
     fault: &ProgramFault,
+    told: &NetworkTold,
 )
     requires { AreJobLimits job.now }
 {
     match *job {
-        Job::Network { network, .. } | Job::LockUp { network, .. } => {
-            explain_network(rt, network, &texts.first, fault);
-        }
+        Job::Network { network, .. } | Job::LockUp { network, .. } => match *told {
+            NetworkTold::Refused(refusal) => {
+                explain_refused(rt, network, &texts.first, fault, Some(refusal));
+            }
+            _ => explain_network(rt, network, &texts.first, fault),
+        },
         Job::Replay {
             network,
             run,

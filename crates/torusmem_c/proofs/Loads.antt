@@ -1,7 +1,7 @@
 -- A load of which nothing is kept.
 use Rattle.std.proofs.Common.{◌≡◌}
 use Rattle.std.specs.Prelude.{Option, None, Result}
-use Rattle.script.specs.declared.fault.LineFault.{LineFault}
+use Rattle.lexer.specs.declared.fault.LineFault.{LineFault}
 use Rattle.one_order.specs.Load.{Load}
 use Rattle.machine_asked.specs.Asked.{Asked}
 use Rattle.machine_core.specs.Loading.{IsLoadFault}

@@ -2,7 +2,7 @@
 use Rattle.std.specs.Prelude.{◌≡◌, ◌⊎◌, ℕ, List, length, Option, Some, None, Result, Ok, Err}
 use Rattle.torus.specs.declared.fault.Fault.{Fault}
 use Rattle.torus.specs.declared.fault.Fault.TheVariants as fault
-use Rattle.script.specs.declared.fault.LineFault.{LineFault}
+use Rattle.lexer.specs.declared.fault.LineFault.{LineFault}
 use Rattle.script_lines.specs.Machine.{MachineSpec}
 use Rattle.script.specs.Machine.{machine_of}
 use Rattle.script_lines.specs.Lines.{ScriptsSpec}

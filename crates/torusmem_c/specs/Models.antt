@@ -1,6 +1,6 @@
 -- The models that a log obeys, as C sees them (this project's own format).
 use Rattle.std.specs.Prelude.{◌≡◌, ℕ, ◌+◌, ◌*◌, ◌==◌, not, true, false, List, length}
-use Rattle.script.specs.Outcome.{fault_of_refusal}
+use Rattle.lexer.specs.Faults.{fault_of_refusal}
 use Rattle.model_text.specs.declared.values.WrongReply.{WrongReply}
 use Rattle.model_text.specs.Reasons.{log_fault_of}
 use Rattle.model_answer.specs.declared.answer.Answer.{Answer}

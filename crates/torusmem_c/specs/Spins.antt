@@ -1,6 +1,6 @@
 -- The spins that ran out of loads, as C sees them (this project's own format).
 use Rattle.std.specs.Prelude.{◌≡◌, ◌⊎◌, ℕ, List, map, Result, Ok, Err}
-use Rattle.script.specs.declared.fault.LineFault.{LineFault}
+use Rattle.lexer.specs.declared.fault.LineFault.{LineFault}
 use Rattle.script_lines.specs.declared.line.Line.{Line}
 use Rattle.script_lines.specs.Lines.{ScriptsSpec}
 use Rattle.core_laws.specs.Machine.{Core, shown}

@@ -1,6 +1,6 @@
 -- Loads, reports and their check, as C sees them (this project's own format).
 use Rattle.std.specs.Prelude.{◌≡◌, ◌⊎◌, ℕ, List, map, Result, Ok, Option, Some, None}
-use Rattle.script.specs.declared.fault.LineFault.{LineFault}
+use Rattle.lexer.specs.declared.fault.LineFault.{LineFault}
 use Rattle.one_order.specs.Load.{Load}
 use Rattle.core_laws.specs.Machine.{Core}
 use Rattle.machine_asked.specs.Asked.{Asked, has_spin}

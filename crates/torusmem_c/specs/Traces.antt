@@ -1,6 +1,6 @@
 -- The verdict on a trace, as C sees it (this project's own format).
 use Rattle.std.specs.Prelude.{◌≡◌, ◌⊎◌, ℕ, List, map, Result, Ok, Err}
-use Rattle.script.specs.declared.fault.LineFault.{LineFault}
+use Rattle.lexer.specs.declared.fault.LineFault.{LineFault}
 use Rattle.trace_laws.specs.declared.event.Call.{Call}
 use Rattle.trace_laws.specs.declared.event.Event.{Event}
 use Rattle.trace_judge.specs.declared.judge.Verdict.{Verdict}

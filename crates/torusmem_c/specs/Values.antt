@@ -1,6 +1,6 @@
 -- The models that a log obeys by its replies alone, as C sees them (this project's own format).
 use Rattle.std.specs.Prelude.{◌≡◌, ℕ, ◌==◌, not, List, length, Option, Some, None}
-use Rattle.script.specs.Outcome.{fault_of_refusal}
+use Rattle.lexer.specs.Faults.{fault_of_refusal}
 use Rattle.model_text.specs.declared.logged.Logged.{Logged}
 use Rattle.model_text.specs.declared.logged.Told.{Told}
 use Rattle.model_text.specs.Reasons.{log_fault_of}

@@ -8,8 +8,7 @@ ghost use Rattle.torusmem_c.specs.Explained.{first_fault, no_fault, text_number}
 
 use crate::outcome::{Code, fault_number};
 use crate::room::put_code;
-use lexer::{Named, Reason};
-use script::LineFault;
+use lexer::{LineFault, Named, Reason};
 use sentences::{Sentence, machine_sentence, scripts_sentence};
 use std::alloc::Global;
 use torus::Fault;

@@ -7,10 +7,10 @@ ghost use Rattle.torusmem_c.specs.Models.{wrong_record};
 
 use crate::outcome::{Code, Outcome, fault_outcome, no_memory};
 use crate::room::put_code;
+use lexer::LineFault;
 use model_answer::{NoAnswer, Obeys, Options};
 use model_text::WrongReply;
 use report_model::{LogRecord, answer_to_records};
-use script::LineFault;
 use std::alloc::Global;
 
 /// Which models a log obeys: the number of a code; the sum of the numbers of the models; the length of

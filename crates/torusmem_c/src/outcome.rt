@@ -4,7 +4,7 @@ ghost use Rattle.std.specs.Prelude.{◌≡◌, ◌≤◌};
 ghost use Rattle.torusmem_c.specs.Outcome.{fault_number, c_code, c_outcome, c_flag};
 ghost use Rattle.torusmem_c.specs.Outcome.{fault_outcome, no_memory};
 
-use script::LineFault;
+use lexer::LineFault;
 use torus::Fault;
 
 /// How a call went.

@@ -12,8 +12,8 @@ use crate::outcome::{Code, Outcome, fault_outcome, memory_fault};
 use crate::room::{put_as, put_code};
 use crate::texts::Text;
 use command_schedule::{OutcomesEnd, ReachEnd, Searched, outcomes_text, reach_text};
+use lexer::LineFault;
 use program_fault::ProgramFault;
-use script::LineFault;
 use std::alloc::Global;
 use torus::Fault;
 

@@ -10,8 +10,7 @@ ghost use Rattle.torusmem_c.specs.TraceAnswers.{SaysTrace, SaysWhy, said_record,
 use crate::outcome::{Code, Outcome, fault_outcome, memory_fault};
 use crate::room::put_code;
 use crate::texts::Text;
-use lexer::Named;
-use script::LineFault;
+use lexer::{LineFault, Named};
 use std::alloc::{AllocError, Global};
 use trace_answer::{LineText, not_linearizable, not_linearizable_by, undecided, write_order};
 use trace_laws::Call;

@@ -10,10 +10,10 @@ ghost use Rattle.torusmem_c.specs.Values.{reply_line, unvalued_record};
 use crate::models::models_number;
 use crate::outcome::{Code, Outcome, fault_outcome, no_memory};
 use crate::room::put_code;
+use lexer::LineFault;
 use model_answer::Obeys;
 use model_replies::{Decision, Decisions, NoValueAnswer, ValueOptions, value_answer};
 use model_text::Logged;
-use script::LineFault;
 use std::alloc::Global;
 
 /// Which models a log obeys by its replies alone: the number of a code; the sums of the numbers of the

@@ -1,31 +1,15 @@
 -- The event up to which no order explains a trace, over other numbers of its words.
-use Rattle.std.proofs.Common.{◌≡◌, ◌⊎◌, ⊎_elim, inl, inr, ℕ, ◌+◌, ◌<◌, ◌≤◌, List, length, Some, ◌∙◌, ap, subst, sym, arith, take, map, slice_get}
-use Rattle.std.proofs.lemmas.List.{length-map, take_all}
+use Rattle.std.proofs.Common.{◌⊎◌, ⊎_elim, inl, inr, ℕ, ◌+◌, List, length, ◌∙◌, ap, arith, take}
+use Rattle.std.proofs.lemmas.List.{length-map}
 use Rattle.trace_judge.specs.declared.undecided.Undecided.{Undecided}
-use Rattle.trace_judge.specs.declared.undecided.Undecided.TheVariants.{Memory, Configurations, Operations}
-use Rattle.trace_judge.specs.Stops.{IsUndecided, TellsMany}
 use Rattle.trace_judge.specs.Verdicts.{IsBadByEvent, IsFirstBadEvent}
 use Rattle.trace_laws.specs.declared.event.Event.{Event}
-use Rattle.trace_laws.specs.declared.event.Event.TheVariants.{Issue, Answer}
 use Rattle.trace_laws.specs.Orders.{IsLinearizable}
-use Rattle.trace_laws.proofs.Lists.{get_within}
 use Rattle.trace_text.specs.Renumbered.{IsRenumbered, moved_event}
 use Rattle.trace_text.specs.Traced.{TraceSpec, opening_of}
 use Rattle.trace_text.proofs.Renumbered.{renumbering_take, take_map}
 use Rattle.trace_answer.specs.Parts.{IsBadEvent, IsBrokenAt, IsExplained, IsOpenTrace, IsUnshown, beginning_of}
-use Rattle.trace_answer.proofs.Judging.{explained, unexplained, unshown_by}
-
--- the last event of a trace that has no order
-pub last_is_bad : (opening : List ℕ) (events : List Event) (bound event : ℕ) (why : Undecided) → (IsLinearizable opening events → ⊥)
-    → IsUndecided events why → TellsMany opening events bound why → (event + 1 ≡ length events) × (why ≡ Memory → ⊥) → IsBadEvent opening events bound event
-last_is_bad opening events bound event why none undecided many last = record {
-  none = let long = last.0 in (
-    omega arith,
-    omega arith,
-    λ is. none (subst (IsLinearizable opening) (take_all (event + 1) events (omega arith)) is),
-  );
-  first = inr (unshown_by opening events bound why last.1 undecided many);
-}
+use Rattle.trace_answer.proofs.Judging.{explained, unexplained}
 
 -- what a verdict tells
 pub no_is_bad : (opening : List ℕ) (events : List Event) (bound event : ℕ) → IsFirstBadEvent opening events event → IsBadEvent opening events bound event

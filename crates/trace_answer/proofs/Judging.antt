@@ -1,5 +1,5 @@
 -- Parts of a trace that are judged over the words alone that the trace names.
-use Rattle.std.proofs.Common.{◌≡◌, ◌⊎◌, ⊎_elim, inl, inr, ℕ, zero, suc, ◌+◌, ◌<◌, Bool, true, false, not, List, [], ◌∷◌, length, Option, Some, None, refl, sym, ◌∙◌, ap, subst, arith, slice_get, map}
+use Rattle.std.proofs.Common.{◌≡◌, ◌⊎◌, ⊎_elim, inl, inr, ℕ, ◌+◌, ◌<◌, Bool, true, false, not, List, [], length, Option, Some, None, refl, sym, ◌∙◌, ap, subst, arith, slice_get, map}
 use Rattle.std.specs.Prelude.{MatchOption, is_some, replicate, unwrap_or}
 use Rattle.state_search.specs.declared.smallest.Ending.{Ending}
 use Rattle.state_search.specs.declared.smallest.Ending.TheVariants.{Minimal, Spent}
@@ -16,7 +16,7 @@ use Rattle.trace_laws.proofs.Lists.{get_within}
 use Rattle.trace_laws.proofs.Without.{forth}
 use Rattle.trace_text.specs.declared.issued.Issued.{Issued}
 use Rattle.trace_text.specs.Kept.{IsKnownAs}
-use Rattle.trace_text.specs.Renumbered.{IsRenumbered, IsRenumbering, moved_call, moved_event}
+use Rattle.trace_text.specs.Renumbered.{IsRenumbered, moved_call, moved_event}
 use Rattle.trace_text.specs.Traced.{TraceSpec, opening_of}
 use Rattle.trace_text.proofs.Renumbered.{order_there, order_back}
 use Rattle.trace_answer.specs.Kept.{is_of_kept, kept_events}

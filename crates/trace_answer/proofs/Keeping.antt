@@ -1,16 +1,13 @@
 -- The events of some operations of a trace are a trace.
-use Rattle.std.proofs.Common.{◌≡◌, ⊎_elim, inl, inr, ℕ, zero, suc, ◌+◌, ◌<◌, Bool, true, false, List, [], ◌∷◌, ◌++◌, length, Some, None, refl, sym, ◌∙◌, ap, subst, arith, slice_get, filter, map, take}
+use Rattle.std.proofs.Common.{◌≡◌, ⊎_elim, inl, inr, ℕ, zero, suc, ◌<◌, Bool, true, false, List, [], ◌∷◌, Some, None, refl, sym, ◌∙◌, ap, subst, arith, slice_get, filter, map}
 use Rattle.std.specs.Prelude.{replicate, unwrap_or}
 use Rattle.std.proofs.lemmas.Bool.{cases_lt}
-use Rattle.std.proofs.lemmas.List.{append-nil}
-use Rattle.std.proofs.lemmas.List.Elements.{filter-append}
 use Rattle.packet.specs.declared.kinds.Reply.{Reply}
 use Rattle.trace_laws.specs.declared.event.Call.{Call}
 use Rattle.trace_laws.specs.declared.event.Event.{Event}
 use Rattle.trace_laws.specs.declared.event.Event.TheVariants.{Issue, Answer}
-use Rattle.trace_laws.specs.Traces.{IsTrace, TraceAnswersAt, WasIssuedBefore}
+use Rattle.trace_laws.specs.Traces.{IsTrace}
 use Rattle.trace_laws.specs.Unanswered.{IsWithout}
-use Rattle.trace_laws.proofs.Lists.{take_push}
 use Rattle.trace_laws.proofs.Without.{forth, forth_both}
 use Rattle.trace_answer.specs.Kept.{is_of_kept, kept_events}
 
@@ -137,22 +134,3 @@ pub get_replicate : {A : Type 0} (n : ℕ) (x : A) (k : ℕ) → k < n → slice
 get_replicate zero x k l = absurd (omega arith)
 get_replicate (suc n) x zero l = refl
 get_replicate (suc n) x (suc k) l = get_replicate n x k (omega arith)
-
--- one event more, which is kept, or isn't
-pub kept_taken : (kept : List Bool) (events : List Event) (i : ℕ) (e : Event) (all : List Event) → slice_get events i ≡ Some e
-    → is_of_kept kept e ≡ true → all ≡ kept_events kept (take i events) → all ++ e ∷ [] ≡ kept_events kept (take (i + 1) events)
-kept_taken kept events i e all at is was =
-    let grown : take (suc i) events ≡ take i events ++ e ∷ [] = take_push events i e at in
-    let next : suc i ≡ i + 1 = omega arith in
-    let one : kept_events kept (e ∷ []) ≡ e ∷ [] = filter_takes (is_of_kept kept) e [] is in
-    ap (λ z. z ++ e ∷ []) was ∙ ap (λ z. kept_events kept (take i events) ++ z) (sym one)
-    ∙ sym (filter-append (is_of_kept kept) (take i events) (e ∷ [])) ∙ ap (kept_events kept) (sym grown) ∙ ap (λ n. kept_events kept (take n events)) next
-
-pub kept_passed : (kept : List Bool) (events : List Event) (i : ℕ) (e : Event) (all : List Event) → slice_get events i ≡ Some e
-    → is_of_kept kept e ≡ false → all ≡ kept_events kept (take i events) → all ≡ kept_events kept (take (i + 1) events)
-kept_passed kept events i e all at is was =
-    let grown : take (suc i) events ≡ take i events ++ e ∷ [] = take_push events i e at in
-    let next : suc i ≡ i + 1 = omega arith in
-    let one : kept_events kept (e ∷ []) ≡ [] = filter_leaves (is_of_kept kept) e [] is in
-    was ∙ sym (append-nil (kept_events kept (take i events))) ∙ ap (λ z. kept_events kept (take i events) ++ z) (sym one)
-    ∙ sym (filter-append (is_of_kept kept) (take i events) (e ∷ [])) ∙ ap (kept_events kept) (sym grown) ∙ ap (λ n. kept_events kept (take n events)) next

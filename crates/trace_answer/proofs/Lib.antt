@@ -15,6 +15,7 @@ pub mod Waits
 pub mod Parts
 pub mod Whole
 pub mod Notes
+pub mod Holding
 pub mod Keeping
 pub mod Judging
 pub mod Breaking

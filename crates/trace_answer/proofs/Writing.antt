@@ -1,16 +1,17 @@
 -- What the text of a part counts and names.
-use Rattle.std.proofs.Common.{◌≡◌, ⊎_elim, ℕ, zero, suc, ◌+◌, ◌<◌, ◌≤◌, ◌==◌, Bool, true, false, List, [], ◌∷◌, ◌++◌, length, Some, refl, sym, ◌∙◌, ap, arith, slice_get}
+use Rattle.std.proofs.Common.{◌≡◌, ⊎_elim, ℕ, zero, suc, ◌+◌, ◌<◌, ◌≤◌, ◌==◌, Bool, false, List, [], ◌∷◌, ◌++◌, length, Some, refl, sym, ◌∙◌, ap, arith, slice_get}
 use Rattle.std.specs.Prelude.{◌&&◌, Option, cond, if◌then◌else◌, option_map, slice_index, unwrap_or}
-use Rattle.std.specs.List.{count_by, flat_map, range_with_len, sum_by}
+use Rattle.std.specs.List.{count_by, flat_map, range_with_len}
 use Rattle.std.proofs.lemmas.Bool.{cases_lt}
 use Rattle.std.proofs.lemmas.Grind.{flat_map-append}
 use Rattle.std.proofs.lemmas.List.{append-nil}
 use Rattle.std.proofs.lemmas.List.FromFn.{length-range_with_len}
 use Rattle.std.proofs.lemmas.List.Sums.{count_by-le-length, sum_by-append}
-use Rattle.std.proofs.lemmas.Option.{get_or_from_slice_get, slice_get_within}
+use Rattle.std.proofs.lemmas.Option.{get_or_from_slice_get}
 use Rattle.packet.specs.declared.kinds.Reply.{Reply}
 use Rattle.lexer.specs.Joined.{line_of_words}
 use Rattle.trace_laws.specs.declared.event.Event.TheVariants.{Answer}
+use Rattle.trace_table.proofs.Counts.{get_front, get_last}
 use Rattle.trace_text.specs.declared.issued.Issued.{Issued}
 use Rattle.trace_text.specs.Traced.{TraceSpec}
 use Rattle.trace_answer.specs.declared.counts.Key.{Key}
@@ -45,17 +46,6 @@ pub count_next : (issued : List Issued) (kept : List Bool) (key : Key) (v n k : 
     → count_before issued kept key v (n + 1) ≡ count_before issued kept key v n + (if flag && (k == v) then 1 else 0)
 count_next issued kept key v n k i flag there is kind =
     count_next_by (is_counted issued kept key v) n (flag && (k == v)) (rw (there, is, kind) refl)
-
--- an element of a list that goes on
-get_front : {X : Type 0} (xs ys : List X) (k : ℕ) (x : X) → slice_get xs k ≡ Some x → slice_get (xs ++ ys) k ≡ Some x
-get_front [] ys k x h = cc
-get_front (z ∷ xs) ys zero x h = h
-get_front (z ∷ xs) ys (suc k) x h = get_front xs ys k x h
-
--- the last one
-get_last : {X : Type 0} (xs : List X) (y : X) → slice_get (xs ++ y ∷ []) (length xs) ≡ Some y
-get_last [] y = refl
-get_last (z ∷ xs) y = get_last xs y
 
 -- one count more
 pub counts_more : (issued : List Issued) (kept : List Bool) (key : Key) (counts : List ℕ) (n x k : ℕ) (i : Issued) → length counts ≡ n

@@ -8,7 +8,6 @@ use Rattle.packet.specs.declared.kinds.Operation.{Operation}
 use Rattle.packet.specs.declared.kinds.Reply.{Reply}
 use Rattle.lexer.specs.Joined.{line_of_words}
 use Rattle.report_lines.specs.Line.{op_words, reply_word}
-use Rattle.trace_lines.specs.Head.{value_in}
 use Rattle.trace_laws.specs.declared.event.Event.{Event}
 use Rattle.trace_laws.specs.declared.event.Event.TheVariants.{Issue, Answer}
 use Rattle.trace_text.specs.declared.issued.Issued.{Issued}
@@ -16,10 +15,6 @@ use Rattle.trace_text.specs.Traced.{TraceSpec, opening_of}
 use Rattle.trace_answer.specs.declared.counts.Key.{Key}
 use Rattle.trace_answer.specs.declared.counts.Key.TheVariants.{Processor, Address}
 use Rattle.trace_answer.specs.Kept.{kept_events}
-
--- the count at a key; 0 where there is none
-abbrev pub count_of : List (ℕ × ℕ) → ℕ → ℕ
-count_of counts key = unwrap_or (value_in counts key) 0
 
 -- the processor of an operation, or the address of its word
 abbrev pub key_of : Key → Issued → ℕ

@@ -3,10 +3,12 @@
 ghost use Rattle.std.specs.Prelude.{◌≡◌, ◌+◌, ◌<◌, ◌==◌, ◌&&◌, ◌^◌, ℕ, IfOk, OnOk};
 ghost use Rattle.std.specs.Prelude.{Some, false, if◌then◌else◌, length, slice_get, unwrap_or};
 ghost use Rattle.trace_text.specs.declared.issued.Issued.{Issued};
-ghost use Rattle.trace_answer.specs.Written.{AreCounts, count_of, key_of};
+ghost use Rattle.trace_table.specs.Counts.{count_in};
+ghost use Rattle.trace_answer.specs.Written.{AreCounts, key_of};
 
 use std::alloc::{AllocError, Allocator};
 use std::collections::BTreeMap;
+use trace_table::counted;
 use trace_text::Issued;
 
 /// By what operations are counted.
@@ -43,33 +45,16 @@ pub(crate) fn is_kept_at(kept: &[bool], k: usize) -> bool
     kept.get(k).copied().unwrap_or(false)
 }
 
-/// Counts one more of a key, and answers how many came before it.
-fn counted<A: Allocator + Copy>(
-    counts: &mut BTreeMap<u32, u64, A>,
-    key: u32,
-) -> Result<u64, AllocError>
-    requires { count_of counts.old.entries key < 2 ^ 63 }
-    ensures count { IfOk result (λ count. count ≡ count_of counts.old.entries key) }
-    ensures more { OnOk result ((k : ℕ) → count_of counts.new.entries k
-        ≡ count_of counts.old.entries k + (if key == k then 1 else 0)) }
-{
-    let count = counts.get(&key).copied().unwrap_or(0);
-    match counts.insert(key, count + 1) {
-        Ok(_) => Ok(count),
-        Err(_) => Err(AllocError),
-    }
-}
-
 /// How many of a key are counted, before one more is, if it is kept.
 fn counted_if<A: Allocator + Copy>(
     counts: &mut BTreeMap<u32, u64, A>,
     key: u32,
     is_kept: bool,
 ) -> Result<u64, AllocError>
-    requires { count_of counts.old.entries key < 2 ^ 63 }
-    ensures count { IfOk result (λ count. count ≡ count_of counts.old.entries key) }
-    ensures more { OnOk result ((k : ℕ) → count_of counts.new.entries k
-        ≡ count_of counts.old.entries k + (if is_kept && (key == k) then 1 else 0)) }
+    requires { count_in counts.old.entries key < 2 ^ 63 }
+    ensures count { IfOk result (λ count. count ≡ count_in counts.old.entries key) }
+    ensures more { OnOk result ((k : ℕ) → count_in counts.new.entries k
+        ≡ count_in counts.old.entries k + (if is_kept && (key == k) then 1 else 0)) }
 {
     if is_kept {
         return counted(counts, key);

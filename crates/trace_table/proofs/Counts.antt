@@ -1,16 +1,12 @@
 -- How many rows each processor has.
 use Rattle.std.proofs.Common.{◌≡◌, ⊎_elim, ℕ, zero, suc, ◌+◌, ◌<◌, ◌≤◌, ◌==◌, Bool, true, false, List, [], ◌∷◌, ◌++◌, length}
 use Rattle.std.proofs.Common.{get_or, slice_get, refl, ap, sym, ◌∙◌, add-zero, arith}
-use Rattle.std.specs.Prelude.{cond, if◌then◌else◌, unwrap_or, Option, Some}
-use Rattle.std.specs.Ordering.{nat_cmp}
-use Rattle.std.specs.BTreeMap.{is_at}
+use Rattle.std.specs.Prelude.{if◌then◌else◌, Some}
 use Rattle.std.proofs.lemmas.List.Sums.{count_by_more_no, count_by_more_yes}
 use Rattle.std.proofs.lemmas.Bool.{cases_lt}
-use Rattle.std.proofs.lemmas.Bool.Decides.{nat_tests}
 use Rattle.std.proofs.lemmas.Option.{get_or_from_slice_get, slice_get_within}
-use Rattle.trace_lines.specs.Head.{value_in}
 use Rattle.trace_table.specs.declared.row.TableRow.{TableRow}
-use Rattle.trace_table.specs.Text.{count_in, own_index}
+use Rattle.trace_table.specs.Text.{own_index}
 
 -- a row of a number
 pub row_there : (rows : List TableRow) (i : ℕ) → i < length rows → (row : TableRow) × (slice_get rows i ≡ Some row)
@@ -31,28 +27,14 @@ own_next rows i p k row there is =
     let test : ((get_or rows i row).processor == p) ≡ (k == p) = ap (λ (r : TableRow). r.processor == p) found ∙ ap (λ (n : ℕ). n == p) (sym is) in
     own_next_by rows i row p (k == p) (slice_get_within rows i row there) test
 
--- one more at a key
-pub counted_more : (new old : List (ℕ × ℕ)) (k p c : ℕ) (b : Bool) → (k == p) ≡ b
-    → value_in new p ≡ cond (is_at (nat_cmp k) p) (Some (c + 1)) (value_in old p) → c ≡ count_in old k
-    → count_in new p ≡ count_in old p + (if b then 1 else 0)
-counted_more new old k p c true test is count =
-    let same : k ≡ p = grind (arith, nat_tests) in
-    let at : is_at (nat_cmp k) p ≡ true = grind (arith, nat_tests) in
-    ap (λ (o : Option ℕ). unwrap_or o 0) (is ∙ ap (λ (b : Bool). cond b (Some (c + 1)) (value_in old p)) at)
-    ∙ ap (λ (n : ℕ). n + 1) (count ∙ ap (count_in old) same)
-counted_more new old k p c false test is count =
-    let at : is_at (nat_cmp k) p ≡ false = grind (arith, nat_tests) in
-    ap (λ (o : Option ℕ). unwrap_or o 0) (is ∙ ap (λ (b : Bool). cond b (Some (c + 1)) (value_in old p)) at)
-    ∙ sym (add-zero (count_in old p))
-
 -- an element of a list that goes on
-get_front : {X : Type 0} (xs ys : List X) (k : ℕ) (x : X) → slice_get xs k ≡ Some x → slice_get (xs ++ ys) k ≡ Some x
+pub get_front : {X : Type 0} (xs ys : List X) (k : ℕ) (x : X) → slice_get xs k ≡ Some x → slice_get (xs ++ ys) k ≡ Some x
 get_front [] ys k x h = cc
 get_front (z ∷ xs) ys zero x h = h
 get_front (z ∷ xs) ys (suc k) x h = get_front xs ys k x h
 
 -- the last one
-get_last : {X : Type 0} (xs : List X) (y : X) → slice_get (xs ++ y ∷ []) (length xs) ≡ Some y
+pub get_last : {X : Type 0} (xs : List X) (y : X) → slice_get (xs ++ y ∷ []) (length xs) ≡ Some y
 get_last [] y = refl
 get_last (z ∷ xs) y = get_last xs y
 

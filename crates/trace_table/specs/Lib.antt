@@ -1,5 +1,6 @@
 pub mod Cells
 pub mod Columns
+pub mod Counts
 pub mod Literals
 pub mod Reasons
 pub mod Row

@@ -1,11 +1,10 @@
 -- The trace text of rows that stand in the order of their issues (this project's own format).
 use Rattle.std.specs.Prelude.{◌≡◌, ℕ, ◌+◌, ◌==◌, max, Bool, true, false, List, [], ◌∷◌, ◌++◌}
 use Rattle.std.specs.Prelude.{take}
-use Rattle.std.specs.Prelude.{Option, Some, None, codes, count_by, decimal, slice_get, unwrap_or}
+use Rattle.std.specs.Prelude.{Option, Some, None, codes, count_by, decimal, slice_get}
 use Rattle.std.specs.List.{flat_map}
 use Rattle.packet.specs.declared.kinds.Reply.{Reply}
 use Rattle.lexer.specs.Joined.{joined_on}
-use Rattle.trace_lines.specs.Head.{value_in}
 use Rattle.report_lines.specs.Line.{op_words, reply_word}
 use Rattle.trace_table.specs.declared.moment.Moment.{Moment}
 use Rattle.trace_table.specs.declared.row.TableRow.{TableRow}
@@ -14,10 +13,6 @@ use Rattle.trace_table.specs.declared.row.TimedReply.{TimedReply}
 -- how many of the first rows a processor has: the index of its next operation
 abbrev pub own_index : List TableRow → ℕ → ℕ → ℕ
 own_index rows processor number = count_by (λ row. row.processor == processor) (take number rows)
-
--- the number at a processor in a list of processors with a number each; 0 where there is none
-abbrev pub count_in : List (ℕ × ℕ) → ℕ → ℕ
-count_in counts processor = unwrap_or (value_in counts processor) 0
 
 -- these are the indexes of rows among those of their processors
 pub record AreOwnIndexes (rows : List TableRow) (indexes : List ℕ) : Type 0 where

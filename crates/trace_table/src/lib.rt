@@ -4,6 +4,7 @@
 
 mod cells;
 pub mod column;
+pub mod counting;
 mod hints;
 mod literal;
 pub mod moment;
@@ -15,6 +16,7 @@ pub mod table;
 mod text;
 
 pub use column::{Column, Columns};
+pub use counting::counted;
 pub use moment::Moment;
 pub use reason::TableReason;
 pub use row::{TableRow, TimedReply};

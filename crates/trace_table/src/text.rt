@@ -1,18 +1,14 @@
 //! The trace text of rows that stand in the order of their issues.
 
-ghost use Rattle.std.specs.Prelude.{◌≡◌, ◌<◌, ◌≤◌, ◌+◌, ◌^◌, ◌==◌, ℕ, ◌∷◌, ◌++◌, [], IfOk, OnOk};
-ghost use Rattle.std.specs.Prelude.{codes};
+ghost use Rattle.std.specs.Prelude.{◌≡◌, ◌≤◌, ◌+◌, ◌^◌, ◌∷◌, ◌++◌, [], IfOk, OnOk};
 ghost use Rattle.std.specs.Prelude.{decimal, map, max};
-ghost use Rattle.std.specs.Prelude.{if◌then◌else◌};
-ghost use Rattle.std.specs.List.{flat_map};
 ghost use Rattle.lexer.specs.Joined.{joined_on};
 ghost use Rattle.packet.specs.Names.{values_listed};
 ghost use Rattle.report_lines.specs.Line.{op_words, reply_word};
 ghost use Rattle.trace_table.specs.Text.{AreOwnIndexes, answer_text, issue_text, moment_text};
-ghost use Rattle.trace_table.specs.Text.{moments_text};
-ghost use Rattle.trace_table.specs.Text.{own_index};
-ghost use Rattle.trace_table.specs.Text.{count_in, table_text, words_needed};
+ghost use Rattle.trace_table.specs.Text.{moments_text, table_text, words_needed};
 
+use crate::counting::counted;
 use crate::moment::Moment;
 use crate::row::{TableRow, processor_at};
 use itoa::Buffer;
@@ -98,23 +94,6 @@ fn put_answer<A: Allocator>(
     put_reply(text, reply)?;
     text.push(b'\n')?;
     Ok(())
-}
-
-/// Counts one operation more of a processor, and answers how many came before it.
-fn counted<A: Allocator + Copy>(
-    counts: &mut BTreeMap<u32, u64, A>,
-    processor: u32,
-) -> Result<u64, AllocError>
-    requires { count_in counts.old.entries processor < 2 ^ 63 }
-    ensures count { IfOk result (λ count. count ≡ count_in counts.old.entries processor) }
-    ensures more { OnOk result ((p : ℕ) → count_in counts.new.entries p
-        ≡ count_in counts.old.entries p + (if processor == p then 1 else 0)) }
-{
-    let count = counts.get(&processor).copied().unwrap_or(0);
-    match counts.insert(processor, count + 1) {
-        Ok(_) => Ok(count),
-        Err(_) => Err(AllocError),
-    }
 }
 
 /// The indexes of rows among those of their processors.

@@ -4,7 +4,7 @@ use Rattle.std.specs.Prelude.{Result, Ok, Err}
 use Rattle.torus.specs.declared.fault.Fault.TheVariants as fault
 use Rattle.lexer.specs.declared.refusal.Refusal.{Refusal}
 use Rattle.lexer.specs.Outcome.{line_of_fault, refusal_at}
-use Rattle.script.specs.Outcome.{fault_of_refusal, by_fault}
+use Rattle.lexer.specs.Faults.{fault_of_refusal, by_fault}
 use Rattle.trace_lines.specs.declared.reason.LineReason.TheVariants as line
 use Rattle.trace_lines.proofs.Refused.{at_line as line_at, refused_at}
 use Rattle.trace_text.specs.declared.reason.TraceReason.{TraceReason}

@@ -11,8 +11,8 @@ use Rattle.trace_laws.specs.declared.event.Event.TheVariants.{Issue, Answer}
 use Rattle.lexer.specs.Words.{words_of}
 use Rattle.lexer.specs.Outcome.{◌>>=◌, then_lines}
 use Rattle.lexer.specs.declared.refusal.Refusal.{Refusal}
-use Rattle.script.specs.declared.fault.LineFault.{LineFault}
-use Rattle.script.specs.Outcome.{by_fault}
+use Rattle.lexer.specs.declared.fault.LineFault.{LineFault}
+use Rattle.lexer.specs.Faults.{by_fault}
 use Rattle.trace_lines.specs.Form.{reply_read, unwanted_reply}
 use Rattle.trace_lines.specs.Head.{HeadSpec, no_head, value_in, with_value, head_missing}
 use Rattle.trace_lines.specs.Reasons.{map_err, unless_refused}

@@ -2,7 +2,7 @@
 use Rattle.std.proofs.Common.{Result, ap, ◌∙◌}
 use Rattle.std.proofs.lemmas.Result.{err_from_is_err_and}
 use Rattle.std.specs.Str.Lines.{lines}
-use Rattle.script.specs.declared.fault.LineFault.{LineFault}
+use Rattle.lexer.specs.declared.fault.LineFault.{LineFault}
 use Rattle.one_order.specs.Load.{Load}
 use Rattle.core_laws.specs.Core.{round}
 use Rattle.machine_core.specs.Loading.{HasLoaded, load_by}

@@ -2,7 +2,7 @@
 use Rattle.std.proofs.Common.{Result, sym, subst}
 use Rattle.std.proofs.lemmas.Result.{err_from_is_err_and}
 use Rattle.std.specs.Str.Lines.{lines}
-use Rattle.script.specs.declared.fault.LineFault.{LineFault}
+use Rattle.lexer.specs.declared.fault.LineFault.{LineFault}
 use Rattle.machine_core.specs.Run.{AskedRun, asked_of}
 use Rattle.command_schedule.specs.Asked.{HasOpened}
 use Rattle.command_schedule.proofs.Told.{moves_front, moves_last, moves_whole}

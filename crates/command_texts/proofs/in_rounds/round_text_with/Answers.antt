@@ -2,7 +2,7 @@
 use Rattle.std.proofs.Common.{◌≡◌, ◌-◌, ℕ, Result, ap, subst, sym, ◌∙◌}
 use Rattle.std.proofs.lemmas.Result.{err_from_is_err_and}
 use Rattle.std.specs.Str.Lines.{lines}
-use Rattle.script.specs.declared.fault.LineFault.{LineFault}
+use Rattle.lexer.specs.declared.fault.LineFault.{LineFault}
 use Rattle.one_order.specs.Load.{Load}
 use Rattle.fair_rounds.specs.Fewest.{paced_rounds}
 use Rattle.core_laws.specs.ProgressMoves.{moves_made}

@@ -1,7 +1,7 @@
 -- What the command has put is what is said.
 use Rattle.std.proofs.Common.{inr, subst, sym, ℕ, Result}
 use Rattle.std.specs.Str.Lines.{lines}
-use Rattle.script.specs.declared.fault.LineFault.{LineFault}
+use Rattle.lexer.specs.declared.fault.LineFault.{LineFault}
 use Rattle.one_order.specs.Load.{Load}
 use Rattle.machine_core.specs.Loading.{load_by}
 use Rattle.command_schedule.specs.Outcomes.{IsOutcomesText}

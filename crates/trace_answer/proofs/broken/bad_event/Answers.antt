@@ -1,5 +1,4 @@
-use Rattle.std.proofs.Common.{◌≡◌, ◌+◌, length, arith}
-use Rattle.trace_answer.proofs.Breaking.{by_is_bad, last_is_bad, no_is_bad}
+use Rattle.trace_answer.proofs.Breaking.{by_is_bad, no_is_bad}
 use Rattle.trace_answer.proofs.broken.bad_event.Goals as goal
 
 pub returns-in-Ok-No : goal.returns-in-Ok-No

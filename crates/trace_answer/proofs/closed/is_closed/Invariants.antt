@@ -1,4 +1,4 @@
-use Rattle.std.proofs.Common.{◌+◌, ◌≤◌, ℕ, length}
+use Rattle.std.proofs.Common.{◌≤◌, ℕ, length}
 use Rattle.state_search.specs.Parts.{IsKept}
 use Rattle.trace_answer.specs.Leaving.{MayHaveLeft}
 use Rattle.trace_answer.specs.Noted.{HoldsFound}

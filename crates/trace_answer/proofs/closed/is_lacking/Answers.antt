@@ -1,6 +1,6 @@
 use Rattle.std.proofs.Common.{◌≡◌, true, false, refl, sym, ◌∙◌, subst}
 use Rattle.trace_answer.specs.Noted.{is_met}
-use Rattle.trace_answer.proofs.Notes.{lacking_is, lacking_none, lacking_not}
+use Rattle.trace_answer.proofs.Holding.{lacking_is, lacking_none, lacking_not}
 use Rattle.trace_answer.proofs.closed.is_lacking.Goals as goal
 
 pub returns-in-Some-clause-yes : goal.returns-in-Some-clause-yes

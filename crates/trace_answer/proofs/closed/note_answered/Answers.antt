@@ -1,5 +1,5 @@
 use Rattle.std.proofs.lemmas.Result.{on_ok_weaker}
-use Rattle.trace_answer.proofs.Notes.{answer_noted, issue_noted}
+use Rattle.trace_answer.proofs.Holding.{answer_noted, issue_noted}
 use Rattle.trace_answer.proofs.closed.note_answered.Goals as goal
 
 pub returns-in-Issue : goal.returns-in-Issue

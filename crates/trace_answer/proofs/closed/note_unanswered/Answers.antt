@@ -1,6 +1,6 @@
 use Rattle.std.proofs.Common.{refl}
 use Rattle.std.proofs.lemmas.Result.{on_ok_weaker}
-use Rattle.trace_answer.proofs.Notes.{unanswered_noted, unanswered_skipped}
+use Rattle.trace_answer.proofs.Holding.{unanswered_noted, unanswered_skipped}
 use Rattle.trace_answer.proofs.closed.note_unanswered.Goals as goal
 
 pub returns-then-is_unanswered : goal.returns-then-is_unanswered

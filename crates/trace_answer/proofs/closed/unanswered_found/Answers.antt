@@ -1,6 +1,6 @@
 use Rattle.std.proofs.Common.{◌≡◌, length, subst, arith}
 use Rattle.trace_answer.specs.Noted.{HoldsFound}
-use Rattle.trace_answer.proofs.Notes.{nothing_noted}
+use Rattle.trace_answer.proofs.Holding.{nothing_noted}
 use Rattle.trace_answer.proofs.closed.unanswered_found.Goals as goal
 
 pub loop-k-init : goal.loop-k-init

@@ -1,4 +1,4 @@
-use Rattle.std.proofs.Common.{◌≡◌, ◌+◌, ◌<◌, ◌≤◌, ◌==◌, ℕ, ap, arith, length, rules, slice_get, sym, ◌∙◌}
+use Rattle.std.proofs.Common.{◌+◌, ◌==◌, ℕ, ap, arith, rules, slice_get, sym, ◌∙◌}
 use Rattle.std.specs.Prelude.{◌&&◌, if◌then◌else◌}
 use Rattle.std.proofs.lemmas.Option.{slice_get_within}
 use Rattle.trace_answer.proofs.Writing.{count_low, count_next, counts_more}

@@ -1,4 +1,4 @@
-use Rattle.std.proofs.Common.{◌≡◌, ◌++◌, ◌∙◌, ap, sym, slice_get}
+use Rattle.std.proofs.Common.{◌++◌, ◌∙◌, ap, sym, slice_get}
 use Rattle.trace_answer.specs.Written.{opening_at}
 use Rattle.trace_answer.proofs.Writing.{images_more}
 use Rattle.trace_answer.proofs.written.openings.Goals as goal

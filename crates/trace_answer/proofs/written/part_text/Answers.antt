@@ -1,4 +1,4 @@
-use Rattle.std.proofs.Common.{◌≡◌, ◌∙◌, Some, ap, slice_get}
+use Rattle.std.proofs.Common.{◌∙◌, Some, ap, slice_get}
 use Rattle.trace_answer.specs.Written.{count_before}
 use Rattle.trace_answer.specs.declared.counts.Key.TheVariants.{Processor}
 use Rattle.trace_answer.proofs.written.part_text.Goals as goal

@@ -1,4 +1,4 @@
-use Rattle.std.proofs.Common.{◌≡◌, ◌++◌, ◌∙◌, List, ℕ, ap, sym, slice_get}
+use Rattle.std.proofs.Common.{◌++◌, ◌∙◌, List, ℕ, ap, sym, slice_get}
 use Rattle.trace_answer.proofs.Behind.{on_ok}
 use Rattle.trace_answer.proofs.Writing.{answer_is}
 use Rattle.trace_answer.proofs.written.put_event.Goals as goal

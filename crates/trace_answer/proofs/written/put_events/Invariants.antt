@@ -1,7 +1,6 @@
 use Rattle.std.proofs.Common.{◌≡◌, ◌++◌, length}
 use Rattle.std.specs.List.{flat_map}
-use Rattle.trace_answer.specs.Written.{AreCounts, event_text}
-use Rattle.trace_answer.specs.declared.counts.Key.TheVariants.{Processor}
+use Rattle.trace_answer.specs.Written.{event_text}
 use Rattle.trace_answer.proofs.written.put_events.Given as goal
 
 abbrev pub invariant-loop-left : goal.invariant-loop-left

@@ -1,7 +1,8 @@
 use Rattle.std.proofs.Common.{◌≡◌, ◌<◌, ℕ, length}
 use Rattle.std.specs.Prelude.{Some, slice_get}
 use Rattle.trace_table.specs.declared.row.TableRow.{TableRow}
-use Rattle.trace_table.specs.Text.{count_in, own_index}
+use Rattle.trace_table.specs.Counts.{count_in}
+use Rattle.trace_table.specs.Text.{own_index}
 use Rattle.trace_table.proofs.text.own_indexes.Given as goal
 
 abbrev pub invariant-loop-i : goal.invariant-loop-i

@@ -1,4 +1,6 @@
-use lexer::{Reason, Refusal};
+//! The first fault of a text, where its reason isn't asked for.
+
+use crate::{Reason, Refusal};
 use std::fmt;
 use thiserror::Error;
 use torus::Fault;
@@ -19,7 +21,7 @@ impl fmt::Display for LineFault {
 
 impl<R: Reason> From<Refusal<R>> for LineFault {
     ghost use Rattle.std.specs.Prelude.{◌≡◌};
-    ghost use Rattle.script.specs.Outcome.{fault_of_refusal};
+    ghost use Rattle.lexer.specs.Faults.{fault_of_refusal};
 
     ghost from_gives = { λ refusal fault. fault ≡ fault_of_refusal R.fault_of refusal };
 
