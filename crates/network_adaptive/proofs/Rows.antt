@@ -1,5 +1,5 @@
 -- The rows of marks: where they stand, how long they are, and what is marked in them.
-use Rattle.std.proofs.Common.{◌≡◌, ◌≢◌, inl, inr, ℕ, zero, suc, ◌+◌, ◌-◌, ◌*◌, ◌<◌, ◌≤◌, ◌||◌, ◌&&◌, not, Bool, true, false, Some, Option, None, List, [], ◌∷◌, ◌++◌, length, set, take, drop, get_or, refl, sym, ◌∙◌, ap, subst, arith, eq-eqb, ne_eqb}
+use Rattle.std.proofs.Common.{◌≡◌, inl, inr, ℕ, suc, ◌+◌, ◌-◌, ◌*◌, ◌<◌, ◌≤◌, ◌||◌, ◌&&◌, not, Bool, true, false, Some, Option, None, List, [], ◌++◌, length, set, take, drop, refl, sym, ◌∙◌, ap, subst, arith, eq-eqb, ne_eqb}
 use Rattle.std.specs.Prelude.{slice_get, ◌==◌}
 use Rattle.std.specs.List.{count_by, list_any}
 use Rattle.std.proofs.lemmas.List.{length-take, length-take-le, length-drop, length-append, length-set, get_or-set_same, get_or-set_other, take-append-le, drop-append-le}
@@ -9,7 +9,7 @@ use Rattle.std.proofs.lemmas.List.Folds.{list_any_more}
 use Rattle.std.proofs.lemmas.Bool.{cases_eq, cases_lt}
 use Rattle.std.proofs.lemmas.Option.{slice_get_within}
 use Rattle.network_judge.specs.declared.table.Kind.{Kind}
-use Rattle.network_judge.specs.declared.table.Kind.TheVariants.{Injection, Hop, Ejection}
+use Rattle.network_judge.specs.declared.table.Kind.TheVariants.{Ejection}
 use Rattle.network_judge.specs.declared.table.Join.{Join}
 use Rattle.network_judge.specs.Marks.{is_marked_at}
 use Rattle.network_judge.specs.Table.{table_of, joins_of, is_sender, is_receiver, ejects}
@@ -168,7 +168,7 @@ row_last kinds marks row j begins long =
 
 module _ (kinds : List Kind) (escapes : List Bool) (own : List Join) where
   pub marks_begin : AreMarksSo kinds escapes own 0 []
-  marks_begin = record { size = refl; room = λ j l. absurd (omega arith); each = λ j l. absurd (omega arith) }
+  marks_begin = record { size = (let z : 0 ≡ 0 * length kinds = omega arith in z); room = λ j l. absurd (omega arith); each = λ j l. absurd (omega arith) }
 
   pub marks_skip : (m : ℕ) (marks : List Bool) → m < length kinds → is_receiver (slice_get kinds m) ≡ false → AreMarksSo kinds escapes own m marks
       → AreMarksSo kinds escapes own (m + 1) marks

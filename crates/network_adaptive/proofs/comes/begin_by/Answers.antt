@@ -1,4 +1,4 @@
-use Rattle.std.proofs.Common.{◌≡◌, ◌+◌, ◌<◌, ◌≤◌, length, arith}
+use Rattle.std.proofs.Common.{◌≡◌, ◌+◌, ◌≤◌, length, arith}
 use Rattle.network_adaptive.proofs.Begins.{all_begun}
 use Rattle.network_adaptive.proofs.Pairs.{long, goes_there, begun_first, begun_by}
 use Rattle.network_adaptive.proofs.comes.begin_by.Goals as goal

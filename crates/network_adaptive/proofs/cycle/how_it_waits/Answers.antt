@@ -37,19 +37,17 @@ loop-to-preserved g c =
     (subst (λ (v : List Bool). LeadsToWait a.kinds.now a.choices.now (block_base a.kinds.now a.ways c.loop-to.to) a.ways v a.x a.y)
     (sym c.marks_to-row.ensures.value) w.leads))) c.loop-to.invariant
 
-pub index-2-in_bounds : goal.index-2-in_bounds
-index-2-in_bounds g c =
+pub bounds-row-y : goal.bounds-row-y
+bounds-row-y g c =
     let low = marked_low c.args.kinds.now c.args.marks.now (c.requires.waits).0 c.args.y (c.requires.waits).2.marked in
     let size = c.marks_to-row.ensures.size in
     omega arith
 
-pub loop-to-preserved-then-not-index-2 : goal.loop-to-preserved-then-not-index-2
-loop-to-preserved-then-not-index-2 g c =
+pub loop-to-preserved-then-not-row-y : goal.loop-to-preserved-then-not-row-y
+loop-to-preserved-then-not-row-y g c =
     let a = c.args in
     let row : List Bool = c.marks_to-row.result.now in
-    let low : a.y < length row = (let m = marked_low a.kinds.now a.marks.now (c.requires.waits).0 a.y (c.requires.waits).2.marked in
-    let size = c.marks_to-row.ensures.size in omega arith) in
-    let down : is_marked_at row a.y ≡ false = sym (get_or_read row a.y c.index-2.result.now low c.index-2.ensures false) ∙ c.if-not-index-2.true in
+    let down : is_marked_at row a.y ≡ false = c.if-not-row-y.true in
     no_wait_more a.kinds.now a.joins.now a.choices.now a.ways a.marks.now a.none.now a.x a.y c.loop-to.to (c.loop-to.to + 1) (omega arith)
     (λ w. (let bad : true ≡ false = sym w.marked ∙ (ap (λ (v : List Bool). is_marked_at v a.y) (sym c.marks_to-row.ensures.value) ∙ down) in cc))
     c.loop-to.invariant
@@ -69,9 +67,7 @@ returns-then-branch g c =
     let low : a.x < length seen = (let size = c.in_ok-seen.ensures.size in let x = c.requires.x in omega arith) in
     let up : is_marked_at seen a.x ≡ true = sym (get_or_read seen a.x c.index.result.now low c.index.ensures false) ∙ c.if-not-index.false in
     let row : List Bool = c.marks_to-row.result.now in
-    let there : a.y < length row = (let m = marked_low a.kinds.now a.marks.now (c.requires.waits).0 a.y (c.requires.waits).2.marked in
-    let size = c.marks_to-row.ensures.size in omega arith) in
-    let marked : is_marked_at row a.y ≡ true = sym (get_or_read row a.y c.index-2.result.now there c.index-2.ensures false) ∙ c.if-not-index-2.false in
+    let marked : is_marked_at row a.y ≡ true = c.if-not-row-y.false in
     let are : AreComes a.kinds.now a.joins.now (choice_step a.kinds.now a.choices.now (block_base a.kinds.now a.ways c.loop-to.to) a.ways a.none.now) c.loop-to.to seen =
     subst (λ z. AreComes a.kinds.now a.joins.now (choice_step a.kinds.now a.choices.now z a.ways a.none.now) c.loop-to.to seen) c.base_of-base.ensures.value
     c.in_ok-seen.ensures in (

@@ -22,7 +22,7 @@ pub returns-in-Bare : goal.returns-in-Bare
 returns-in-Bare g c =
     let a = c.args in
     let t : ChoiceTable = choosing_of a.kinds.now a.joins.now a.ways a.choices.now a.marks.now in
-    λ depth flits. first_stuck t c.deref-2.result.now
-    (down_from c.deref-2.result.now c.in_ok-none.none.items (length a.kinds.now) c.deref-2.ensures.value (c.in_ok-none.ensures.items_if_clones_equal (λ y h. h)))
+    λ depth flits. first_stuck t c.deref-3.result.now
+    (down_from c.deref-3.result.now c.in_ok-none.none.items (length a.kinds.now) c.deref-3.ensures.value (c.in_ok-none.ensures.items_if_clones_equal (λ y h. h)))
     depth flits c.in-Bare.fault.to c.in-Bare.fault.at
-    (subst (λ z. AreWaits {A = g.row.A.Denot} t.kinds t.joins t.choices t.ways c.in_ok-held.held.items t.marks c.deref-2.result.now z) c.in-Bare.is c.in_ok-fault.ensures)
+    (subst (λ z. AreWaits {A = g.row.A.Denot} t.kinds t.joins t.choices t.ways c.deref-2.result.now t.marks c.deref-3.result.now z) c.in-Bare.is c.in_ok-fault.ensures)

@@ -1,6 +1,6 @@
-use Rattle.std.proofs.Common.{◌≡◌, ◌⊎◌, inl, inr, ℕ, ◌+◌, ◌<◌, ◌≤◌, length, sym, subst, arith}
+use Rattle.std.proofs.Common.{◌≡◌, ◌⊎◌, inl, inr, ℕ, ◌+◌, ◌≤◌, length, arith}
 use Rattle.std.specs.Prelude.{slice_index}
-use Rattle.network_adaptive.proofs.Pairs.{IsMostSo, long, goes_there, most_first, most_by, most_last}
+use Rattle.network_adaptive.proofs.Pairs.{long, goes_there, most_first, most_by, most_last}
 use Rattle.network_adaptive.proofs.longest.most_from.Goals as goal
 use Rattle.network_adaptive.proofs.longest.most_from.Goals.{then-here-most, else-here-most}
 

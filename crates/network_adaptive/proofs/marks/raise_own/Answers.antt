@@ -1,4 +1,4 @@
-use Rattle.std.proofs.Common.{refl, arith}
+use Rattle.std.proofs.Common.{arith}
 use Rattle.network_adaptive.proofs.Rows.{own_begin, own_end}
 use Rattle.network_adaptive.proofs.marks.raise_own.Goals as goal
 

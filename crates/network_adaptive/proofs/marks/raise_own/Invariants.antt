@@ -1,4 +1,3 @@
-use Rattle.std.proofs.Common.{◌≡◌, ℕ, length}
 use Rattle.network_adaptive.proofs.Rows.{AreOwnSo}
 use Rattle.network_adaptive.proofs.marks.raise_own.Given as goal
 

@@ -1,4 +1,4 @@
-use Rattle.std.proofs.Common.{◌≡◌, inl, inr, ℕ, ◌+◌, ◌<◌, List, [], Bool, true, false, length, sym, ◌∙◌, ap, subst, arith}
+use Rattle.std.proofs.Common.{◌≡◌, inl, inr, ℕ, ◌+◌, List, Bool, false, length, sym, ◌∙◌, ap, subst, arith}
 use Rattle.std.specs.Prelude.{slice_get, slice_index}
 use Rattle.std.proofs.lemmas.Bool.{cases_lt}
 use Rattle.std.proofs.lemmas.List.{get_or_read}
@@ -7,7 +7,7 @@ use Rattle.rising.specs.declared.finding.Searched.TheVariants.{Rising, Circuit}
 use Rattle.rising.specs.Graph.{Digraph, RisesAlong}
 use Rattle.rising.specs.Search.{path_look}
 use Rattle.rising.specs.Found.{IsPermutationBelow, IsOrderOrCircuit}
-use Rattle.network_judge.specs.Table.{table_of, joins_of, is_receiver}
+use Rattle.network_judge.specs.Table.{is_receiver}
 use Rattle.network_adaptive.specs.Flags.{AreComes}
 use Rattle.network_adaptive.specs.Travel.{choice_graph, step_to, HasNumbersTo, GoesRoundAt}
 use Rattle.network_adaptive.specs.Longest.{AreFarthest, IsMostOf, IsMostPassed}
